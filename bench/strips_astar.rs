@@ -1,7 +1,9 @@
 // A plain A* over STRIPS tasks with hmax by counters, over std's heap and map, as a yardstick for
 // the proved program: nothing here is proved. It reads the part of PDDL that the tasks of
-// bench/strips are written in. Usage: strips_astar DOMAIN PROBLEM. It prints the cost of a cheapest
-// plan or `none`, how many states it expanded, and how many ground atoms and actions there are.
+// bench/strips and bench/wide are written in. Usage: strips_astar DOMAIN PROBLEM. It prints the
+// cost of a cheapest plan or `none`, how many states it expanded, and how many atoms and ground
+// actions there are. Of atoms it counts those alone that an action, the start or the goal names;
+// at most 1,024 may be. A state has 4 words if they suffice, and else 16.
 use std::cmp::Reverse;
 use std::collections::{BinaryHeap, HashMap, HashSet};
 use std::{env, fs};
@@ -120,24 +122,37 @@ fn schema_of(items: &[Tree], has_metric: bool) -> Schema {
 
 // ---- grounding
 
-type Set = [u64; 4];
+const MOST_ATOMS: usize = 1024;
 
-fn has(set: &Set, atom: usize) -> bool {
+// Ground atoms by their numbers, each once.
+type Atoms = Vec<u16>;
+
+type Set<const W: usize> = [u64; W];
+
+fn set_of<const W: usize>(atoms: &Atoms) -> Set<W> {
+    let mut set = [0; W];
+    for atom in atoms {
+        set[*atom as usize / 64] |= 1 << (atom % 64);
+    }
+    set
+}
+
+fn has<const W: usize>(set: &Set<W>, atom: usize) -> bool {
     set[atom / 64] >> (atom % 64) & 1 == 1
 }
 
 struct Action {
-    needs: Set,
-    adds: Set,
-    deletes: Set,
+    needs: Atoms,
+    adds: Atoms,
+    deletes: Atoms,
     cost: u32,
 }
 
 struct Task {
     atoms: usize,
     actions: Vec<Action>,
-    start: Set,
-    goal: Set,
+    start: Atoms,
+    goal: Atoms,
 }
 
 struct Grounder<'a> {
@@ -161,15 +176,17 @@ impl Grounder<'_> {
         true
     }
 
-    fn atoms(&mut self, atoms: &[Vec<String>]) -> Set {
-        let mut set = [0; 4];
+    fn atoms(&mut self, atoms: &[Vec<String>]) -> Atoms {
+        let mut found = Vec::new();
         for atom in atoms {
             let next = self.numbers.len();
             let number = *self.numbers.entry(atom.clone()).or_insert(next);
-            assert!(number < 256, "at most 256 atoms");
-            set[number / 64] |= 1 << (number % 64);
+            assert!(number < MOST_ATOMS, "at most {MOST_ATOMS} atoms");
+            found.push(number as u16);
         }
-        set
+        found.sort();
+        found.dedup();
+        found
     }
 
     // Binds the parameters from this one on. An instance is given up once an atom that never
@@ -293,14 +310,10 @@ fn task_of(domain: &str, problem: &str) -> Task {
 
 // ---- the estimate
 
-fn atoms_in(set: &Set) -> impl Iterator<Item = usize> + '_ {
-    (0..256).filter(move |atom| has(set, *atom))
-}
-
 // Atoms by their costs: lists if each action costs 1, else a heap.
 enum Queue {
-    Lists { lists: Vec<Vec<u8>>, cost: usize, next: usize },
-    Heap(BinaryHeap<Reverse<(u32, u8)>>),
+    Lists { lists: Vec<Vec<u16>>, cost: usize, next: usize },
+    Heap(BinaryHeap<Reverse<(u32, u16)>>),
 }
 
 impl Queue {
@@ -322,14 +335,14 @@ impl Queue {
         }
     }
 
-    fn push(&mut self, at: u32, atom: u8) {
+    fn push(&mut self, at: u32, atom: u16) {
         match self {
             Queue::Lists { lists, .. } => lists[at as usize].push(atom),
             Queue::Heap(heap) => heap.push(Reverse((at, atom))),
         }
     }
 
-    fn pop(&mut self) -> Option<(u32, u8)> {
+    fn pop(&mut self) -> Option<(u32, u16)> {
         match self {
             Queue::Lists { lists, cost, next } => {
                 while *cost < lists.len() && *next == lists[*cost].len() {
@@ -347,7 +360,7 @@ impl Queue {
 struct Hmax {
     needs: Vec<u16>,
     prices: Vec<u32>,
-    adds: Vec<u8>,
+    adds: Vec<u16>,
     adds_from: Vec<u32>,
     users: Vec<u32>,
     users_from: Vec<u32>,
@@ -367,16 +380,12 @@ impl Hmax {
         let mut needs = Vec::new();
         let mut free = Vec::new();
         for (number, action) in task.actions.iter().enumerate() {
-            adds.extend(
-                atoms_in(&action.adds)
-                    .filter(|atom| !has(&action.needs, *atom))
-                    .map(|atom| atom as u8),
-            );
+            adds.extend(action.adds.iter().filter(|atom| !action.needs.contains(atom)));
             adds_from.push(adds.len() as u32);
-            for atom in atoms_in(&action.needs) {
-                lists[atom].push(number as u32);
+            for atom in &action.needs {
+                lists[*atom as usize].push(number as u32);
             }
-            needs.push(atoms_in(&action.needs).count() as u16);
+            needs.push(action.needs.len() as u16);
             if needs[number] == 0 {
                 free.push(number as u32);
             }
@@ -393,8 +402,8 @@ impl Hmax {
             users: lists.concat(),
             users_from,
             free,
-            is_goal: (0..task.atoms).map(|atom| has(&task.goal, atom)).collect(),
-            wanted: atoms_in(&task.goal).count() as u32,
+            is_goal: (0..task.atoms).map(|atom| task.goal.contains(&(atom as u16))).collect(),
+            wanted: task.goal.len() as u32,
             costs: vec![u32::MAX; task.atoms],
             prices: task.actions.iter().map(|action| action.cost).collect(),
             queue: Queue::of(task),
@@ -414,7 +423,7 @@ impl Hmax {
     }
 
     // None where the goal is reached at no cost.
-    fn estimate(&mut self, state: &Set) -> Option<u32> {
+    fn estimate<const W: usize>(&mut self, state: &Set<W>) -> Option<u32> {
         let mut wanted = self.wanted;
         if wanted == 0 {
             return Some(0);
@@ -424,7 +433,7 @@ impl Hmax {
         self.queue.clear();
         for atom in (0..self.costs.len()).filter(|atom| has(state, *atom)) {
             self.costs[atom] = 0;
-            self.queue.push(0, atom as u8);
+            self.queue.push(0, atom as u16);
         }
         for at in 0..self.free.len() {
             self.reach(self.free[at] as usize, 0);
@@ -454,8 +463,8 @@ impl Hmax {
 
 // ---- the search
 
-struct Row {
-    state: Set,
+struct Row<const W: usize> {
+    state: Set<W>,
     g: u32,
     h: u32,
     parent: u32,
@@ -463,12 +472,30 @@ struct Row {
     closed: bool,
 }
 
-fn search(task: &Task) -> (Option<u32>, u64) {
+// An action's sets in so many words.
+struct Step<const W: usize> {
+    needs: Set<W>,
+    adds: Set<W>,
+    deletes: Set<W>,
+    cost: u32,
+}
+
+fn step_of<const W: usize>(action: &Action) -> Step<W> {
+    Step {
+        needs: set_of(&action.needs),
+        adds: set_of(&action.adds),
+        deletes: set_of(&action.deletes),
+        cost: action.cost,
+    }
+}
+
+fn search<const W: usize>(task: &Task) -> (Option<u32>, u64) {
     let mut hmax = Hmax::of(task);
-    let Some(first) = hmax.estimate(&task.start) else { return (None, 0) };
-    let start = Row { state: task.start, g: 0, h: first, parent: 0, price: 0, closed: false };
-    let mut rows = vec![start];
-    let mut known = HashMap::from([(task.start, 0u32)]);
+    let steps: Vec<Step<W>> = task.actions.iter().map(step_of).collect();
+    let (start, goal): (Set<W>, Set<W>) = (set_of(&task.start), set_of(&task.goal));
+    let Some(first) = hmax.estimate(&start) else { return (None, 0) };
+    let mut rows = vec![Row { state: start, g: 0, h: first, parent: 0, price: 0, closed: false }];
+    let mut known = HashMap::from([(start, 0u32)]);
     let mut open = BinaryHeap::from([Reverse((first, first, 0u32))]);
     let mut expanded = 0;
     while let Some(Reverse((sum, h, number))) = open.pop() {
@@ -477,7 +504,7 @@ fn search(task: &Task) -> (Option<u32>, u64) {
             continue;
         }
         let (state, g) = (row.state, row.g);
-        if (0..4).all(|i| state[i] & task.goal[i] == task.goal[i]) {
+        if (0..W).all(|i| state[i] & goal[i] == goal[i]) {
             let (mut at, mut sum) = (number, 0);
             while at != 0 {
                 sum += rows[at as usize].price;
@@ -488,12 +515,12 @@ fn search(task: &Task) -> (Option<u32>, u64) {
         }
         row.closed = true;
         expanded += 1;
-        for action in &task.actions {
-            if (0..4).any(|i| state[i] & action.needs[i] != action.needs[i]) {
+        for step in &steps {
+            if (0..W).any(|i| state[i] & step.needs[i] != step.needs[i]) {
                 continue;
             }
-            let next: Set = std::array::from_fn(|i| state[i] & !action.deletes[i] | action.adds[i]);
-            let (fresh, cost, price) = (rows.len() as u32, g + action.cost, action.cost);
+            let next: Set<W> = std::array::from_fn(|i| state[i] & !step.deletes[i] | step.adds[i]);
+            let (fresh, cost, price) = (rows.len() as u32, g + step.cost, step.cost);
             let at = *known.entry(next).or_insert(fresh);
             if at == fresh {
                 let h = hmax.estimate(&next).unwrap_or(u32::MAX);
@@ -519,6 +546,7 @@ fn main() {
         &fs::read_to_string(&args[1]).expect("a domain"),
         &fs::read_to_string(&args[2]).expect("a problem"),
     );
+    let search = if task.atoms <= 256 { search::<4> } else { search::<16> };
     let (cost, expanded) = search(&task);
     let cost = cost.map_or("none".to_string(), |cost| cost.to_string());
     println!("{cost} {expanded} {} {}", task.atoms, task.actions.len());

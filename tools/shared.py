@@ -7,11 +7,12 @@ import functools
 import importlib.util
 import os
 import pathlib
-import re
 import resource
 import subprocess
 import sys
 import time
+
+from changes import change_certificate, change_text, changed, cut  # noqa: F401 (the tools' names)
 
 ROOT = pathlib.Path(__file__).resolve().parent.parent
 BUILT = ROOT / "crates" / "pbnf" / "out" / "pbnf"
@@ -46,12 +47,18 @@ DELIVERY_DOMAIN = """(define (domain delivery) (:types truck box - movable movab
 
 @dataclasses.dataclass
 class Task:
-    """The texts of a task's files by their names, its scenario's row, and if swamp costs 2."""
+    """The texts of a task's files by their names, its scenario's row, and if swamp costs 2. A wide
+    task has over 256 ground atoms."""
 
     kind: str
     texts: dict
     row: int = 0
     swamp: bool = False
+    is_wide: bool = False
+
+    def budget(self, usual):
+        """So many expansions, and fewer of a wide task, of which each takes long."""
+        return str(min(usual, 50) if self.is_wide else usual)
 
     def words(self):
         """The words that name its files, its row, and that swamp costs 2."""
@@ -205,10 +212,14 @@ def move_blank(random, board, width, moves):
 
 
 def make_strips(random, size):
-    domain, problem = random.choice([make_blocks, make_delivery, make_domain])(random, size)
+    is_wide = random.random() < 0.2
+    ways = [make_wide_blocks, make_wide_delivery, make_wide_domain] if is_wide else \
+        [make_blocks, make_delivery, make_domain]
+    domain, problem = random.choice(ways)(random, size)
     if random.random() < 0.6:
         domain, problem = add_costs(random, domain, problem)
-    return Task("strips", {"domain": domain.encode(), "problem": problem.encode()})
+    texts = {"domain": domain.encode(), "problem": problem.encode()}
+    return Task("strips", texts, is_wide=is_wide)
 
 
 def add_costs(random, domain, problem):
@@ -258,16 +269,65 @@ def make_delivery(random, size):
     return DELIVERY_DOMAIN, problem_text("delivery", objects, " ".join(roads + starts), goal)
 
 
-def make_domain(random, size):
-    """A drawn domain: some types, predicates and actions, of which not all make sense."""
-    types = ["object"] + [f"k{number}" for number in range(random.randint(0, 2))]
-    objects = {f"o{number}": random.choice(types) for number in range(random.randint(1, 2 + size))}
+def make_wide_blocks(random, _):
+    """15 to 31 blocks, which have 271 to 1,055 atoms; a block or two have to change their place."""
+    blocks = [f"b{number}" for number in range(random.choice([15, 16, 17, 19, 22, 27, 30, 31]))]
+    random.shuffle(blocks)
+    ends = sorted(random.sample(range(1, len(blocks)), random.randint(2, 6)))
+    towers = [blocks[at:to] for at, to in zip([0, *ends], [*ends, len(blocks)])]
+    facts = [fact for below, *above in towers for fact in [f"(ontable {below})", *(
+        f"(on {one} {other})" for one, other in zip(above, [below, *above]))]]
+    facts += [f"(clear {tower[-1]})" for tower in towers] + ["(handempty)"]
+    random.shuffle(facts)
+    one, other, third = random.sample([tower[-1] for tower in towers], 3)
+    goal = random.choice([[f"(on {one} {other})"], [f"(on {one} {other})", f"(on {third} {one})"],
+                          [f"(ontable {one})"], [f"(on {one} {one})"]])
+    return BLOCKS_DOMAIN, problem_text("blocks", " ".join(blocks), " ".join(facts), goal)
+
+
+def make_wide_delivery(random, _):
+    """Boxes on a ring of places with some more roads, of 257 to 1,040 atoms or so. A box has to go
+    to a place that is near."""
+    count, trucks = random.randint(20, 60), [f"t{at}" for at in range(random.randint(1, 3))]
+    wanted = random.choice([257, 300, 512, 700, 1000, 1024])
+    most = (wanted - len(trucks) * count) // (count + len(trucks))
+    boxes = [f"x{at}" for at in range(max(1, most + random.randint(0, 1)))]
+    roads = {(at, (at + 1) % count) for at in range(count)}
+    roads |= {tuple(random.sample(range(count), 2)) for _ in range(random.randint(0, 9))}
+    roads |= {(to, at) for at, to in roads if random.random() < 0.8}
+    at_of = {thing: random.randrange(count) for thing in trucks + boxes}
+    moved = random.choice(boxes)
+    at_of[trucks[0]] = (at_of[moved] - random.randint(0, 2)) % count
+    goal = [f"(at {moved} p{(at_of[moved] + random.randint(0, 3)) % count})"]
+    starts = [f"(road p{at} p{to})" for at, to in sorted(roads)]
+    starts += [f"(at {thing} p{at})" for thing, at in at_of.items()]
+    objects = (f"{' '.join(f'p{at}' for at in range(count))} - place {' '.join(trucks)} - truck "
+               f"{' '.join(boxes)} - box")
+    return DELIVERY_DOMAIN, problem_text("delivery", objects, " ".join(starts), goal)
+
+
+def make_wide_domain(random, size):
+    """A drawn domain with a predicate of two parameters that has most of the atoms."""
+    return make_domain(random, size, random.choice([16, 17, 20, 22, 25, 31, 32]), ["object"])
+
+
+def make_domain(random, size, count=None, types=None):
+    """A drawn domain: some types, predicates and actions, of which not all make sense. With a count
+    it has so many objects, and a predicate `wide` of two parameters, which two actions add."""
+    types = types or ["object"] + [f"k{number}" for number in range(random.randint(0, 2))]
+    objects = {f"o{number}": random.choice(types)
+               for number in range(count or random.randint(1, 2 + size))}
     arities = [random.choice([0, 1, 1, 2]) for _ in range(random.randint(1, 4))]
+    arities = arities if count is None else [min(arity, 1) for arity in arities[:2]]
     predicates = {f"q{number}": arity for number, arity in enumerate(arities)}
     is_constant = {name: random.random() < 0.3 for name in objects}
     constants = [name for name in objects if is_constant[name]]
-    actions = [make_action(random, number, predicates, constants, types)
+    predicates |= {"wide": 2} if count else {}
+    actions = [make_action(random, number, predicates, constants, types, 2 if count else 3)
                for number in range(random.randint(1, 3))]
+    actions += [f"(:action wide{at} :parameters (?v0 ?v1) :precondition "
+                f"{make_atom(random, predicates, ['?v0', '?v1'])} :effect (and (wide {to})))"
+                for at, to in enumerate(("?v0 ?v1", "?v1 ?v0")) if count]
     shown = " ".join(f"({name}{''.join(f' ?v{place}' for place in range(arity))})"
                      for name, arity in predicates.items())
     lists = [" ".join(f"{name} - {kind}" for name, kind in objects.items()
@@ -279,8 +339,8 @@ def make_domain(random, size):
     return domain, problem_text("made", lists[1], " ".join(facts), goal)
 
 
-def make_action(random, number, predicates, constants, types):
-    parameters = [f"?v{place}" for place in range(random.randint(0, 3))]
+def make_action(random, number, predicates, constants, types, most=3):
+    parameters = [f"?v{place}" for place in range(random.randint(0, most))]
     typed = " ".join(f"{name} - {random.choice(types)}" for name in parameters)
     atoms = [make_atom(random, predicates, parameters + constants) for _ in range(6)]
     atoms = [atom for atom in atoms if atom]
@@ -301,177 +361,3 @@ def make_atom(random, predicates, terms):
 def problem_text(domain, objects, init, goal):
     return (f"(define (problem made) (:domain {domain}) (:objects {objects})\n"
             f"(:init {init}) (:goal (and {' '.join(goal)})))\n")
-
-
-# Changed texts
-
-WORDS_OF_FORMATS = [word.encode() for word in (
-    "closed cut none end rows plan cost kind weight pbnf-certificate grid tiles strips goal type "
-    "octile height width map version ( ) - = () ?x ?y and not or when define domain problem "
-    ":action :parameters :precondition :effect :init :goal :objects :types :predicates "
-    ":constants :requirements :strips :typing :functions :metric total-cost number minimize "
-    "maximize increase decrease object either 0 1 2 3 4 7 15 16 00 01 -1 +1 1048576 1048577 "
-    "9223372036854775807 9223372036854775808 4294967296 1000 1001 999999999 1000000000").split()]
-
-
-def change_text(random, text):
-    """One drawn change of a text: of bytes, words, numbers or lines."""
-    return random.choice([change_byte, change_byte, cut, change_word, change_word, change_word,
-                          change_number, change_number, change_lines, change_lines])(random, text)
-
-
-def change_byte(random, text):
-    at = random.randrange(len(text) + 1)
-    way = random.randrange(4)
-    if way == 0:
-        return text[:at] + bytes([random.randrange(256)]) + text[at:]
-    if way == 1:
-        return text[:at] + text[at + 1:]
-    if way == 2:
-        flipped = bytes([text[at] ^ 1 << random.randrange(8)]) if at < len(text) else b"\n"
-        return text[:at] + flipped + text[at + 1:]
-    other = random.choice([b"\n", b" ", b"\r", b"\t", b"\0", b"\xff", b";", b"("])
-    return text[:at] + other + text[at:]
-
-
-def cut(random, text):
-    return text[:random.randrange(len(text) + 1)]
-
-
-def pieces_of(text):
-    """The text in pieces: at odd places its words, brackets being words too."""
-    return re.split(rb"([^\s()]+|[()])", text)
-
-
-def change_word(random, text):
-    """A word is left out, repeated, or becomes another word of the text or of the formats."""
-    pieces = pieces_of(text)
-    if len(pieces) < 3:
-        return text + random.choice(WORDS_OF_FORMATS)
-    at = random.randrange(len(pieces) // 2) * 2 + 1
-    other = random.choice([random.choice(WORDS_OF_FORMATS), random.choice(pieces[1::2])])
-    pieces[at] = random.choice([b"", pieces[at] + b" " + pieces[at], other, other,
-                                pieces[at] + b" " + other])
-    return b"".join(pieces)
-
-
-def change_number(random, text):
-    """A run of decimal digits becomes another number."""
-    found = list(re.finditer(rb"[0-9]+", text))
-    if not found:
-        return change_byte(random, text)
-    chosen = random.choice(found)
-    number = int(chosen[0][-30:])
-    others = [max(number - 1, 0), number + 1, number + 1, random.randrange(20), 2 * number,
-              random.randrange(2**random.randrange(1, 70)), 2**63 - 1, 2**63, 2**32]
-    return text[:chosen.start()] + b"%d" % random.choice(others) + text[chosen.end():]
-
-
-def change_lines(random, text):
-    """A line is left out, repeated or moved, or two lines change places."""
-    lines = text.split(b"\n")
-    at, other = random.randrange(len(lines)), random.randrange(len(lines))
-    way = random.randrange(4)
-    if way == 0:
-        del lines[at]
-    elif way == 1:
-        lines.insert(other, lines[at])
-    elif way == 2:
-        lines[at], lines[other] = lines[other], lines[at]
-    else:
-        lines.insert(other % len(lines), lines.pop(at))
-    return b"\n".join(lines)
-
-
-def change_certificate(random, text):
-    """One drawn change of a certificate, of which most keep it spelled as one."""
-    ways = [change_text, change_text, drop_row, drop_row, add_row, change_g, change_g, turn_row,
-            turn_row, change_plan, change_weight]
-    return random.choice(ways)(random, text)
-
-
-def rows_of(text):
-    """Where the certificate's rows begin among its lines, and how many there are."""
-    lines = text.split(b"\n")
-    for at, line in enumerate(lines):
-        if re.fullmatch(rb"rows [0-9]{1,9}", line):
-            return lines, at + 1, min(int(line[5:]), len(lines) - at - 1)
-    return lines, len(lines), 0
-
-
-def change_row(random, text, change):
-    """The certificate with another list of rows in place of a drawn row, and their new number."""
-    lines, first, count = rows_of(text)
-    if not count:
-        return change_text(random, text)
-    at = first + random.randrange(count)
-    rows = change(lines[at])
-    lines[at:at + 1] = rows
-    lines[first - 1] = b"rows %d" % (count + len(rows) - 1)
-    return b"\n".join(lines)
-
-
-def drop_row(random, text):
-    return change_row(random, text, lambda row: [])
-
-
-def add_row(random, text):
-    """A row more behind a drawn one, whose state is a little greater."""
-    def change(row):
-        words = row.split(b" ")
-        try:
-            state = int(words[0], 16) + 2**random.choice([0, 0, 1, 4, 8, 11, 22, 63, 64, 255])
-        except ValueError:
-            return [row, row]
-        g = random.choice([0, 1, 5, 2**62, 2**63 - 1])
-        status = random.choice([b"closed", b"cut"])
-        return [row, b"%s %d %s" % (b"%064x" % state, g, status)]
-    return change_row(random, text, change)
-
-
-def change_g(random, text):
-    def change(row):
-        words = row.split(b" ")
-        if len(words) == 3 and re.fullmatch(rb"[0-9]{1,18}", words[1]):
-            words[1] = b"%d" % max(int(words[1]) + random.choice([-2, -1, -1, 1, 1, 2, 2**40]), 0)
-        return [b" ".join(words)]
-    return change_row(random, text, change)
-
-
-def turn_row(random, text):
-    def change(row):
-        before, after = random.choice([(b"closed", b"cut"), (b"cut", b"closed")])
-        return [row.replace(before, after)]
-    return change_row(random, text, change)
-
-
-def change_plan(random, text):
-    """A step is left out, put in or changed, with the number of steps and the cost, or not."""
-    lines = text.split(b"\n")
-    found = re.fullmatch(rb"plan ([0-9]{1,6})", lines[3]) if len(lines) > 3 else None
-    if not found or len(lines) < 5 + int(found[1]):
-        return change_text(random, text)
-    steps = lines[4:4 + int(found[1])]
-    at = random.randrange(len(steps) + 1)
-    numbers = random.choices([0, 1, 2, 3, 4, 7, 2**32, 2**63 - 1], k=random.randrange(3))
-    steps[at:at + random.randrange(2)] = [b"%d" % number for number in numbers]
-    after = lines[4 + int(found[1]):]
-    if random.random() < 0.7:
-        after[0] = b"cost %d" % len(steps)
-    return b"\n".join(lines[:3] + [b"plan %d" % len(steps)] + steps + after)
-
-
-def change_weight(random, text):
-    lines = text.split(b"\n")
-    if len(lines) < 3:
-        return change_text(random, text)
-    weights = [(3, 2), (2, 1), (1000, 1), (1000, 999), (1000, 1000), (1, 2), (0, 0), (1001, 1)]
-    lines[2] = b"weight %d %d" % random.choice(weights)
-    return b"\n".join(lines)
-
-
-def changed(random, text, change):
-    """The text after one to three drawn changes."""
-    for _ in range(random.choice([1, 1, 1, 2, 3])):
-        text = change(random, text)
-    return text

@@ -24,10 +24,10 @@ def steps(x, y):  # the moves up, down, left and right: their numbers, where the
         if kind(a, b) and kind(a, b) == kind(x, y):
             yield action, (a, b), 2 if "--swamp" in sys.argv and cells[b][a] == "S" else 1
 
-num, den = map(int, lines[2].split()[1:])
-head = next(at for at, line in enumerate(lines) if line.startswith("rows "))
-has_plan, cell, cost = lines[3] != "none", start, 0
-for number in map(int, lines[4:head - 1]):  # (no lines, if there is no plan)
+weight, head = [at for at, line in enumerate(lines) if line.startswith(("weight ", "rows "))]
+num, den = map(int, lines[weight].split()[1:])
+has_plan, cell, cost = lines[weight + 1] != "none", start, 0
+for number in map(int, lines[weight + 2:head - 1]):  # (no lines, if there is no plan)
     ways = [(to, cost + price) for action, to, price in steps(*cell) if action == number]
     demand(ways, "a step of the plan isn't possible")
     cell, cost = ways[0]

@@ -25,10 +25,10 @@ def estimate(state):  # the price of the goal's dearest atom, if no action ever 
             now.update({atom: min(dear, now.get(atom, math.inf)) for atom in adds})
     return max([now.get(atom, math.inf) for atom in goal], default=0)
 
-num, den = map(int, lines[2].split()[1:])
-head = next(at for at, line in enumerate(lines) if line.startswith("rows "))
-has_plan, state, cost = lines[3] != "none", start, 0
-for price, needs, adds, deletes in [actions[int(line)] for line in lines[4:head - 1]]:
+weight, head = [at for at, line in enumerate(lines) if line.startswith(("weight ", "rows "))]
+num, den = map(int, lines[weight].split()[1:])
+has_plan, state, cost = lines[weight + 1] != "none", start, 0
+for price, needs, adds, deletes in [actions[int(line)] for line in lines[weight + 2:head - 1]]:
     demand(needs <= state, "a step of the plan isn't possible")
     state, cost = state - deletes | adds, cost + price
 demand(not has_plan or goal <= state and lines[head - 1] == f"cost {cost}", "the goal or the cost")

@@ -25,10 +25,10 @@ def steps(board):  # the moves up, down, left and right: their numbers, and the 
 def distance(cell, other):
     return abs(cell // width - other // width) + abs(cell % width - other % width)
 
-num, den = map(int, lines[2].split()[1:])
-head = next(at for at, line in enumerate(lines) if line.startswith("rows "))
-has_plan, board, cost = lines[3] != "none", start, 0
-for number in map(int, lines[4:head - 1]):  # (no lines, if there is no plan)
+weight, head = [at for at, line in enumerate(lines) if line.startswith(("weight ", "rows "))]
+num, den = map(int, lines[weight].split()[1:])
+has_plan, board, cost = lines[weight + 1] != "none", start, 0
+for number in map(int, lines[weight + 2:head - 1]):  # (no lines, if there is no plan)
     demand(number in dict(steps(board)), "a step of the plan isn't possible")
     board, cost = dict(steps(board))[number], cost + 1
 demand(not has_plan or (board, lines[head - 1]) == (goal, f"cost {cost}"), "the goal or the cost")

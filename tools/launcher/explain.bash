@@ -67,7 +67,10 @@ explain_words() {
     'words files') for_each form explain_form "$command_word" ;;
     'words weight') say "N of --num (1 if it isn't given) is less than D of --den, and the weight" \
       "N/D is at least 1" ;;
-    'words names') say "--cert and --trace are given one name" ;;
+    'words names')
+      if [ "$command_word" = check ]; then say "--rewrite is given the name of an input"
+      else say "--cert and --trace are given one name"; fi
+      ;;
     'words size') say "the size isn't in the range of its kind" ;;
     *)
       text=${text#error: }

@@ -25,6 +25,15 @@ def input_as_output(place):
                 run.wants(64, "", ["usage: pbnf solve grid", "written over the input room.map"])
         if open(name, "rb").read() != text:
             raise Failed(f"{other} was written over")
+    place.run("solve", "grid", "room.map", scen, "--cert", "room.cert").wants(0)
+    kept = open(place.work / "room.cert", "rb").read()
+    for saved, input_name in (("./room.cert", "room.cert"), ("./room.map", "room.map")):
+        run = place.run("check", "grid", "room.cert", "room.map", scen, "--rewrite", saved)
+        run.wants(64, "", ["the certificate ", f"written over the input {input_name}"])
+    run = place.run("check", "grid", "room.cert", "room.map", scen, "--rewrite", "room.copy")
+    run.wants(0, "accepted cost 4 bound 4\n")
+    if open(place.work / "room.copy", "rb").read() != kept:
+        raise Failed("the copy isn't the certificate of version 2")
     words = ["--cert", "x.cert", "--", "grid", "./room.map", scen, "--trace"]
     place.run("solve", *words).wants(64).lacks("written over")  # (after `--` all are names)
 
@@ -52,7 +61,7 @@ def devices_still_work(place):
     words = ["solve", "tiles", "/dev/stdin", "--cert", "/dev/stdout"]
     with place.begin(*words, stdin=subprocess.PIPE) as it:
         out, err = it.communicate(board, timeout=20)
-    if it.returncode != 0 or b"pbnf-certificate 1\n" not in out or b"plan 4 4\n" not in out:
+    if it.returncode != 0 or b"pbnf-certificate 2\n" not in out or b"plan 4 4\n" not in out:
         raise Failed(str(Run(it.returncode, out.decode(), err.decode())))
     board = place.example("four-moves.tiles")
     place.on_terminal("solve", "tiles", board, "--cert", "/dev/null").wants(0)

@@ -51,7 +51,7 @@ def input_refused(place):
 def order_of_files(place):
     """Files in another order than they should be are recognized."""
     grid, problem = place.grid(), place.example("two-blocks.pddl")
-    cert = place.file("order.cert", "pbnf-certificate 1\n")
+    cert = place.file("order.cert", "pbnf-certificate 2\n")
     place.run("solve", "grid", *reversed(grid)).wants(65, None, "the map comes before it")
     place.run("check", "grid", *grid, cert).wants(65, None, "it comes first")
     place.run("solve", "strips", problem, place.example("blocks.pddl")).wants(
@@ -70,7 +70,7 @@ def packed_input(place):
         capture_output=True, env=place.env, check=False)
     if shown_again.returncode != 0:
         raise Failed("the shown words don't work")
-    cert = place.file("some.cert.gz", gzip.compress(b"pbnf-certificate 1\n"))
+    cert = place.file("some.cert.gz", gzip.compress(b"pbnf-certificate 2\n"))
     place.run("check", "grid", cert, *grid).wants(3, "refused Syntax 1\n", "is gzipped")
 
 
@@ -85,14 +85,24 @@ def refused_certificate(place):
     place.run("solve", "grid", *grid, "--cert", cert).wants(0)
     text = open(cert).read()
     for change, out, err in (
-        (("weight 1 1", "weight 0 1"), "refused Weight\n", [":3: the weight", "weight 0 1"]),
-        (("cost 4", "cost 5"), "refused Cost 5 4\n", [":9: ", "costs 5, and it costs 4", "cost 5"]),
+        (("weight 1 1", "weight 0 1"), "refused Weight\n", [":4: the weight", "weight 0 1"]),
+        (("cost 4", "cost 5"), "refused Cost 5 4\n", [":10: ", "costs 5, and it costs 4", "cost 5"]),
         (("kind grid", "kind tiles"), "refused Kind\n", [":2: ", "kind tiles"]),
-        (("plan 4\n3", "plan 4\n0"), "refused PlanStep 0\n", [":5: this step", "\n0\n"]),
+        (("width 6", "width 0"), "refused Syntax 3\n", [":3: ", "from 1 to 256", "width 0"]),
+        (("width 6", "width 7"), "refused Syntax 12\n", [":12: "]),
+        (("plan 4\n3", "plan 4\n0"), "refused PlanStep 0\n", [":6: this step", "\n0\n"]),
         (("end\n", "End\n"), None, ["isn't spelled as one of a certificate", "End"]),
     ):
         other = place.file("other.cert", text.replace(*change))
         place.run("check", "grid", other, *grid).wants(3, out, err)
+    wide = text.replace("width 6", "width 7").replace("\n00", "\n000")
+    place.run("check", "grid", place.file("wide.cert", wide), *grid).wants(
+        3, "refused Width 7 6\n", [":3: ", "of 7 digits, and those of the task take 6", "width 7"])
+    old = text.replace("-certificate 2", "-certificate 1").replace("width 6\n", "")
+    old = old.replace("\n00", "\n" + 60 * "0")
+    place.run("check", "grid", place.file("old.cert", old), *grid).wants(0, None)
+    place.run("check", "grid", place.file("old.cert", old.replace("cost 4", "cost 5")),
+              *grid).wants(3, "refused Cost 5 4\n", [":9: ", "costs 5, and it costs 4"])
 
 
 def other_row(place):

@@ -253,18 +253,22 @@ def read_certificate(name, take):
 
 
 def _read_certificate(lines, take):
-    if lines.next() != b"pbnf-certificate 1\n":
-        lines.refuse("not `pbnf-certificate 1`")
+    version = re.fullmatch(rb"pbnf-certificate ([12])\n", lines.next())
+    if version is None:
+        lines.refuse("neither `pbnf-certificate 1` nor `pbnf-certificate 2`")
     kind = re.fullmatch(rb"kind (grid|tiles|strips)\n", lines.next())
     if kind is None:
         lines.refuse("expected `kind` and grid, tiles or strips")
+    digits = 64 if version.group(1) == b"1" else lines.words([b"width"], 1)[0]
+    if not 1 <= digits <= 256:
+        lines.refuse("the width isn't 1 to 256")
     weight = lines.words([b"weight"], 2)
     if not 1 <= weight[1] <= weight[0] <= 1000:
         lines.refuse("the weight isn't 1 to 1000")
     plan, cost = _read_certificate_plan(lines)
     count = lines.words([b"rows"], 1)[0]
     before, unordered = -1, None
-    row = re.compile(rb"([0-9a-f]{64}) (0|[1-9][0-9]*) (closed|cut)\n")
+    row = re.compile(rb"([0-9a-f]{%d}) (0|[1-9][0-9]*) (closed|cut)\n" % digits)
     for _ in range(count):
         found = row.fullmatch(lines.next())
         if found is None:

@@ -77,11 +77,11 @@ def plan_to(state, parents):
     return actions[::-1]
 
 
-def certificate_of(kind, plan, cost, rows, closed):
-    lines = ["pbnf-certificate 1", f"kind {kind}", "weight 1 1"]
+def certificate_of(task, plan, cost, rows, closed):
+    lines = ["pbnf-certificate 2", f"kind {task.kind}", f"width {task.digits}", "weight 1 1"]
     lines += ["none"] if plan is None else [f"plan {len(plan)}", *map(str, plan), f"cost {cost}"]
     lines.append(f"rows {len(rows)}")
-    lines += [f"{state:064x} {g} {'closed' if state in closed else 'cut'}"
+    lines += [f"{state:0{task.digits}x} {g} {'closed' if state in closed else 'cut'}"
               for state, g in sorted(rows.items())]
     return "\n".join([*lines, "end", ""])
 
@@ -104,7 +104,7 @@ def solve(options):
     if options.cert:
         said = cost + 1 if options.lot == WRONG else cost
         pathlib.Path(options.cert).write_text(
-            certificate_of(options.kind, plan, said, rows, closed))
+            certificate_of(task, plan, said, rows, closed))
     if options.trace:
         pathlib.Path(options.trace).write_text(f"pbnf-journal 1\nrelease 0 {made} ok\n")
     report(task, plan, cost)

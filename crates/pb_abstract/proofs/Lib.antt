@@ -12,6 +12,7 @@ mod TileEdges
 mod GridSteps
 mod TileSteps
 mod TrackedSteps
+mod Counting
 mod Ranking
 mod Ordering
 mod Changing

@@ -1,25 +1,46 @@
-ghost use Rattle.std.specs.Prelude.{◌≡◌, ◌<◌, ◌≤◌, length, IfOk, IfSome, IfNone};
+ghost use Rattle.std.specs.Prelude.{◌≡◌, ℕ, ◌+◌, ◌<◌, ◌≤◌, true, false, length, slice_index, IfOk, IfSome, IfNone};
 ghost use Rattle.pb_packed.specs.Sizes.{most_atoms};
-ghost use Rattle.pb_task.specs.Strips.{IsStrips};
-ghost use Rattle.pb_abstract.specs.Tracked.{changers, AreTracked};
+ghost use Rattle.pb_machine.specs.Tables.{one_if};
+ghost use Rattle.pb_task.specs.Strips.{action_at, IsStrips};
+ghost use Rattle.pb_abstract.specs.Tracked.{changes, AreTracked};
 ghost use Rattle.pb_abstract.specs.Ranking.{AreCounts, is_left, is_fewer, better, IsNext, IsNone};
 
 use crate::tracked::TrackedAtoms;
-use pb_task::{Actions, StripsParts};
+use pb_task::{Actions, StripsParts, next_atom};
 use std::alloc::{AllocError, Global};
 
-// How many of the actions change an atom.
-fn changers(actions: &Actions, atom: u32) -> u32
-    requires { length actions.now ≤ 65536 }
-    ensures { result ≡ changers atom actions.now }
+// The first atom from one on that an action changes, and `count` if it changes none below it.
+fn next_change(actions: &Actions, at: usize, from: u32, count: u32) -> u32
+    requires at { at < length actions.now }
+    requires count { count ≤ most_atoms }
+    requires from { from ≤ count }
+    ensures from { from ≤ result }
+    ensures most { result ≤ count }
+    ensures none { (atom : ℕ) → from ≤ atom → atom < result
+        → changes atom (action_at actions.now at) ≡ false }
+    ensures has { result < count → changes result (action_at actions.now at) ≡ true }
 {
-    let mut count = 0;
-    for at in 0..actions.len() {
-        if actions.changes(at, atom) {
-            count += 1;
-        }
+    let added = next_atom(&actions.adds(at), from, count);
+    let deleted = next_atom(&actions.deletes(at), from, count);
+    if added < deleted { added } else { deleted }
+}
+
+// Counts an action at each atom that it changes. It takes as many steps as these atoms, and not as
+// all atoms.
+fn count_action(actions: &Actions, at: usize, counts: &mut [u32])
+    requires at { at < length actions.now }
+    requires few { length counts.old ≤ most_atoms }
+    requires small { (atom : ℕ) → atom < length counts.old → slice_index counts.old atom ≤ 65536 }
+    ensures len { length counts.new ≡ length counts.old }
+    ensures each { (atom : ℕ) → atom < length counts.old → slice_index counts.new atom
+        ≡ slice_index counts.old atom + one_if (changes atom (action_at actions.now at)) }
+{
+    let count = counts.len() as u32;
+    let mut atom = next_change(actions, at, 0, count);
+    while atom < count {
+        counts[atom as usize] += 1;
+        atom = next_change(actions, at, atom + 1, count);
     }
-    count
 }
 
 // How many of the actions change each atom.
@@ -27,9 +48,9 @@ fn counts(alloc: Global, strips: &StripsParts) -> Result<Vec<u32>, AllocError>
     requires { IsStrips strips.now }
     ensures { IfOk result (λ counts. AreCounts strips.now counts.items) }
 {
-    let mut counts = Vec::new(alloc);
-    for atom in 0..strips.atoms {
-        counts.push(changers(&strips.actions, atom))?;
+    let mut counts = vec![in alloc; 0; strips.atoms as usize]?;
+    for at in 0..strips.actions.len() {
+        count_action(&strips.actions, at, counts.as_mut_slice());
     }
     Ok(counts)
 }

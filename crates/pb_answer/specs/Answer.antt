@@ -5,15 +5,18 @@ use Rattle.pb_model.specs.Texts.{none_report, stopped_report}
 use Rattle.pb_task.specs.declared.parts.TaskParts.{TaskParts}
 use Rattle.pb_task.specs.Parts.{space_of}
 use Rattle.pb_cert.specs.Stated.{text_of}
+use Rattle.pb_cert.specs.Rewritten.{text_saved}
 use Rattle.pb_journal.specs.Texts.{journal_text}
-use Rattle.pb_command.specs.Meaning.{SolveMeaning}
+use Rattle.pb_command.specs.Meaning.{SolveMeaning, CheckMeaning}
 use Rattle.pb_answer.specs.Statuses.{number_of}
 use Rattle.pb_answer.specs.Outputs.{Output, output}
 use Rattle.pb_answer.specs.Searches.{weight_asked}
-use Rattle.pb_answer.specs.Claims.{Certifies, Stops, Solves, PrintsLeastCost, SavesPlan, Accepts, Rejects}
+use Rattle.pb_answer.specs.Claims.{Certifies, Stops, Solves, PrintsLeastCost, SavesPlan, rewritten_outputs, Accepts, Rejects}
 use Rattle.pb_answer.specs.Journals.{AcceptsJournal, RejectsJournal}
 use Rattle.pb_answer.specs.declared.answer.Answer.{Answer}
 use Rattle.pb_answer.specs.declared.answer.SavedCertificate.{SavedCertificate}
+use Rattle.pb_answer.specs.declared.answer.CertificateText.{CertificateText}
+use Rattle.pb_answer.specs.declared.answer.CertificateText.TheVariants.{Found, Accepted}
 use Rattle.pb_answer.specs.declared.answer.SavedJournal.{SavedJournal}
 
 -- the status, the report, and what is to be saved before it is printed
@@ -22,9 +25,13 @@ pub record Said : Type 0 where
   pub report : List ℕ
   pub outputs : List Output
 
+abbrev pub certificate_text : CertificateText → List ℕ
+certificate_text (Found certificate) = text_of certificate
+certificate_text (Accepted rewriting) = text_saved rewriting
+
 abbrev pub certificates_of : Option SavedCertificate → List Output
 certificates_of None = []
-certificates_of (Some file) = output file.name.now (text_of file.certificate) ∷ []
+certificates_of (Some file) = output file.name.now (certificate_text file.text) ∷ []
 
 abbrev pub journals_of : Option SavedJournal → List Output
 journals_of None = []
@@ -74,9 +81,10 @@ IsFound solve parts said =
 
 -- ---- of a certificate that is to be checked
 
-abbrev pub IsChecked : TaskParts → (certificate : List ℕ) → Said → Type 0
-IsChecked parts certificate said =
-    ((said.status ≡ 0) × Saves said [] × Accepts (Says said) parts certificate)
+abbrev pub IsChecked : CheckMeaning → TaskParts → (certificate : List ℕ) → Said → Type 0
+IsChecked check parts certificate said =
+    ((said.status ≡ 0) × Saves said (rewritten_outputs check parts certificate)
+    × Accepts (Says said) parts certificate)
     ⊎ ((said.status ≡ 3) × Saves said [] × Rejects (Says said) parts certificate)
 
 -- ---- of a journal that is to be judged

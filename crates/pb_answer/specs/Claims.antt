@@ -17,6 +17,7 @@ use Rattle.pb_check.specs.declared.fault.Verdict.{Verdict}
 use Rattle.pb_check.specs.Judging.{checked}
 use Rattle.pb_check.specs.Shown.{IsAccepted, ShowsClaim, VerdictHolds}
 use Rattle.pb_cert.specs.Found.{IsCertificateOf}
+use Rattle.pb_cert.specs.Rewritten.{rewritten_text}
 use Rattle.pb_report.specs.Texts.{plan_text, verdict_text, fault_text}
 use Rattle.pb_command.specs.Meaning.{SolveMeaning, CheckMeaning}
 use Rattle.pb_answer.specs.Outputs.{Output, output}
@@ -100,10 +101,16 @@ SavesPlan says saves solve parts =
 
 -- ---- of a certificate that is checked
 
--- what is saved of an accepted certificate: nothing. Rewriting one in a later version is a case of
--- this definition.
+-- this text, if it has a name
+abbrev pub text_outputs : (name : Option (List ℕ)) → (text : List ℕ) → List Output
+text_outputs None text = []
+text_outputs (Some name) text = output name text ∷ []
+
+-- what is saved of an accepted certificate, if it is to be saved anew: the same certificate in
+-- version 2
 abbrev pub rewritten_outputs : CheckMeaning → TaskParts → (certificate : List ℕ) → List Output
-rewritten_outputs check parts certificate = []
+rewritten_outputs check parts certificate =
+    text_outputs check.rewrite (rewritten_text parts certificate)
 
 -- The text is that of a valid certificate of the task, its verdict is printed, and what the
 -- certificate claims is true of the task. Every plan of a cost f has num * f >= den * C, for the

@@ -12,7 +12,7 @@ use crate::solve::solve_task;
 use crate::status::Status;
 use crate::store::SearchedStore;
 use crate::texts::Texts;
-use pb_cert::Certificate;
+use pb_cert::{Certificate, Rewriting};
 use pb_command::{CheckCommand, JournalCommand, SolveCommand};
 use pb_machine::{Event, Settings};
 use pb_outside::Gate;
@@ -21,13 +21,22 @@ use std::alloc::{AllocError, Global};
 use std::sync::Wait;
 use std::thread::Threads;
 
+/// What is to be saved of a certificate.
+#[derive(Drop)]
+pub enum CertificateText<'a> {
+    /// The certificate of a search.
+    Found(Certificate<'a>),
+    /// A certificate that was accepted, in version 2.
+    Accepted(Rewriting<'a>),
+}
+
 /// A certificate that is to be saved.
 #[derive(Drop)]
 pub struct SavedCertificate<'a> {
     /// The name of its file.
     pub name: &'a str,
     /// What is to be saved.
-    pub certificate: Certificate<'a>,
+    pub text: CertificateText<'a>,
 }
 
 /// A journal that is to be saved.
@@ -103,20 +112,22 @@ pub fn answer_solve<'a, R: Threads + Wait + Sync, G: Gate>(
 }
 
 /// The answer to a check: the first text is that of the certificate, and those after it spell the
-/// task. An error is out of memory.
+/// task. If the certificate is accepted, it may be saved anew: then the answer borrows its text. An
+/// error is out of memory.
 pub fn answer_check<'a>(
     alloc: Global,
-    check: CheckCommand<'_>,
-    texts: &Texts,
+    check: CheckCommand<'a>,
+    texts: &'a Texts,
 ) -> Result<Answer<'a>, AllocError>
-    ensures { IfOk result (λ a. OrRefused (check_task (check_meant check.entry) texts.now)
-        (λ task. IsChecked task.0 task.1) (said_of a)) }
+    ensures { IfOk result (λ a. OrRefused
+        (check_task (check_meant check.entry) texts.entry.now)
+        (λ task. IsChecked (check_meant check.entry) task.0 task.1) (said_of a)) }
 {
     let Some(certificate) = texts.get(0) else {
         return Ok(refuse_input(Report::of_line(alloc, b"input TooLong")?));
     };
     match input_task(alloc, &check.input, check.options, texts, 1) {
-        Ok(task) => judge(alloc, &task, certificate),
+        Ok(task) => judge(alloc, &task, check, certificate),
         Err(NoTask::Refused(report)) => Ok(refuse_input(report)),
         Err(NoTask::Memory) => Err(AllocError),
     }

@@ -1,29 +1,71 @@
-ghost use Rattle.std.specs.Prelude.{IfOk};
-ghost use Rattle.pb_answer.specs.Answer.{IsChecked, said_of};
+ghost use Rattle.std.specs.Prelude.{◌≡◌, IfOk, Ok};
+ghost use Rattle.pb_check.specs.declared.fault.Verdict.{Verdict};
+ghost use Rattle.pb_check.specs.Shown.{IsAccepted};
+ghost use Rattle.pb_command.specs.Causes.{check_meant};
+ghost use Rattle.pb_answer.specs.Claims.{rewritten_outputs};
+ghost use Rattle.pb_answer.specs.Answer.{IsChecked, certificates_of, said_of};
 
-use crate::answer::Answer;
+use crate::answer::{Answer, CertificateText, SavedCertificate};
 use crate::status::Status;
+use pb_cert::Rewriting;
 use pb_check::{CheckError, check, stated_choice};
+use pb_command::CheckCommand;
 use pb_estimate::Estimator;
 use pb_report::Report;
 use pb_task::Task;
 use std::alloc::{AllocError, Global};
 
+// The accepted certificate in version 2, if it has a name.
+fn rewrite<'a>(
+    task: &Task,
+    command: &CheckCommand<'a>,
+    certificate: &'a [u8],
+) -> Option<SavedCertificate<'a>>
+    requires { (verdict : Verdict) × IsAccepted task.now certificate.now verdict }
+    ensures { certificates_of result
+        ≡ rewritten_outputs (check_meant command.now) task.now certificate.entry.now }
+{
+    match command.rewrite {
+        Some(name) => Some(SavedCertificate {
+            name,
+            text: CertificateText::Accepted(Rewriting::of(task, certificate)),
+        }),
+        None => None,
+    }
+}
+
 /// Judges the text of a certificate for a task: its verdict with status 0, or its first fault with
-/// status 3. An error is out of memory.
-pub fn judge<'a>(alloc: Global, task: &Task, certificate: &[u8]) -> Result<Answer<'a>, AllocError>
-    ensures { IfOk result (λ a. IsChecked task.now certificate.now (said_of a)) }
+/// status 3. What is accepted is to be saved anew, if the command has a name for it. An error is
+/// out of memory.
+pub fn judge<'a>(
+    alloc: Global,
+    task: &Task,
+    command: CheckCommand<'a>,
+    certificate: &'a [u8],
+) -> Result<Answer<'a>, AllocError>
+    ensures { IfOk result (λ a. IsChecked (check_meant command.entry) task.now
+        certificate.entry.now (said_of a)) }
 {
     let mut estimator = Estimator::of(alloc, task, &stated_choice(certificate))?;
     match check(alloc, task, &mut estimator, certificate) {
-        Ok(verdict) => Ok(Answer::without_files(
-            Status::Success,
-            Report::of_verdict(alloc, &verdict.claim())?,
-        )),
-        Err(CheckError::Fault(fault)) => Ok(Answer::without_files(
-            Status::Rejected,
-            Report::of_certificate_fault(alloc, &fault)?,
-        )),
+        Ok(verdict) => {
+            let report = Report::of_verdict(alloc, &verdict.claim())?;
+            Ok(Answer {
+                status: Status::Success,
+                report,
+                certificate: rewrite(task, &command, certificate),
+                journal: None,
+            })
+        }
+        Err(CheckError::Fault(fault)) => {
+            let report = Report::of_certificate_fault(alloc, &fault)?;
+            Ok(Answer {
+                status: Status::Rejected,
+                report,
+                certificate: None,
+                journal: None,
+            })
+        }
         Err(CheckError::Memory) => Err(AllocError),
     }
 }

@@ -14,7 +14,8 @@ mod store;
 mod texts;
 
 pub use answer::{
-    Answer, SavedCertificate, SavedJournal, answer_check, answer_journal, answer_solve,
+    Answer, CertificateText, SavedCertificate, SavedJournal, answer_check, answer_journal,
+    answer_solve,
 };
 pub use laws::long_files_are_refused;
 pub use status::Status;

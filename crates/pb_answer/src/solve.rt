@@ -11,7 +11,7 @@ ghost use Rattle.pb_answer.specs.Named.{NamesTell};
 ghost use Rattle.pb_answer.specs.Claims.{Certifies, journal_outputs};
 ghost use Rattle.pb_answer.specs.Answer.{IsFound, IsSolved, IsUnsolvable, IsStopped, certificates_of, journals_of, said_of};
 
-use crate::answer::{Answer, SavedCertificate, SavedJournal};
+use crate::answer::{Answer, CertificateText, SavedCertificate, SavedJournal};
 use crate::status::Status;
 use crate::store::{SearchedStore, keep_leases};
 use pb_cert::{Certificate, Plan, trace};
@@ -164,7 +164,8 @@ fn certify<'a>(
         Some(name) => {
             let spelling = Spelling::of(task, graph.choice().clone()?);
             let certificate = Certificate::of(alloc, spelling, plan, graph)?;
-            Ok(Some(SavedCertificate { name, certificate }))
+            let text = CertificateText::Found(certificate);
+            Ok(Some(SavedCertificate { name, text }))
         }
         None => Ok(None),
     }

@@ -4,6 +4,8 @@ mod Back
 mod Distinct
 mod Goals
 mod LineTexts
+mod Respelled
+mod LinesAnew
 mod Parts
 mod Sorted
 mod Places

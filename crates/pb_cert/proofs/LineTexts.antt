@@ -3,18 +3,16 @@ use Rattle.std.proofs.Common.{◌≡◌, ℕ, zero, suc, ◌+◌, ◌-◌, ◌<�
 use Rattle.std.proofs.lemmas.List.{length-append, length-map}
 use Rattle.std.proofs.lemmas.Option.{slice_get-get_or}
 use Rattle.std.specs.Fmt.{decimal}
-use Rattle.pb_packed.specs.Sizes.{version_1_digits}
+use Rattle.pb_packed.specs.Sizes.{most_digits}
 use Rattle.pb_model.specs.Plan.{Plan}
 use Rattle.pb_model.specs.Certificate.{Line, Certificate}
 use Rattle.pb_model.specs.Texts.{line, lines, spaced, line_text, plan_text, weight_text, rows_text}
 use Rattle.pb_print.specs.Saved.{longest_line, PutsLine}
 use Rattle.pb_print.proofs.Callers.{lines-append, lines-last, puts_left, puts_right, short_enough}
-use Rattle.pb_estimate.specs.declared.choice.Choice.{Choice}
-use Rattle.pb_estimate.specs.declared.choice.Choice.TheVariants.{Plain}
 use Rattle.pb_estimate.specs.declared.spelling.Spelling.{Spelling}
 use Rattle.pb_estimate.specs.declared.spelling.Version.{Version}
-use Rattle.pb_estimate.specs.declared.spelling.Version.TheVariants.{One}
-use Rattle.pb_estimate.specs.Spelling.{IsWidthOf, IsSpelling, version_line, kind_line, choice_text, stated_text, head_of, head_lines}
+use Rattle.pb_estimate.specs.declared.spelling.Version.TheVariants.{One, Two}
+use Rattle.pb_estimate.specs.Spelling.{IsWidthOf, IsSpelling, version_line, kind_line, width_text, stated_text, head_of, head_lines}
 use Rattle.pb_cert.specs.Stated.{SpelledCertificate, text_of, first_lines, plan_lines, rows_lines, weight_line, lines_of}
 
 -- ---- a first line, a line for each element of a list, and a last line
@@ -86,9 +84,38 @@ module _ (old new : List ℕ) (spelling : Spelling) (at : ℕ) where
   kind_put first e short =
       (kind_line spelling.kind, subst (λ n. slice_get (head_of spelling) n ≡ Some (kind_line spelling.kind)) (sym first) refl, e, short)
 
-  pub stated_put : 2 ≤ at → PutsLine old new (stated_text spelling.stated) (at - 2) → PutsLine old new (head_of spelling) at
-  stated_put past puts =
-      puts_right old new (version_line spelling.version ∷ kind_line spelling.kind ∷ []) (stated_text spelling.stated) at (at - 2) past refl puts
+  pub width_put : 2 ≤ at → PutsLine old new (width_text spelling.version spelling.width) (at - 2) → PutsLine old new (head_of spelling) at
+  width_put past puts =
+      let width = width_text spelling.version spelling.width in
+      let stated = stated_text spelling.stated in
+      puts_right old new (version_line spelling.version ∷ kind_line spelling.kind ∷ []) (width ++ stated) at (at - 2) past refl (puts_left old new width stated (at - 2) puts)
+
+  pub stated_put : (widths : ℕ) → widths ≡ length (width_text spelling.version spelling.width) → 2 + widths ≤ at → PutsLine old new (stated_text spelling.stated) (at - 2 - widths) → PutsLine old new (head_of spelling) at
+  stated_put widths counted past puts =
+      let width = width_text spelling.version spelling.width in
+      let stated = stated_text spelling.stated in
+      puts_right old new (version_line spelling.version ∷ kind_line spelling.kind ∷ []) (width ++ stated) at (at - 2) (omega (arith, past)) refl
+      (puts_right old new width stated (at - 2) (at - 2 - widths) (omega (arith, counted, past)) (omega (arith, counted)) puts)
+
+-- how many lines come before the weight
+pub head_counted : (spelling : Spelling) → head_lines spelling ≡ 2 + length (width_text spelling.version spelling.width) + length (stated_text spelling.stated)
+head_counted spelling = let both = length-append (width_text spelling.version spelling.width) (stated_text spelling.stated) in omega (arith, both)
+
+-- the line that says how many digits a state has, if there is one
+pub no_width_put : (old new : List ℕ) (version : Version) (width at : ℕ) → version ≡ One → at < length (width_text version width) → PutsLine old new (width_text version width) at
+no_width_put old new One width at is within = absurd (omega (arith, within))
+no_width_put old new Two width at is within = absurd (two_one is)
+  where
+    two_one : ◌≡◌ {A = Version} Two One → ⊥
+    two_one e = cc
+
+pub one_width_put : (old new : List ℕ) (version : Version) (width at number : ℕ) → version ≡ Two → number ≡ width → at < length (width_text version width) → new ≡ old ++ line (spaced (codes "width") (decimal number)) → length new ≤ length old + longest_line
+    → PutsLine old new (width_text version width) at
+one_width_put old new One width at number is same within e short = absurd (omega (arith, within))
+one_width_put old new Two width at number is same within e short =
+    let text : List ℕ = spaced (codes "width") (decimal width) in
+    let zeroth : at ≡ 0 = omega (arith, within) in
+    (text, subst (λ n. slice_get (text ∷ []) n ≡ Some text) (sym zeroth) refl, e ∙ ap (λ n. old ++ line (spaced (codes "width") (decimal n))) same, short)
 
 module _ (old new : List ℕ) (spelled : SpelledCertificate) (at : ℕ) where
   first_counted : length (first_lines spelled) ≡ head_lines spelled.spelling + 1
@@ -152,11 +179,11 @@ module _ (old new : List ℕ) (digits : ℕ) (certificate : Certificate) (at : �
       let first : List ℕ = spaced (codes "rows") (decimal (length certificate.lines)) in
       (first, get_first (line_text digits) first (codes "end") certificate.lines at zeroth, subst (λ n. new ≡ old ++ line (spaced (codes "rows") (decimal n))) same e, short)
 
-  pub row_put : (row : Line) → version_1_digits ≡ digits → (at ≡ 0 → ⊥) → slice_get certificate.lines (at - 1) ≡ Some row → new ≡ old ++ line (line_text version_1_digits row) → length new ≤ length old + longest_line → PutsLine old new (rows_lines digits certificate) at
-  row_put row width positive found e short = (
+  pub row_put : (row : Line) (width : ℕ) → width ≡ digits → (at ≡ 0 → ⊥) → slice_get certificate.lines (at - 1) ≡ Some row → new ≡ old ++ line (line_text width row) → length new ≤ length old + longest_line → PutsLine old new (rows_lines digits certificate) at
+  row_put row width same positive found e short = (
     line_text digits row,
     get_middle (line_text digits) (spaced (codes "rows") (decimal (length certificate.lines))) (codes "end") certificate.lines at row (grind (arith, positive)) found,
-    e ∙ ap (λ n. old ++ line (line_text n row)) width,
+    e ∙ ap (λ n. old ++ line (line_text n row)) same,
     short,
   )
 
@@ -172,11 +199,12 @@ module _ (old new : List ℕ) (digits : ℕ) (certificate : Certificate) (at : �
       counted : (rows : List Line) (first : List ℕ) → length (first ∷ (map (line_text digits) rows ++ codes "end" ∷ [])) ≡ length rows + 2
       counted rows first = simp (length-append, length-map) (omega arith)
 
--- each version that is written has the digits of version 1
-width_of_version : (version : Version) (width : ℕ) → IsWidthOf version width → version_1_digits ≡ width
-width_of_version One width is = sym is
+-- a state has 1 to 256 digits
+width_of_version : (version : Version) (width : ℕ) → IsWidthOf version width → (1 ≤ width) × (width ≤ most_digits)
+width_of_version One width is = (omega (arith, is), omega (arith, is))
+width_of_version Two width is = is
 
-pub width_of_spelling : (spelling : Spelling) → IsSpelling spelling → version_1_digits ≡ spelling.width
+pub width_of_spelling : (spelling : Spelling) → IsSpelling spelling → (1 ≤ spelling.width) × (spelling.width ≤ most_digits)
 width_of_spelling spelling is = width_of_version spelling.version spelling.width is
 
 module _ (old new : List ℕ) (spelled : SpelledCertificate) (at first : ℕ) (counted : first ≡ length (first_lines spelled)) where

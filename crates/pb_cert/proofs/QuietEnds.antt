@@ -3,7 +3,7 @@
 use Rattle.std.proofs.Common.{◌≡◌, ℕ, ◌^◌, ◌<◌, ◌≤◌, IsTrue, Option, None, Some, List, [], ◌∷◌, length, Result, Ok, Err, refl, ap, sym, ◌∙◌, subst, arith}
 use Rattle.std.specs.List.{AllByRecursion}
 use Rattle.std.proofs.lemmas.List.Elements.{All-from_recursion}
-use Rattle.pb_packed.specs.Sizes.{version_1_digits}
+use Rattle.pb_packed.specs.Sizes.{most_digits}
 use Rattle.pb_model.specs.declared.row.Estimate.{Estimate}
 use Rattle.pb_model.specs.declared.row.Row.{Row}
 use Rattle.pb_model.specs.Space.{Space, IsProper}
@@ -17,7 +17,8 @@ use Rattle.pb_model.specs.Certificate.{Line, Certificate, AreLinesOf, IsValid, I
 use Rattle.pb_task.specs.declared.parts.TaskParts.{TaskParts}
 use Rattle.pb_task.specs.declared.parts.TaskParts.TheVariants.{Grid, Tiles, Strips}
 use Rattle.pb_task.specs.Parts.{space_of, IsTask, greatest_cost}
-use Rattle.pb_task.proofs.Callers.{tasks_are_proper}
+use Rattle.pb_task.specs.Widths.{width_of}
+use Rattle.pb_task.proofs.Callers.{states_fit_their_width, tasks_are_proper}
 use Rattle.pb_estimate.specs.declared.choice.Choice.{Choice}
 use Rattle.pb_estimate.specs.declared.spelling.Spelling.{Spelling}
 use Rattle.pb_estimate.specs.Estimates.{estimate_by}
@@ -62,12 +63,17 @@ module _ (space : Space) (most : ℕ) (proper : IsProper space most) where
 
 -- the text of a valid certificate whose numbers can be stated is accepted, if what it states is
 text_is_accepted : (parts : TaskParts) (choice : Choice) (certificate : Certificate)
-    → stated_fault parts (record { choice = choice }) ≡ None
-    → IsValid (space_of parts) (estimate_by parts choice) certificate → Fits version_1_digits certificate
+    → IsTask parts → stated_fault parts (record { choice = choice }) ≡ None
+    → IsValid (space_of parts) (estimate_by parts choice) certificate
+    → Fits (width_of parts) certificate
     → checked parts (spelled_text (spelling_of parts choice) certificate)
     ≡ Ok (verdict_of certificate.weight certificate.plan)
-text_is_accepted parts choice certificate stated valid fits = go (checked parts bytes) refl
+text_is_accepted parts choice certificate lawful stated valid fits =
+    go (checked parts bytes) refl
   where
+    widths : (1 ≤ width_of parts) × (width_of parts ≤ most_digits)
+    widths = let fit = states_fit_their_width parts lawful in (fit.0, fit.1)
+
     bytes : List ℕ
     bytes = spelled_text (spelling_of parts choice) certificate
 
@@ -75,8 +81,9 @@ text_is_accepted parts choice certificate stated valid fits = go (checked parts 
     accepted = record {
       spelling = spelling_of parts choice;
       certificate = certificate;
-      spelled = record { known = refl; text = refl; fits = fits };
+      spelled = record { known = widths; text = refl; fits = fits };
       kind = refl;
+      width = refl;
       stated = stated;
       valid = valid;
       verdict_is = refl;
@@ -220,7 +227,7 @@ module _ (parts : TaskParts) (guide : Guide) (store : Store)
       → weight.den < 2 ^ 63 → (c : SpelledCertificate) (plan : Option Plan)
       → IsValid (space_of parts) estimate (certificate_of weight plan c.certificate.lines)
       → length c.certificate.lines < 2 ^ 63 → HasLines c → PlanFitsIfAny plan
-      → Fits version_1_digits (certificate_of weight plan c.certificate.lines)
+      → Fits (width_of parts) (certificate_of weight plan c.certificate.lines)
   fits lawful estimate weight num den c plan valid count lines plan_fits =
       let are = home_lines c lines in
       record {
@@ -229,8 +236,8 @@ module _ (parts : TaskParts) (guide : Guide) (store : Store)
         count = count;
         lines = λ k d less.
             let line = are.sound k d less in
-            let state = (tasks_are_proper parts lawful).1 _ (valid.states k d less) in (
-              omega (arith, state),
+            let state = (states_fit_their_width parts lawful).2 _ (valid.states k d less) in (
+              state,
               subst (λ (l : Line). l.g < 2 ^ 63) (sym line.2) (small_row _ _ line.0 line.1),
             );
       }
@@ -265,6 +272,6 @@ module _ (parts : TaskParts) (guide : Guide) (store : Store)
         valid = here;
         text_is = is;
         accepted = ap (λ (bytes : List ℕ). checked parts bytes) is
-            ∙ text_is_accepted parts choice made stated here
+            ∙ text_is_accepted parts choice made lawful stated here
             (fits lawful estimate weight num den c plan here count lines best.fits);
       }

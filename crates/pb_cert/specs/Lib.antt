@@ -1,4 +1,5 @@
 pub use Rattle.pb_check.specs.Judging
+pub use Rattle.pb_check.specs.Shown
 pub use Rattle.pb_check.specs.Spelling as CheckSpelling
 pub use Rattle.pb_estimate.specs.Spelling
 pub use Rattle.pb_lists.specs.Bundle
@@ -17,4 +18,5 @@ pub mod Traced
 pub mod Found
 pub mod Listed
 pub mod Stated
+pub mod Rewritten
 pub mod Laws

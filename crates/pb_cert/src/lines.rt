@@ -1,8 +1,8 @@
-ghost use Rattle.std.specs.Prelude.{◌≡◌, ◌+◌, ◌<◌, ◌≤◌, ◌^◌, ◌++◌, Some, length, slice_get};
+ghost use Rattle.std.specs.Prelude.{◌≡◌, ◌+◌, ◌<◌, ◌≤◌, ◌^◌, ◌++◌, ⊤, Some, length, slice_get};
 ghost use Rattle.std.specs.Fmt.{decimal};
-ghost use Rattle.pb_packed.specs.Sizes.{version_1_digits};
+ghost use Rattle.pb_packed.specs.Sizes.{most_digits};
 ghost use Rattle.pb_model.specs.Texts.{line, spaced, line_text};
-ghost use Rattle.pb_estimate.specs.Spelling.{version_line, kind_line, stated_text, head_of, head_lines};
+ghost use Rattle.pb_estimate.specs.Spelling.{version_line, kind_line, width_text, stated_text, head_of, head_lines};
 ghost use Rattle.pb_print.specs.Saved.{longest_line, PutsLine};
 ghost use Rattle.pb_cert.specs.Stated.{text_of, lines_of, first_lines, plan_lines, rows_lines, weight_line};
 
@@ -36,13 +36,15 @@ fn put_action(action: u32, out: &mut Piece)
     out.push(b"\n");
 }
 
-// Puts the line of a state at the piece's end.
-fn put_row(row: &Line, out: &mut Piece)
+// Puts the line of a state, in so many digits, at the piece's end.
+fn put_row(row: &Line, digits: u32, out: &mut Piece)
+    requires some { 1 ≤ digits }
+    requires most { digits ≤ most_digits }
     requires room { length out.old + longest_line ≤ 4096 }
-    ensures line { out.new ≡ out.old ++ line (line_text version_1_digits row.now) }
+    ensures line { out.new ≡ out.old ++ line (line_text digits row.now) }
     ensures short { length out.new ≤ length out.old + longest_line }
 {
-    out.push_hex(&row.state);
+    out.push_hex(&row.state, digits);
     out.push(b" ");
     out.push_number(row.g);
     let status: &[u8] = if row.is_closed {
@@ -77,6 +79,7 @@ fn put_version(version: Version, out: &mut Piece)
 {
     match version {
         Version::One => out.push(b"pbnf-certificate 1\n"),
+        Version::Two => out.push(b"pbnf-certificate 2\n"),
     }
 }
 
@@ -89,6 +92,19 @@ fn put_kind(kind: Kind, out: &mut Piece)
     out.push(b"kind ");
     out.push(kind.name().as_bytes());
     out.push(b"\n");
+}
+
+// Puts the line that says how many digits a state has at the piece's end, if there is one. Version 1
+// has none.
+fn put_width(spelling: &Spelling, _at: u128, out: &mut Piece)
+    requires room { length out.old + longest_line ≤ 4096 }
+    ensures { _at < length (width_text spelling.now.version spelling.now.width)
+        → PutsLine out.old out.new (width_text spelling.now.version spelling.now.width) _at }
+{
+    match spelling.version {
+        Version::One => {}
+        Version::Two => put_numbered(b"width", u64::from(spelling.width), out),
+    }
 }
 
 // Puts a line of what is stated besides at the piece's end, if it is one of them. The plain choice
@@ -109,12 +125,15 @@ fn put_head(spelling: &Spelling, at: u128, out: &mut Piece)
     requires room { length out.old + longest_line ≤ 4096 }
     ensures { PutsLine out.old out.new (head_of spelling.now) at }
 {
+    let widths = u128::from(spelling.version.width_lines());
     if at == 0 {
         put_version(spelling.version, out);
     } else if at == 1 {
         put_kind(spelling.kind, out);
+    } else if at < 2 + widths {
+        put_width(spelling, at - 2, out);
     } else {
-        put_stated(&spelling.stated, at - 2, out);
+        put_stated(&spelling.stated, at - 2 - widths, out);
     }
 }
 
@@ -134,10 +153,11 @@ impl Certificate<'_> {
         line_at(&self.parts, &self.places[i])
     }
 
-    // How many digits a state has: as many as in version 1, the only one that there is.
+    // How many digits a state has.
     fn digits(&self) -> u32
         ensures digits { result ≡ self.now.spelling.width }
-        ensures all { result ≡ version_1_digits }
+        ensures some { 1 ≤ result }
+        ensures most { result ≤ most_digits }
     {
         self.spelling.width
     }
@@ -203,11 +223,10 @@ impl Certificate<'_> {
             (rows_lines self.now.spelling.width self.now.certificate) at }
     {
         let rows = self.rows();
-        let _digits = self.digits();
         if at == 0 {
             put_numbered(b"rows", rows as u64, out);
         } else if at <= rows as u128 {
-            put_row(&self.row((at - 1) as usize), out);
+            put_row(&self.row((at - 1) as usize), self.digits(), out);
         } else {
             out.push(b"end\n");
         }
@@ -220,11 +239,13 @@ impl NumberedLines for Certificate<'_> {
 
     ghost lines_of = { lines_of };
 
+    ghost begins = { λ c at begin. ⊤ };
+
     fn count(&self) -> u128 {
         self.first_count() + self.plan_count() + self.rows() as u128 + 2
     }
 
-    fn put_line(&self, at: u128, out: &mut Piece) {
+    fn put_line(&self, at: u128, _begin: &mut usize, out: &mut Piece) {
         let first = self.first_count();
         let plan = self.plan_count();
         if at < first {

@@ -1,13 +1,12 @@
 -- Rows as arrays of their states, costs and statuses.
-use Rattle.std.proofs.Common.{◌≡◌, ◌⊎◌, inl, inr, ℕ, zero, suc, ◌<◌, ◌≤◌, Bool, false, None, Some, Ok, Err, List, [], ◌∷◌, ◌++◌, length, get_or, refl, sym, ap, subst, ◌∙◌, arith, nat_cmp}
+use Rattle.std.proofs.Common.{◌≡◌, ℕ, zero, suc, ◌<◌, Bool, false, nat_lt, None, Some, List, [], ◌∷◌, ◌++◌, length, get_or, refl, sym, ap, ◌∙◌, arith}
 use Rattle.std.specs.List.{slice_get}
-use Rattle.std.specs.List.Sorted.{IsBinarySearchResult}
-use Rattle.std.proofs.lemmas.List.Sorted.{searched}
 use Rattle.std.proofs.lemmas.Option.{get_or_from_slice_get}
 use Rattle.std.proofs.lemmas.Grind.{get_or_default_zero}
 use Rattle.pb_model.specs.Certificate.{Line}
 use Rattle.pb_check.specs.Judging.{g_of, AreAbove, Rise}
-use Rattle.pb_check.specs.Rows.{rows_of}
+use Rattle.pb_check.specs.Numbers.{AreRising}
+use Rattle.pb_check.specs.Rows.{rows_of, rises_at}
 use Rattle.pb_check.proofs.Finding.{rise, skip, nowhere, equal_at}
 
 pub length-rows_of : (ss gs : List ℕ) (cs : List Bool) → length gs ≡ length ss → length cs ≡ length ss → length (rows_of ss gs cs) ≡ length ss
@@ -45,16 +44,25 @@ is_above before (s ∷ ss) (g ∷ gs) (c ∷ cs) (suc j) e f above lt =
     let later : s < get_or ss j 0 = is_above s ss gs cs j (omega (arith, e)) (omega (arith, f)) above.1 (omega (arith, lt)) in
     omega (arith, first, later)
 
-pub states_rise : (ss gs : List ℕ) (cs : List Bool) → length gs ≡ length ss → length cs ≡ length ss → Rise (rows_of ss gs cs) → (i j : ℕ) → i ≤ j → j < length ss → get_or ss i 0 ≤ get_or ss j 0
-states_rise [] gs cs e f rises i j le lt = absurd (omega (arith, lt))
-states_rise (s ∷ ss) [] cs e f rises i j le lt = absurd (omega (arith, e))
-states_rise (s ∷ ss) (g ∷ gs) [] e f rises i j le lt = absurd (omega (arith, f))
-states_rise (s ∷ ss) (g ∷ gs) (c ∷ cs) e f rises zero zero le lt = omega arith
-states_rise (s ∷ ss) (g ∷ gs) (c ∷ cs) e f rises zero (suc j) le lt =
-    let later : s < get_or ss j 0 = is_above s ss gs cs j (omega (arith, e)) (omega (arith, f)) rises (omega (arith, lt)) in omega (arith, later)
-states_rise (s ∷ ss) (g ∷ gs) (c ∷ cs) e f rises (suc i) zero le lt = absurd (omega (arith, le))
-states_rise (s ∷ ss) (g ∷ gs) (c ∷ cs) e f rises (suc i) (suc j) le lt =
-    states_rise ss gs cs (omega (arith, e)) (omega (arith, f)) (rise s (rows_of ss gs cs) rises) i j (omega (arith, le)) (omega (arith, lt))
+pub rising : (ss gs : List ℕ) (cs : List Bool) → length gs ≡ length ss → length cs ≡ length ss → Rise (rows_of ss gs cs) → AreRising ss
+rising [] gs cs e f rises j k less lt = absurd (omega (arith, lt))
+rising (s ∷ ss) [] cs e f rises j k less lt = absurd (omega (arith, e))
+rising (s ∷ ss) (g ∷ gs) [] e f rises j k less lt = absurd (omega (arith, f))
+rising (s ∷ ss) (g ∷ gs) (c ∷ cs) e f rises j zero less lt = absurd (omega (arith, less))
+rising (s ∷ ss) (g ∷ gs) (c ∷ cs) e f rises zero (suc k) less lt = is_above s ss gs cs k (omega (arith, e)) (omega (arith, f)) rises (omega (arith, lt))
+rising (s ∷ ss) (g ∷ gs) (c ∷ cs) e f rises (suc j) (suc k) less lt =
+    rising ss gs cs (omega (arith, e)) (omega (arith, f)) (rise s (rows_of ss gs cs) rises) j k (omega (arith, less)) (omega (arith, lt))
+
+-- whether a state rises over the one before it
+pub rises_at-rows_of : (ss gs : List ℕ) (cs : List Bool) (i : ℕ) → length gs ≡ length ss → length cs ≡ length ss → suc i < length ss → rises_at (rows_of ss gs cs) i ≡ nat_lt (get_or ss i 0) (get_or ss (suc i) 0)
+rises_at-rows_of [] gs cs i e f lt = absurd (omega (arith, lt))
+rises_at-rows_of (s ∷ []) gs cs i e f lt = absurd (omega (arith, lt))
+rises_at-rows_of (s ∷ t ∷ ss) [] cs i e f lt = absurd (omega (arith, e))
+rises_at-rows_of (s ∷ t ∷ ss) (g ∷ []) cs i e f lt = absurd (omega (arith, e))
+rises_at-rows_of (s ∷ t ∷ ss) (g ∷ h ∷ gs) [] i e f lt = absurd (omega (arith, f))
+rises_at-rows_of (s ∷ t ∷ ss) (g ∷ h ∷ gs) (c ∷ []) i e f lt = absurd (omega (arith, f))
+rises_at-rows_of (s ∷ t ∷ ss) (g ∷ h ∷ gs) (c ∷ d ∷ cs) zero e f lt = refl
+rises_at-rows_of (s ∷ t ∷ ss) (g ∷ h ∷ gs) (c ∷ d ∷ cs) (suc i) e f lt = rises_at-rows_of (t ∷ ss) (h ∷ gs) (d ∷ cs) i (omega (arith, e)) (omega (arith, f)) (omega (arith, lt))
 
 -- ---- the g of a state
 
@@ -81,39 +89,3 @@ absent (s ∷ ss) (g ∷ gs) (c ∷ cs) state e f differ =
     let others : (k : ℕ) → k < length ss → get_or ss k 0 ≡ state → ⊥ = λ k lt is. differ (suc k) (omega (arith, lt)) is in
     absent ss gs cs state (omega (arith, e)) (omega (arith, f)) others
     ∙ sym (skip (record { state = s; g = g; is_closed = c }) (rows_of ss gs cs) state (λ is. differ 0 (omega arith) is))
-
--- ---- what a binary search of the states tells
-
-rise_in : (ss gs : List ℕ) (cs : List Bool) (xs : List ℕ) → xs ≡ ss → length gs ≡ length ss → length cs ≡ length ss → Rise (rows_of ss gs cs) → (i j : ℕ) → i ≤ j → j < length xs → get_or xs i 0 ≤ get_or xs j 0
-rise_in ss gs cs xs is e f rises = subst (λ (xs : List ℕ). (i j : ℕ) → i ≤ j → j < length xs → get_or xs i 0 ≤ get_or xs j 0) (sym is) (states_rise ss gs cs e f rises)
-
-pub found_by_search : (ss gs : List ℕ) (cs : List Bool) (xs : List ℕ) (state i g : ℕ) → xs ≡ ss → length gs ≡ length ss → length cs ≡ length ss → Rise (rows_of ss gs cs) → IsBinarySearchResult (λ y. nat_cmp y state) xs (Ok i) → g ≡ get_or gs i g
-    → Some g ≡ g_of (rows_of ss gs cs) state
-found_by_search ss gs cs xs state i g is e f rises answer costs =
-    let h : (i < length ss) × (get_or ss i 0 ≡ state) = subst (λ (xs : List ℕ). (i < length xs) × (get_or xs i 0 ≡ state)) is (searched xs state (Ok i) answer (rise_in ss gs cs xs is e f rises)) in
-    found ss gs cs i state g e f rises h.0 h.1 costs
-
-pub absent_by_search : (ss gs : List ℕ) (cs : List Bool) (xs : List ℕ) (state i : ℕ) → xs ≡ ss → length gs ≡ length ss → length cs ≡ length ss → Rise (rows_of ss gs cs) → IsBinarySearchResult (λ y. nat_cmp y state) xs (Err i)
-    → None ≡ g_of (rows_of ss gs cs) state
-absent_by_search ss gs cs xs state i is e f rises answer = absent ss gs cs state e f (λ k lt same. differs k lt same (below_or_not k))
-  where
-    h : (i ≤ length xs) × ((k : ℕ) → k < i → get_or xs k 0 < state) × ((k : ℕ) → i ≤ k → k < length xs → state < get_or xs k 0)
-    h = searched xs state (Err i) answer (rise_in ss gs cs xs is e f rises)
-
-    below_or_not : (k : ℕ) → (k < i) ⊎ (i ≤ k)
-    below_or_not k = grind arith
-
-    differs : (k : ℕ) → k < length ss → get_or ss k 0 ≡ state → (k < i) ⊎ (i ≤ k) → ⊥
-    differs k lt same (inl below) =
-        let less : get_or ss k 0 < state = subst (λ (xs : List ℕ). get_or xs k 0 < state) is (h.1 k below) in omega (arith, less, same)
-    differs k lt same (inr behind) =
-        let within : k < length xs = subst (λ (xs : List ℕ). k < length xs) (sym is) lt in
-        let more : state < get_or ss k 0 = subst (λ (xs : List ℕ). state < get_or xs k 0) is (h.2 k behind within) in omega (arith, more, same)
-
--- a state that is seen in its place
-pub found_here : (ss gs : List ℕ) (cs : List Bool) (xs : List ℕ) (state i g seen : ℕ) → xs ≡ ss → length gs ≡ length ss → length cs ≡ length ss → Rise (rows_of ss gs cs) → i < length xs → seen ≡ get_or xs i seen → seen ≡ state → g ≡ get_or gs i g
-    → Some g ≡ g_of (rows_of ss gs cs) state
-found_here ss gs cs xs state i g seen is e f rises within seen_is same costs =
-    let there : get_or xs i 0 ≡ state = sym (get_or_default_zero xs i seen within) ∙ sym seen_is ∙ same in
-    let h : (i < length ss) × (get_or ss i 0 ≡ state) = subst (λ (xs : List ℕ). (i < length xs) × (get_or xs i 0 ≡ state)) is (within, there) in
-    found ss gs cs i state g e f rises h.0 h.1 costs

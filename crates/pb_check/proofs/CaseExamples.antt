@@ -1,40 +1,91 @@
 -- Which fault comes first, for a few texts and for rows of a corridor of three cells.
-use Rattle.std.proofs.Common.{◌≡◌, ℕ, ◌+◌, ◌-◌, Bool, true, false, if◌then◌else◌, nat_lt, ◌==◌, Option, None, Some, List, [], ◌∷◌, ◌++◌, codes, Ok, Err, refl}
-use Rattle.pb_model.specs.declared.row.Estimate.{Estimate}
-use Rattle.pb_model.specs.declared.row.Estimate.TheVariants.{Cost, Dead}
+use Rattle.std.proofs.Common.{◌≡◌, ℕ, ◌+◌, ◌-◌, true, false, if◌then◌else◌, nat_lt, ◌==◌, Option, None, Some, List, [], ◌∷◌, ◌++◌, codes, Err, refl}
+use Rattle.pb_model.specs.declared.row.Estimate.TheVariants.{Cost}
 use Rattle.pb_model.specs.Space.{Space}
-use Rattle.pb_model.specs.Weight.{Weight}
 use Rattle.pb_model.specs.Plan.{Plan}
 use Rattle.pb_model.specs.Certificate.{Line}
 use Rattle.pb_task.specs.declared.parts.TaskParts.{TaskParts}
+use Rattle.pb_task.specs.declared.parts.TaskParts.TheVariants as parts
+use Rattle.pb_task.specs.declared.parts.GridParts.{GridParts}
+use Rattle.pb_estimate.specs.declared.spelling.Version.TheVariants.{One, Two}
 use Rattle.pb_check.specs.declared.fault.CertificateFault.{CertificateFault}
 use Rattle.pb_check.specs.declared.fault.CertificateFault.TheVariants as faults
-use Rattle.pb_lines.specs.Words.{place_of, behind}
-use Rattle.pb_check.specs.Reading.{fixed_at, kind_at, kind_in, stated_at, head_at, weight_at, weight_in, text_of}
-use Rattle.pb_check.specs.Judging.{walk, plan_fault, order_fault, rows_order_fault, first_fault_by, state_fault, g_of, steps_fault, row_fault, checked}
-use Rattle.pb_check.specs.Cases.{IsStepFault, EndsElsewhere, IsCostFault, IsOutOfOrder, IsNoState, IsSuccessorFault, HasNoRow, HasRowAbove}
+use Rattle.pb_lines.specs.Words.{place_of, behind, number_after}
+use Rattle.pb_check.specs.Reading.{version_at, version_in, kind_at, kind_in, width_at, width_in, stated_at, head_at, weight_at, weight_in, row_in, text_of}
+use Rattle.pb_check.specs.Judging.{width_fault, walk, plan_fault, order_fault, rows_order_fault, first_fault_by, state_fault, g_of, steps_fault, row_fault, checked}
+use Rattle.pb_check.specs.Cases.{IsStepFault, EndsElsewhere, IsCostFault}
 
 -- ---- texts
 
 no_text : (parts : TaskParts) → checked parts [] ≡ Err (faults.Syntax 1)
-unfolding checked text_of head_at fixed_at place_of
+unfolding checked text_of head_at version_at place_of
 no_text parts = refl
 
 version_without_end : (parts : TaskParts)
     → checked parts (codes "pbnf-certificate 1") ≡ Err (faults.Syntax 1)
-unfolding checked text_of head_at fixed_at place_of
+unfolding checked text_of head_at version_at place_of
 version_without_end parts = refl
 
 no_kind : (parts : TaskParts)
     → checked parts (codes "pbnf-certificate 1" ++ 10 ∷ []) ≡ Err (faults.Syntax 2)
-unfolding checked text_of head_at fixed_at kind_at place_of behind
+unfolding checked text_of head_at version_at version_in kind_at place_of behind
 no_kind parts = refl
 
 another_kind : (parts : TaskParts)
     → checked parts (codes "pbnf-certificate 1" ++ 10 ∷ codes "kind rook" ++ 10 ∷ codes "weight")
     ≡ Err (faults.Syntax 2)
-unfolding checked text_of head_at fixed_at kind_at kind_in place_of behind
+unfolding checked text_of head_at version_at version_in kind_at kind_in place_of behind
 another_kind parts = refl
+
+third_version : (parts : TaskParts)
+    → checked parts (codes "pbnf-certificate 3" ++ 10 ∷ codes "kind grid" ++ 10 ∷ [])
+    ≡ Err (faults.Syntax 1)
+unfolding checked text_of head_at version_at version_in place_of behind
+third_version parts = refl
+
+-- version 2 says how many digits a state has, before the weight
+no_width : (parts : TaskParts)
+    → checked parts (codes "pbnf-certificate 2" ++ 10 ∷ codes "kind grid" ++ 10 ∷ codes "weight 1 1"
+    ++ 10 ∷ [])
+    ≡ Err (faults.Syntax 3)
+unfolding checked text_of head_at version_at version_in kind_at kind_in width_at width_in place_of behind
+no_width parts = refl
+
+width_of_nought : (parts : TaskParts)
+    → checked parts (codes "pbnf-certificate 2" ++ 10 ∷ codes "kind grid" ++ 10 ∷ codes "width 0"
+    ++ 10 ∷ [])
+    ≡ Err (faults.Syntax 3)
+unfolding checked text_of head_at version_at version_in kind_at kind_in width_at width_in place_of behind number_after
+width_of_nought parts = refl
+
+width_above_all : (parts : TaskParts)
+    → checked parts (codes "pbnf-certificate 2" ++ 10 ∷ codes "kind grid" ++ 10 ∷ codes "width 257"
+    ++ 10 ∷ [])
+    ≡ Err (faults.Syntax 3)
+unfolding checked text_of head_at version_at version_in kind_at kind_in width_at width_in place_of behind number_after
+width_above_all parts = refl
+
+-- a text of version 1 says nothing of the digits
+width_in_version_1 : (parts : TaskParts)
+    → checked parts (codes "pbnf-certificate 1" ++ 10 ∷ codes "kind grid" ++ 10 ∷ codes "width 64"
+    ++ 10 ∷ [])
+    ≡ Err (faults.Syntax 3)
+unfolding checked text_of head_at version_at version_in kind_at kind_in width_at stated_at weight_at weight_in place_of behind
+width_in_version_1 parts = refl
+
+-- ---- the digits of a state
+
+as_the_task : (parts : TaskParts) (width : ℕ) → width_fault parts One width ≡ None
+as_the_task parts width = refl
+
+six_on_a_grid : (grid : GridParts)
+    → width_fault (parts.Grid grid) Two 7 ≡ Some (faults.Width 7 6)
+six_on_a_grid grid = refl
+
+-- a state has no fewer digits than the text says
+no_fewer_digits : row_in 7 9 (codes "000802 3 closed") ≡ Err (faults.Syntax 9)
+unfolding row_in place_of
+no_fewer_digits = refl
 
 -- ---- a corridor: action 0 leads to the next cell, and action 1 to the one before; the goal is the
 -- last cell

@@ -1,34 +1,35 @@
 -- A fault is reported only in its case.
-use Rattle.std.proofs.Common.{◌≡◌, ◌≢◌, ◌⊎◌, inl, inr, ℕ, zero, suc, ◌+◌, ◌<◌, ◌≤◌, Bool, true, false, cond, eqb, ltb, leb, Option, None, Some, List, [], ◌∷◌, ◌++◌, length, All, Contains, Result, Ok, Err, refl, sym, ap, ◌∙◌, subst, arith, IsTrue, IsFalse}
+use Rattle.std.proofs.Common.{◌≡◌, ◌⊎◌, inl, inr, ℕ, zero, suc, ◌+◌, ◌<◌, ◌≤◌, Bool, true, false, cond, eqb, ltb, leb, Option, None, Some, List, [], ◌∷◌, ◌++◌, length, All, Contains, Result, Ok, Err, refl, sym, ap, ◌∙◌, subst, arith, IsTrue, IsFalse}
 use Rattle.std.proofs.lemmas.Option.{same_Some}
-use Rattle.std.proofs.lemmas.Bool.{eqb-true, leb-true}
 use Rattle.std.proofs.lemmas.Bool.Decides.{nat_tests}
 use Rattle.std.proofs.lemmas.List.Elements.{All-nil, All-cons}
 use Rattle.pb_model.specs.declared.row.Estimate.{Estimate}
 use Rattle.pb_model.specs.Space.{Space, Steps, IsProper}
-use Rattle.pb_model.specs.Weight.{Weight, IsWeight}
+use Rattle.pb_model.specs.Weight.{Weight}
 use Rattle.pb_model.specs.Plan.{Plan, Walk}
-use Rattle.pb_model.specs.Store.{MayBeCut}
-use Rattle.pb_model.specs.Certificate.{Line, Certificate, Ascends, HasLineWithin, IsClosedLine, cost_of}
+use Rattle.pb_model.specs.Certificate.{Line, Certificate, HasLineWithin, cost_of}
 use Rattle.pb_task.specs.declared.parts.TaskParts.{TaskParts}
 use Rattle.pb_task.specs.Parts.{space_of, IsTask, greatest_cost}
 use Rattle.pb_task.specs.Kinds.{kind_of}
+use Rattle.pb_task.specs.Widths.{width_of}
 use Rattle.pb_task.proofs.Callers.{tasks_are_proper}
 use Rattle.pb_estimate.specs.declared.choice.Choice.{Choice}
 use Rattle.pb_estimate.specs.declared.choice.Choice.TheVariants.{Plain}
 use Rattle.pb_estimate.specs.declared.spelling.Spelling.{Spelling}
+use Rattle.pb_estimate.specs.declared.spelling.Version.{Version}
+use Rattle.pb_estimate.specs.declared.spelling.Version.TheVariants.{One, Two}
 use Rattle.pb_estimate.specs.Estimates.{estimate_by}
 use Rattle.pb_check.specs.declared.fault.CertificateFault.{CertificateFault}
 use Rattle.pb_check.specs.declared.fault.CertificateFault.TheVariants as faults
 use Rattle.pb_check.specs.declared.fault.Verdict.{Verdict}
 use Rattle.pb_check.specs.Faults.{◌>>=◌}
 use Rattle.pb_check.specs.Reading.{Text, first_line, text_of}
-use Rattle.pb_check.specs.Spelling.{IsSpelled}
-use Rattle.pb_check.specs.Judging.{passes, or_then, unless, same_kind, choice_fault, stated_fault, is_weight, after_step, walk, plan_fault, plan_fault_if_any, AreAbove, Rise, order_fault, rows_order_fault, first_fault_by, state_fault, g_of, is_zero, target_fault, step_fault, steps_fault, may_be_cut, row_fault, verdict_of, judged, checked}
+use Rattle.pb_check.specs.Spelling.{IsSpelled, HasWidthOf}
+use Rattle.pb_check.specs.Judging.{passes, or_then, unless, same_kind, width_fault, choice_fault, stated_fault, is_weight, after_step, walk, plan_fault, plan_fault_if_any, AreAbove, order_fault, rows_order_fault, first_fault_by, state_fault, g_of, is_zero, target_fault, step_fault, steps_fault, may_be_cut, row_fault, verdict_of, judged, checked}
 use Rattle.pb_check.specs.Cases.{IsSaid, IsForTask, HasWeight, HasPlan, HasOrder, HasStates, HasStart, IsStepFault, EndsElsewhere, IsCostFault, HasFault, IsOutOfOrder, IsNoState, MayBeCutRow, IsSoundRow, IsFirstUnsound, IsSuccessorFault, HasNoRow, HasRowAbove, IsCaseOf, RefusalsHaveTheirCase}
 use Rattle.pb_check.proofs.Finding.{order_rises}
-use Rattle.pb_check.proofs.Validity.{passed, holds, kinds_same, weighs, walks, planned_if_any, ascends, each, has_row, starts, on_target, step_passes, closed_row, cut_row}
-use Rattle.pb_check.proofs.Completeness.{kind_same, weight_ok, rises, found, zero_ok, may_ok}
+use Rattle.pb_check.proofs.Validity.{holds, kinds_same, width_suits, weighs, walks, planned_if_any, ascends, each, has_row, starts, on_target, step_passes, closed_row, cut_row}
+use Rattle.pb_check.proofs.Completeness.{kind_same, same_number, weight_ok, rises, found, zero_ok, may_ok}
 use Rattle.pb_check.proofs.Written.{read_as_spelled}
 use Rattle.pb_check.proofs.FirstUnspelled.{syntax_case}
 
@@ -334,8 +335,11 @@ module _ (parts : TaskParts) (lawful : IsTask parts) (bytes : List ℕ) (text : 
   abbrev after_stated : Result Verdict CertificateFault
   after_stated = next (unless (is_weight weight) faults.Weight) after_weight
 
+  abbrev after_width : Result Verdict CertificateFault
+  after_width = next (stated_fault parts text.spelling.stated) after_stated
+
   abbrev after_kind : Result Verdict CertificateFault
-  after_kind = next (stated_fault parts text.spelling.stated) after_stated
+  after_kind = next (width_fault parts text.spelling.version text.spelling.width) after_width
 
   -- ---- the rows
 
@@ -711,6 +715,29 @@ module _ (parts : TaskParts) (lawful : IsTask parts) (bytes : List ℕ) (text : 
       go : (choice : Choice) → choice_fault parts choice ≡ None
       go Plain = refl
 
+  -- the digits that version 2 states are not those of the task's states
+  width_case : text.spelling.kind ≡ kind_of parts → (version : Version)
+      → text.spelling.version ≡ version
+      → width_fault parts version text.spelling.width ≡ Some fault → Case fault
+  width_case is One version_is e = absurd (none_some None fault refl e)
+  width_case is Two version_is e =
+      let two = unmet (eqb text.spelling.width (width_of parts))
+      (faults.Width text.spelling.width (width_of parts)) fault e in
+      subst Case two.1 (
+        text.spelling,
+        text.certificate,
+        spelled,
+        (
+          is,
+          version_is,
+          refl,
+          refl,
+          λ same.
+              never (eqb text.spelling.width (width_of parts))
+              (ap (λ (w : ℕ). eqb w (width_of parts)) same ∙ same_number (width_of parts)) two.0,
+        ),
+      )
+
   judged_case : judged parts text ≡ Err fault → Case fault
   unfolding judged
   judged_case e =
@@ -718,12 +745,22 @@ module _ (parts : TaskParts) (lawful : IsTask parts) (bytes : List ℕ) (text : 
       fault e)
     where
       stated : text.spelling.kind ≡ kind_of parts
+          → HasWidthOf parts text.spelling.version text.spelling.width
           → (stated_fault parts text.spelling.stated ≡ Some fault)
           ⊎ ((stated_fault parts text.spelling.stated ≡ None) × (after_stated ≡ Err fault))
           → Case fault
-      stated is (inl e) =
+      stated is wide (inl e) =
           absurd (none_some (stated_fault parts text.spelling.stated) fault stated_none e)
-      stated is (inr (none, e)) = from_stated (is, none) e
+      stated is wide (inr (none, e)) = from_stated (is, wide, none) e
+
+      width : text.spelling.kind ≡ kind_of parts
+          → (width_fault parts text.spelling.version text.spelling.width ≡ Some fault)
+          ⊎ ((width_fault parts text.spelling.version text.spelling.width ≡ None)
+          × (after_width ≡ Err fault)) → Case fault
+      width is (inl e) = width_case is text.spelling.version refl e
+      width is (inr (none, e)) =
+          stated is (width_suits parts text.spelling.version text.spelling.width none)
+          (stopped_at (stated_fault parts text.spelling.stated) after_stated fault e)
 
       go : (unless (same_kind (kind_of parts) text.spelling.kind) faults.Kind ≡ Some fault)
           ⊎ ((unless (same_kind (kind_of parts) text.spelling.kind) faults.Kind ≡ None)
@@ -739,9 +776,10 @@ module _ (parts : TaskParts) (lawful : IsTask parts) (bytes : List ℕ) (text : 
                 (ap (same_kind (kind_of parts)) same ∙ kind_same (kind_of parts)) two.0,
           )
       go (inr (none, e)) =
-          stated (kinds_same (kind_of parts) text.spelling.kind
+          width (kinds_same (kind_of parts) text.spelling.kind
           (holds (same_kind (kind_of parts) text.spelling.kind) faults.Kind none))
-          (stopped_at (stated_fault parts text.spelling.stated) after_stated fault e)
+          (stopped_at (width_fault parts text.spelling.version text.spelling.width) after_width
+          fault e)
 
 pub refusals_have_their_case : RefusalsHaveTheirCase
 unfolding checked

@@ -1,18 +1,18 @@
 -- In its case a fault is reported.
-use Rattle.std.proofs.Common.{◌≡◌, ◌≢◌, ◌⊎◌, inl, inr, ℕ, zero, suc, ◌+◌, ◌<◌, ◌≤◌, Bool, true, false, cond, eqb, ltb, leb, Option, None, Some, List, [], ◌∷◌, ◌++◌, length, All, Contains, Result, Ok, Err, refl, sym, ap, ◌∙◌, subst, arith, IsTrue, IsFalse}
+use Rattle.std.proofs.Common.{◌≡◌, ◌≢◌, ℕ, zero, suc, ◌+◌, ◌<◌, Bool, true, false, cond, eqb, ltb, leb, Option, None, Some, List, [], ◌∷◌, ◌++◌, length, All, Result, Ok, Err, refl, sym, ap, ◌∙◌, arith, IsTrue, IsFalse}
 use Rattle.std.proofs.lemmas.Bool.{eqb-true}
 use Rattle.std.proofs.lemmas.Bool.Decides.{nat_tests}
 use Rattle.std.proofs.lemmas.List.Elements.{All-head, All-tail}
 use Rattle.pb_model.specs.declared.row.Estimate.{Estimate}
-use Rattle.pb_model.specs.declared.row.Estimate.TheVariants.{Cost, Dead}
 use Rattle.pb_model.specs.Space.{Space, Steps, IsProper}
 use Rattle.pb_model.specs.Weight.{Weight, IsWeight}
 use Rattle.pb_model.specs.Plan.{Plan, Walk}
-use Rattle.pb_model.specs.Store.{MayBeCut}
-use Rattle.pb_model.specs.Certificate.{Line, Certificate, Ascends, HasLineWithin, cost_of}
+use Rattle.pb_model.specs.Certificate.{Line, Certificate, HasLineWithin, cost_of}
 use Rattle.pb_task.specs.declared.parts.TaskParts.{TaskParts}
 use Rattle.pb_task.specs.Parts.{space_of, IsTask, greatest_cost}
 use Rattle.pb_task.specs.Kinds.{kind_of}
+use Rattle.pb_task.specs.Widths.{width_of}
+use Rattle.pb_estimate.specs.declared.spelling.Version.TheVariants.{Two}
 use Rattle.pb_task.proofs.Callers.{tasks_are_proper}
 use Rattle.pb_estimate.specs.declared.spelling.Spelling.{Spelling}
 use Rattle.pb_estimate.specs.Estimates.{estimate_by}
@@ -20,14 +20,14 @@ use Rattle.pb_check.specs.declared.fault.CertificateFault.{CertificateFault}
 use Rattle.pb_check.specs.declared.fault.CertificateFault.TheVariants as faults
 use Rattle.pb_check.specs.declared.fault.Verdict.{Verdict}
 use Rattle.pb_check.specs.Faults.{◌>>=◌}
-use Rattle.pb_check.specs.Reading.{Text, first_line, text_of}
+use Rattle.pb_check.specs.Reading.{Text, first_line}
 use Rattle.pb_check.specs.Spelling.{IsSpelled}
-use Rattle.pb_check.specs.Judging.{passes, or_then, unless, same_kind, stated_fault, is_weight, after_step, walk, plan_fault, plan_fault_if_any, AreAbove, Rise, order_fault, rows_order_fault, first_fault_by, state_fault, g_of, is_zero, target_fault, step_fault, steps_fault, may_be_cut, row_fault, verdict_of, judged, checked}
+use Rattle.pb_check.specs.Judging.{passes, or_then, unless, same_kind, width_fault, stated_fault, is_weight, after_step, walk, plan_fault, plan_fault_if_any, AreAbove, Rise, order_fault, rows_order_fault, first_fault_by, state_fault, g_of, is_zero, target_fault, step_fault, steps_fault, may_be_cut, row_fault, verdict_of, judged, checked}
 use Rattle.pb_check.specs.Cases.{IsForTask, HasWeight, HasPlan, HasOrder, HasStates, HasStart, IsStepFault, EndsElsewhere, IsCostFault, HasFault, IsOutOfOrder, IsNoState, MayBeCutRow, IsSoundRow, IsSuccessorFault, HasNoRow, HasRowAbove, IsCaseOf, CasesAreRefused}
 use Rattle.pb_check.proofs.Finding.{equal_at}
 use Rattle.pb_check.proofs.Passes.{steps_end}
 use Rattle.pb_check.proofs.Validity.{kinds_same, weighs, ascends, has_row, starts, cuts}
-use Rattle.pb_check.proofs.Completeness.{kind_same, weight_ok, walked, plan_ok_if_any, rises, rows_order_ok, each_ok, found, zero_ok, target_ok, row_ok}
+use Rattle.pb_check.proofs.Completeness.{kind_same, width_ok, weight_ok, walked, plan_ok_if_any, rises, rows_order_ok, each_ok, found, zero_ok, target_ok, row_ok}
 use Rattle.pb_check.proofs.Written.{read_of}
 use Rattle.pb_check.proofs.FirstUnspelled.{syntax_told}
 
@@ -187,8 +187,11 @@ module _ (parts : TaskParts) (lawful : IsTask parts) (bytes : List ℕ) (spellin
   abbrev after_stated : Result Verdict CertificateFault
   after_stated = next (unless (is_weight weight) faults.Weight) after_weight
 
+  abbrev after_width : Result Verdict CertificateFault
+  after_width = next (stated_fault parts spelling.stated) after_stated
+
   abbrev after_kind : Result Verdict CertificateFault
-  after_kind = next (stated_fault parts spelling.stated) after_stated
+  after_kind = next (width_fault parts spelling.version spelling.width) after_width
 
   -- ---- what is judged after each
 
@@ -197,12 +200,17 @@ module _ (parts : TaskParts) (lawful : IsTask parts) (bytes : List ℕ) (spellin
   unfolding checked judged
   read = ap (λ r. r >>= λ text. judged parts text) (read_of bytes spelling certificate spelled)
 
-  to_stated : IsForTask parts spelling → checked parts bytes ≡ after_stated
-  to_stated has =
+  to_kind : spelling.kind ≡ kind_of parts → checked parts bytes ≡ after_kind
+  to_kind is =
       read
       ∙ ap (λ b. next (unless b faults.Kind) after_kind)
-      (ap (same_kind (kind_of parts)) has.0 ∙ kind_same (kind_of parts))
-      ∙ ap (λ o. next o after_stated) has.1
+      (ap (same_kind (kind_of parts)) is ∙ kind_same (kind_of parts))
+
+  to_stated : IsForTask parts spelling → checked parts bytes ≡ after_stated
+  to_stated has =
+      to_kind has.0
+      ∙ ap (λ o. next o after_width) (width_ok parts spelling.version spelling.width has.1)
+      ∙ ap (λ o. next o after_stated) has.2
 
   to_weight : HasWeight parts spelling certificate → checked parts bytes ≡ after_weight
   to_weight has =
@@ -243,6 +251,18 @@ module _ (parts : TaskParts) (lawful : IsTask parts) (bytes : List ℕ) (spellin
       read ∙ ap (λ b. next (unless b faults.Kind) after_kind)
       (not_yes (same_kind (kind_of parts) spelling.kind)
       (λ met. refuted (kinds_same (kind_of parts) spelling.kind met)))
+
+  width_told : (said wanted : ℕ) → spelling.kind ≡ kind_of parts → spelling.version ≡ Two
+      → said ≡ spelling.width → wanted ≡ width_of parts → said ≢ wanted
+      → checked parts bytes ≡ Err (faults.Width said wanted)
+  width_told said wanted is version said_is wanted_is differ =
+      to_kind is
+      ∙ ap (λ v. next (width_fault parts v spelling.width) after_width) version
+      ∙ ap (λ b. next (unless b (faults.Width spelling.width (width_of parts))) after_width)
+      (not_yes (eqb spelling.width (width_of parts))
+      (λ same. differ (said_is ∙ eqb-true _ _ same ∙ sym wanted_is)))
+      ∙ ap (λ (w : ℕ). Err (faults.Width w (width_of parts))) (sym said_is)
+      ∙ ap (λ (w : ℕ). Err (faults.Width said w)) (sym wanted_is)
 
   weight_told : IsForTask parts spelling → (IsWeight weight → ⊥)
       → checked parts bytes ≡ Err faults.Weight
@@ -419,6 +439,9 @@ cases_are_refused parts bytes fault lawful is = go fault is
     go (faults.Syntax line) is = unspelled parts bytes line is
     go faults.Kind (spelling, certificate, spelled, refuted) =
         kind_told parts lawful bytes spelling certificate spelled refuted
+    go (faults.Width said wanted) (spelling, certificate, spelled, (is, version, said_is, wanted_is, differ)) =
+        width_told parts lawful bytes spelling certificate spelled said wanted is version said_is
+        wanted_is differ
     go faults.Weight (spelling, certificate, spelled, (has, refuted)) =
         weight_told parts lawful bytes spelling certificate spelled has refuted
     go (faults.PlanStep i) (spelling, certificate, spelled, (has, one, is, bad)) =

@@ -12,18 +12,20 @@ use Rattle.pb_task.specs.declared.parts.TaskParts.{TaskParts}
 use Rattle.pb_estimate.specs.declared.choice.Choice.TheVariants.{Plain}
 use Rattle.pb_estimate.specs.declared.spelling.Stated.{Stated}
 use Rattle.pb_estimate.specs.declared.spelling.Spelling.{Spelling}
-use Rattle.pb_estimate.specs.declared.spelling.Version.TheVariants.{One}
-use Rattle.pb_estimate.specs.Spelling.{version_line, stated_text, head_lines}
+use Rattle.pb_estimate.specs.declared.spelling.Version.{Version}
+use Rattle.pb_estimate.specs.declared.spelling.Version.TheVariants.{One, Two}
+use Rattle.pb_estimate.specs.Spelling.{width_text, stated_text, head_lines}
 use Rattle.pb_check.specs.declared.fault.CertificateFault.{CertificateFault}
 use Rattle.pb_check.specs.declared.fault.CertificateFault.TheVariants.{Syntax}
 use Rattle.pb_check.specs.declared.fault.CheckError.{CheckError}
 use Rattle.pb_check.specs.declared.fault.Verdict.{Verdict}
 use Rattle.pb_lines.specs.Words.{part, is_text, has_none, line_feeds}
 use Rattle.pb_check.specs.Faults.{◌>>=◌, wanted, Gives}
-use Rattle.pb_check.specs.Reading.{line_at, number_behind, kind_in, weight_in, row_in, fixed_at, number_at, kind_at, stated_at, head_at, weight_at, row_at, actions_at, rows_at, steps_at, plan_at, plan_lines, weight_line, first_line, Text, end_at, body_at, text_of}
+use Rattle.pb_check.specs.Reading.{line_at, number_behind, version_in, kind_in, width_in, weight_in, row_in, fixed_at, number_at, version_at, kind_at, width_at, stated_at, head_at, weight_at, row_at, actions_at, rows_at, steps_at, plan_at, plan_lines, weight_line, first_line, Text, end_at, body_at, text_of}
 use Rattle.pb_check.specs.Judging.{judged, checked}
 use Rattle.pb_check.specs.Shown.{IsCutOff, CutCertificatesAreRefused}
 use Rattle.pb_lines.proofs.Callers.{part_is, part_none, part_again, one_feed, no_feed}
+use Rattle.pb_check.proofs.Lines.{spelling_with}
 use Rattle.pb_check.proofs.Spelled.{bind_ok, ok_is, guard_ok}
 use Rattle.pb_check.proofs.Written.{read_as_spelled}
 
@@ -203,6 +205,37 @@ named_step {A} {B} n lines f count line read one start rest z after e =
           omega (arith, c, g),
         )
 
+-- the same in other words
+same_step : {A : Type 0} (lines : A → ℕ) (line : ℕ)
+    (read other : List ℕ → Result (A × List ℕ) CertificateFault)
+    → ((text : List ℕ) → read text ≡ other text) → IsStep lines line other → IsStep lines line read
+same_step {A} lines line read other same is start rest x after e =
+    subst (λ (r : Result (A × List ℕ) CertificateFault). Goes (lines x) line r start rest x after)
+    (sym (same start)) (is start rest x after (sym (same (start ++ rest)) ∙ e))
+
+unnamed : {A : Type 0} (r : Result (A × List ℕ) CertificateFault) → r ≡ (r >>= named (λ x. x))
+unnamed (Ok x) = refl
+unnamed (Err fault) = refl
+
+pub after_unnamed : {A B : Type 0} (r : Result (A × List ℕ) CertificateFault)
+    (next : A → List ℕ → Result (B × List ℕ) CertificateFault)
+    → (r >>= λ x. next x.0 x.1) ≡ (r >>= λ x. next x.0 x.1 >>= named (λ y. y))
+after_unnamed (Ok x) next = unnamed (next x.0 x.1)
+after_unnamed (Err fault) next = refl
+
+-- one thing, and then all others together
+tail_step : {A C : Type 0} (n : A → ℕ) (m lines : C → ℕ)
+    → ((x : A) (z : C) → lines z ≡ n x + m z)
+    → (line : ℕ) (read : List ℕ → Result (A × List ℕ) CertificateFault)
+    (next : A → List ℕ → Result (C × List ℕ) CertificateFault)
+    → IsStep n line read → ((x : A) → IsStep m (line + n x) (next x))
+    → IsStep lines line (λ text. read text >>= λ x. next x.0 x.1)
+tail_step {A} {C} n m lines count line read next one two =
+    same_step lines line (λ text. read text >>= λ x. next x.0 x.1)
+    (λ text. read text >>= λ x. next x.0 x.1 >>= named (λ y. y))
+    (λ text. after_unnamed (read text) next)
+    (then_step n m lines (λ x z. z) count line read next one two)
+
 -- some lines, and then all that is left
 then_last : {A B : Type 0} (n : A → ℕ) (line : ℕ)
     (read : List ℕ → Result (A × List ℕ) CertificateFault)
@@ -254,41 +287,6 @@ fixed_last {A} line piece next last start rest y e some = go (first_cases line s
         ∙ ap (λ t. cond t (Ok h.left) (Err (Syntax line)) >>= next) g.0
         ∙ last h.left rest y (ap next g.1 ∙ a.2) some ∙ ap (λ (l : ℕ). Err (Syntax l)) same
 
--- a line that is given, and what is read after it
-fixed_step : {A : Type 0} (n m : A → ℕ) (line : ℕ) (piece : List ℕ)
-    (next : List ℕ → Result (A × List ℕ) CertificateFault) → ((x : A) → n x ≡ 1 + m x)
-    → IsStep m (line + 1) next → IsStep n line (λ text. fixed_at line piece text >>= next)
-unfolding fixed_at
-fixed_step {A} n m line piece next count step start rest x after e = go (first_cases line start rest)
-  where
-    go : HasFirst line start rest ⊎ (line_at line start ≡ cut line start)
-        → Goes (n x) line (after_fixed line piece next (line_at line start)) start rest x after
-    go (inr fails) = inr (ap (after_fixed line piece next) fails)
-    go (inl h) =
-        let a = bind_ok (cond (is_text piece h.first) (Ok (h.left ++ rest))
-        (Err (Syntax line))) next (x, after) (sym (ap (after_fixed line piece next) h.there) ∙ e) in
-        let g = guard_ok (is_text piece h.first) (Syntax line) (h.left ++ rest) a.0 a.1 in
-        more g.0 (step h.left rest x after (ap next g.1 ∙ a.2))
-      where
-        either : after_fixed line piece next (line_at line start) ≡ next h.left
-            → Goes (m x) (line + 1) (next h.left) h.left rest x after
-            → Goes (n x) line (after_fixed line piece next (line_at line start)) start rest x after
-        either here (inl k) = let c = count x in let one = h.one in let f = k.3 in
-            inl (k.0, here ∙ k.1, k.2, omega (arith, c, one, f))
-        either here (inr k) =
-            let same : line + 1 + line_feeds h.left ≡ line + line_feeds start =
-            (let one = h.one in omega (arith, one)) in
-            inr (here ∙ k ∙ ap (λ (l : ℕ). Err (Syntax l)) same)
-
-        more : is_text piece h.first ≡ true
-            → Goes (m x) (line + 1) (next h.left) h.left rest x after
-            → Goes (n x) line (after_fixed line piece next (line_at line start)) start rest x after
-        more is k =
-            let here : after_fixed line piece next (line_at line start) ≡ next h.left =
-            ap (after_fixed line piece next) h.here
-            ∙ ap (λ t. cond t (Ok h.left) (Err (Syntax line)) >>= next) is in
-            either here k
-
 -- the end, with nothing behind it
 end_last : (line : ℕ) → IsLast line (end_at line)
 unfolding end_at
@@ -318,11 +316,27 @@ number_step line piece =
     (λ first. number_behind line piece first.0 >>= λ n. Ok (n, first.1)) (λ n. refl)
     (λ first. word_step (line + 1) (number_behind line piece first))
 
+version_step : (line : ℕ) → IsStep (λ version. 1) line (version_at line)
+unfolding version_at
+version_step line = line_step (λ version. 1) (λ version. 0) line
+    (λ first. version_in line first.0 >>= λ version. Ok (version, first.1)) (λ version. refl)
+    (λ first. word_step (line + 1) (version_in line first))
+
 kind_step : (line : ℕ) → IsStep (λ kind. 1) line (kind_at line)
 unfolding kind_at
 kind_step line = line_step (λ kind. 1) (λ kind. 0) line
     (λ first. kind_in line first.0 >>= λ kind. Ok (kind, first.1)) (λ kind. refl)
     (λ first. word_step (line + 1) (kind_in line first))
+
+-- the digits of a state are read in as many lines as they are said in
+width_step : (version : Version) (line : ℕ)
+    → IsStep (λ width. length (width_text version width)) line (width_at version line)
+unfolding width_at
+width_step One line = given_step (λ width. length (width_text One width)) line version_1_digits refl
+width_step Two line =
+    line_step (λ width. length (width_text Two width)) (λ width. 0) line
+    (λ first. width_in line first.0 >>= λ width. Ok (width, first.1)) (λ width. refl)
+    (λ first. word_step (line + 1) (width_in line first))
 
 -- what is stated is read in as many lines as it is said in
 stated_step : (line : ℕ)
@@ -331,20 +345,42 @@ unfolding stated_at
 stated_step line = given_step (λ (stated : Stated). length (stated_text stated)) line
     (record { choice = Plain }) refl
 
-abbrev pub spelling_with : Kind → Stated → Spelling
-spelling_with kind stated = record { kind = kind; version = One; width = version_1_digits; stated = stated }
+-- how many lines say the digits of a state and what is stated besides
+abbrev pub stated_lines : Spelling → ℕ
+stated_lines spelling =
+    length (width_text spelling.version spelling.width ++ stated_text spelling.stated)
+
+abbrev pub width_then : Version → Kind → List ℕ → Result (Spelling × List ℕ) CertificateFault
+width_then version kind text =
+    width_at version 3 text
+    >>= λ width. stated_at (3 + length (width_text version width.0)) width.1
+    >>= λ stated. Ok (spelling_with version kind width.0 stated.0, stated.1)
+
+abbrev pub kind_then : Version → List ℕ → Result (Spelling × List ℕ) CertificateFault
+kind_then version text = kind_at 2 text >>= λ kind. width_then version kind.0 kind.1
+
+width_then_step : (version : Version) (kind : Kind)
+    → IsStep stated_lines 3 (width_then version kind)
+width_then_step version kind =
+    then_step (λ width. length (width_text version width))
+    (λ (stated : Stated). length (stated_text stated)) stated_lines (spelling_with version kind)
+    (λ width stated. length-append (width_text version width) (stated_text stated)) 3
+    (width_at version 3)
+    (λ width text. stated_at (3 + length (width_text version width)) text) (width_step version 3)
+    (λ width. stated_step (3 + length (width_text version width)))
+
+kind_then_step : (version : Version)
+    → IsStep (λ (spelling : Spelling). 1 + stated_lines spelling) 2 (kind_then version)
+kind_then_step version =
+    tail_step (λ kind. 1) stated_lines (λ (spelling : Spelling). 1 + stated_lines spelling)
+    (λ kind spelling. refl) 2 (kind_at 2) (width_then version) (kind_step 2)
+    (λ kind. width_then_step version kind)
 
 head_step : IsStep head_lines 1 head_at
 unfolding head_at
 head_step =
-    fixed_step head_lines (λ (spelling : Spelling). 1 + length (stated_text spelling.stated)) 1
-    (version_line One)
-    (λ rest. kind_at 2 rest >>= λ kind. stated_at 3 kind.1
-    >>= λ stated. Ok (spelling_with kind.0 stated.0, stated.1)) (λ spelling. omega arith)
-    (then_step (λ kind. 1) (λ (stated : Stated). length (stated_text stated))
-    (λ (spelling : Spelling). 1 + length (stated_text spelling.stated)) spelling_with
-    (λ kind stated. refl) 2 (kind_at 2) (λ kind text. stated_at 3 text) (kind_step 2)
-    (λ kind. stated_step 3))
+    tail_step (λ version. 1) (λ (spelling : Spelling). 1 + stated_lines spelling) head_lines
+    (λ version spelling. omega arith) 1 (version_at 1) kind_then (version_step 1) kind_then_step
 
 weight_step : (line : ℕ) → IsStep (λ weight. 1) line (weight_at line)
 unfolding weight_at
@@ -353,11 +389,11 @@ weight_step line =
     (λ first. weight_in line first.0 >>= λ weight. Ok (weight, first.1)) (λ weight. refl)
     (λ first. word_step (line + 1) (weight_in line first))
 
-row_step : (line : ℕ) → IsStep (λ row. 1) line (row_at line)
+row_step : (width line : ℕ) → IsStep (λ row. 1) line (row_at width line)
 unfolding row_at
-row_step line = line_step (λ row. 1) (λ row. 0) line
-    (λ first. row_in line first.0 >>= λ row. Ok (row, first.1)) (λ row. refl)
-    (λ first. word_step (line + 1) (row_in line first))
+row_step width line = line_step (λ row. 1) (λ row. 0) line
+    (λ first. row_in width line first.0 >>= λ row. Ok (row, first.1)) (λ row. refl)
+    (λ first. word_step (line + 1) (row_in width line first))
 
 pub one_more : {A : Type 0} (x : A) (xs : List A) → length (x ∷ xs) ≡ 1 + length xs
 one_more x xs = omega arith
@@ -371,14 +407,15 @@ actions_step (suc count) line =
     line (number_at line []) (λ action text. actions_at count (line + 1) text) (number_step line [])
     (λ action. actions_step count (line + 1))
 
-rows_step : (count line : ℕ) → IsStep (λ rows. length rows) line (rows_at count line)
+rows_step : (width count line : ℕ)
+    → IsStep (λ rows. length rows) line (rows_at width count line)
 unfolding rows_at
-rows_step zero line = given_step (λ rows. length rows) line [] refl
-rows_step (suc count) line =
+rows_step width zero line = given_step (λ rows. length rows) line [] refl
+rows_step width (suc count) line =
     then_step (λ row. 1) (λ rows. length rows) (λ rows. length rows)
     (λ row rows. row ∷ rows) one_more
-    line (row_at line) (λ row text. rows_at count (line + 1) text) (row_step line)
-    (λ row. rows_step count (line + 1))
+    line (row_at width line) (λ row text. rows_at width count (line + 1) text) (row_step width line)
+    (λ row. rows_step width count (line + 1))
 
 abbrev pub lines_of : Plan → ℕ
 lines_of plan = length plan.actions + 1
@@ -426,16 +463,16 @@ plan_step line = line_step plan_lines later_lines line (plan_after line) count l
         (λ count text. steps_at count (line + 1) text
         >>= λ plan. Ok (Some plan.0, plan.1)) stated)
 
-body_last : (line : ℕ) → IsLast line (body_at line)
+body_last : (width line : ℕ) → IsLast line (body_at width line)
 unfolding body_at
-body_last line =
+body_last width line =
     then_last (λ count. 1) line (number_at line (codes "rows "))
-    (λ count text. rows_at count (line + 1) text
+    (λ count text. rows_at width count (line + 1) text
     >>= λ rows. end_at (line + 1 + length rows.0) rows.1 >>= λ ended. Ok rows.0)
     (number_step line (codes "rows "))
-    (λ count. then_last (λ rows. length rows) (line + 1) (rows_at count (line + 1))
+    (λ count. then_last (λ rows. length rows) (line + 1) (rows_at width count (line + 1))
     (λ rows text. end_at (line + 1 + length rows) text >>= λ ended. Ok rows)
-    (rows_step count (line + 1))
+    (rows_step width count (line + 1))
     (λ rows. named_last (line + 1 + length rows) (end_at (line + 1 + length rows)) (λ ended. rows)
     (end_last (line + 1 + length rows))))
 
@@ -454,18 +491,18 @@ text_last =
     then_last head_lines 1 head_at
     (λ head rest. weight_at (weight_line head) rest
     >>= λ weight. plan_at (weight_line head + 1) weight.1
-    >>= λ plan. body_at (weight_line head + 1 + plan_lines plan.0) plan.1
+    >>= λ plan. body_at head.width (weight_line head + 1 + plan_lines plan.0) plan.1
     >>= λ rows. Ok (text_with head weight.0 plan.0 rows)) head_step
     (λ head. then_last (λ weight. 1) (weight_line head) (weight_at (weight_line head))
     (λ weight rest. plan_at (weight_line head + 1) rest
-    >>= λ plan. body_at (weight_line head + 1 + plan_lines plan.0) plan.1
+    >>= λ plan. body_at head.width (weight_line head + 1 + plan_lines plan.0) plan.1
     >>= λ rows. Ok (text_with head weight plan.0 rows)) (weight_step (weight_line head))
     (λ weight. then_last plan_lines (weight_line head + 1) (plan_at (weight_line head + 1))
-    (λ plan rest. body_at (weight_line head + 1 + plan_lines plan) rest
+    (λ plan rest. body_at head.width (weight_line head + 1 + plan_lines plan) rest
     >>= λ rows. Ok (text_with head weight plan rows)) (plan_step (weight_line head + 1))
     (λ plan. named_last (weight_line head + 1 + plan_lines plan)
-    (body_at (weight_line head + 1 + plan_lines plan)) (text_with head weight plan)
-    (body_last (weight_line head + 1 + plan_lines plan)))))
+    (body_at head.width (weight_line head + 1 + plan_lines plan)) (text_with head weight plan)
+    (body_last head.width (weight_line head + 1 + plan_lines plan)))))
 
 pub cut_certificates_are_refused : CutCertificatesAreRefused
 unfolding checked

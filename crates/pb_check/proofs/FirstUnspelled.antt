@@ -1,34 +1,36 @@
 -- The line in which a text stops being a certificate's is the first with which none goes on.
-use Rattle.std.proofs.Common.{◌≡◌, ◌⊎◌, inl, inr, ℕ, zero, suc, ◌+◌, ◌<◌, Bool, true, false, not, cond, eqb, Option, None, Some, List, [], ◌∷◌, ◌++◌, length, Result, Ok, Err, refl, sym, ap, ◌∙◌, subst, arith, append_assoc}
+use Rattle.std.proofs.Common.{◌≡◌, inl, ℕ, zero, suc, ◌+◌, ◌^◌, ◌<◌, ◌≤◌, Bool, true, false, not, cond, eqb, leb, ◌&&◌, Option, None, Some, List, [], ◌∷◌, ◌++◌, length, Result, Ok, Err, refl, sym, ap, ◌∙◌, subst, arith, append_assoc, length-append, lit<}
+use Rattle.std.proofs.Math.Nat.{one-le-pow}
 use Rattle.std.specs.Prelude.{codes}
 use Rattle.std.specs.Fmt.{decimal}
 use Rattle.std.proofs.lemmas.Bool.{and_from, and_parts}
 use Rattle.std.proofs.lemmas.Bool.Decides.{nat_tests}
 use Rattle.std.proofs.lemmas.List.Sums.{sum_by-cons}
-use Rattle.pb_packed.specs.Sizes.{version_1_digits}
+use Rattle.pb_packed.specs.Sizes.{version_1_digits, most_digits}
 use Rattle.pb_model.specs.Weight.{Weight}
 use Rattle.pb_model.specs.Plan.{Plan}
-use Rattle.pb_model.specs.Certificate.{Line, Certificate}
+use Rattle.pb_model.specs.Certificate.{Line}
 use Rattle.pb_model.specs.Texts as texts
 use Rattle.pb_task.specs.declared.kind.Kind.{Kind}
 use Rattle.pb_task.specs.declared.kind.Kind.TheVariants.{Grid, Tiles, Strips}
 use Rattle.pb_estimate.specs.declared.choice.Choice.TheVariants.{Plain}
 use Rattle.pb_estimate.specs.declared.spelling.Stated.{Stated}
 use Rattle.pb_estimate.specs.declared.spelling.Spelling.{Spelling}
-use Rattle.pb_estimate.specs.declared.spelling.Version.TheVariants.{One}
-use Rattle.pb_estimate.specs.Spelling.{version_line, kind_line, stated_text, head_lines}
+use Rattle.pb_estimate.specs.declared.spelling.Version.{Version}
+use Rattle.pb_estimate.specs.declared.spelling.Version.TheVariants.{One, Two}
+use Rattle.pb_estimate.specs.Spelling.{version_line, kind_line, width_text, stated_text, head_lines}
 use Rattle.pb_lines.specs.Words.{part, behind, is_text, number_of, has_none, line_feeds}
 use Rattle.pb_lines.proofs.Callers.{part_is, part_none, no_feed, none_both, number_word, number_none, text_again}
 use Rattle.pb_check.specs.declared.fault.CertificateFault.{CertificateFault}
 use Rattle.pb_check.specs.declared.fault.CertificateFault.TheVariants.{Syntax}
 use Rattle.pb_check.specs.Faults.{◌>>=◌, wanted}
 use Rattle.pb_check.specs.Words.{state_of}
-use Rattle.pb_check.specs.Reading.{line_at, number_behind, kind_in, weight_in, closed_in, row_in, fixed_at, number_at, kind_at, stated_at, head_at, weight_at, row_at, actions_at, rows_at, steps_at, plan_at, plan_lines, weight_line, first_line, Text, end_at, body_at, text_of}
+use Rattle.pb_check.specs.Reading.{line_at, number_behind, version_in, kind_in, width_in, weight_in, closed_in, row_in, fixed_at, number_at, version_at, kind_at, width_at, stated_at, head_at, weight_at, row_at, actions_at, rows_at, steps_at, plan_at, plan_lines, weight_line, Text, end_at, body_at, text_of}
 use Rattle.pb_check.specs.Spelling.{IsSpelled}
-use Rattle.pb_check.specs.Cases.{MayBegin, IsSyntaxFault}
-use Rattle.pb_check.proofs.Cuts.{spelling_with, lines_of, later_lines, text_with, one_more}
-use Rattle.pb_check.proofs.Lines.{IsWeightLine}
-use Rattle.pb_check.proofs.Readable.{behind_number_word_read, kind_again, kind_none, weight_again, weight_none, row_again, row_none}
+use Rattle.pb_check.specs.Cases.{IsSyntaxFault}
+use Rattle.pb_check.proofs.Cuts.{after_unnamed, stated_lines, width_then, kind_then, lines_of, later_lines, text_with, one_more}
+use Rattle.pb_check.proofs.Lines.{spelling_with, IsWeightLine}
+use Rattle.pb_check.proofs.Readable.{behind_number_word_read, version_again, version_none, kind_again, kind_none, width_words, width_again, width_none, weight_again, weight_none, row_again, row_none}
 use Rattle.pb_check.proofs.Written.{line_of_row, read_as_spelled, read_of}
 use Rattle.pb_check.proofs.FirstLines.{named, IsReader, IsLastReader, IsAt, Stops, IsWhole, given, at_ok, at_wanted, at_next, at_either, same_reader, same_last, line_reader, then_reader, named_reader, then_last, named_last}
 
@@ -45,6 +47,19 @@ at_test {A} line false x fault e = same (Syntax line) fault e
   where
     same : (d f : CertificateFault) → ◌≡◌ {A = Result A CertificateFault} (Err d) (Err f) → f ≡ d
     same d f e = cc
+
+at_version : (line : ℕ) (text : List ℕ) → IsAt line (version_in line text)
+unfolding version_in
+at_version line text =
+    at_either line (is_text (version_line One) text) (Ok One)
+    (cond (is_text (version_line Two) text) (Ok Two) (Err (Syntax line))) (at_ok line One)
+    (at_test line (is_text (version_line Two) text) Two)
+
+at_width : (line : ℕ) (text : List ℕ) → IsAt line (width_in line text)
+unfolding width_in
+at_width line text =
+    at_next line (number_behind line (codes "width ") text) _ (at_number line (codes "width ") text)
+    (λ width. at_test line (leb 1 width && leb width most_digits) width)
 
 at_kind : (line : ℕ) (text : List ℕ) → IsAt line (kind_in line text)
 unfolding kind_in
@@ -73,12 +88,12 @@ at_weight line text =
     at_next line (wanted line (number_of parts.1)) _ (at_wanted line (number_of parts.1)) (λ den.
     at_ok line (record { num = num; den = den })))))
 
-at_row : (line : ℕ) (text : List ℕ) → IsAt line (row_in line text)
+at_row : (width line : ℕ) (text : List ℕ) → IsAt line (row_in width line text)
 unfolding row_in
-at_row line text =
+at_row width line text =
     at_next line (wanted line (part 32 text)) _ (at_wanted line (part 32 text)) (λ front.
     at_next line (wanted line (part 32 front.1)) _ (at_wanted line (part 32 front.1)) (λ back.
-    at_next line (wanted line (state_of front.0)) _ (at_wanted line (state_of front.0)) (λ state.
+    at_next line (wanted line (state_of width front.0)) _ (at_wanted line (state_of width front.0)) (λ state.
     at_next line (wanted line (number_of back.0)) _ (at_wanted line (number_of back.0)) (λ g.
     at_next line (closed_in line back.1) _ (at_closed line back.1) (λ is_closed.
     at_ok line (record { state = state; g = g; is_closed = is_closed }))))))
@@ -109,6 +124,21 @@ number_reader line piece none =
     let zero = nought line piece none in
     word_reader line (number_behind line piece) (at_number line piece) (piece ++ decimal 0) 0
     zero.0 zero.1
+
+version_reader : (line : ℕ) → IsReader (λ version. 1) line (version_at line)
+unfolding version_at
+version_reader line =
+    word_reader line (version_in line) (at_version line) (version_line One) One (version_none One)
+    (version_again line One)
+
+width_reader : (version : Version) (line : ℕ)
+    → IsReader (λ width. length (width_text version width)) line (width_at version line)
+unfolding width_at
+width_reader One line =
+    given (λ width. length (width_text One width)) line version_1_digits refl
+width_reader Two line =
+    word_reader line (width_in line) (at_width line) (width_words 1) 1
+    (width_none 1 (omega arith, omega arith)) (width_again line 1 (omega arith, omega arith))
 
 kind_reader : (line : ℕ) → IsReader (λ kind. 1) line (kind_at line)
 unfolding kind_at
@@ -143,13 +173,15 @@ weight_reader line =
       den_is = number_word (decimal 1) 1 refl (omega arith);
     }
 
-row_reader : (line : ℕ) → IsReader (λ row. 1) line (row_at line)
+row_reader : (width line : ℕ) → IsReader (λ row. 1) line (row_at width line)
 unfolding row_at
-row_reader line =
+row_reader width line =
     let row : Line = record { state = 0; g = 0; is_closed = true } in
-    let is = line_of_row row (omega arith, omega arith) in
-    word_reader line (row_in line) (at_row line) (texts.line_text version_1_digits row) row
-    (row_none (texts.line_text version_1_digits row) row is) (row_again line (texts.line_text version_1_digits row) row is)
+    let text : List ℕ = texts.line_text width row in
+    let some : 1 ≤ 16 ^ width = one-le-pow width 16 (lit< tt) in
+    let is = line_of_row width row (omega (arith, some), omega arith) in
+    word_reader line (row_in width line) (at_row width line) text row (row_none width text row is)
+    (row_again width line text row is)
 
 -- a line that is given
 abbrev fixed_line : (line : ℕ) → (piece : List ℕ) → List ℕ → Result (Bool × List ℕ) CertificateFault
@@ -191,39 +223,42 @@ fixed_is {A} line piece text next = go (line_at line text)
 
 -- ---- the head
 
-abbrev kind_then : List ℕ → Result (Spelling × List ℕ) CertificateFault
-kind_then rest = kind_at 2 rest
-    >>= λ kind. stated_at 3 kind.1 >>= named (spelling_with kind.0)
+-- one thing, and then all others together
+tail_reader : {A C : Type 0} (n : A → ℕ) (m lines : C → ℕ)
+    → ((x : A) (z : C) → lines z ≡ n x + m z)
+    → (line : ℕ) (read : List ℕ → Result (A × List ℕ) CertificateFault)
+    (next : A → List ℕ → Result (C × List ℕ) CertificateFault)
+    → IsReader n line read → ((x : A) → IsReader m (line + n x) (next x))
+    → IsReader lines line (λ text. read text >>= λ x. next x.0 x.1)
+tail_reader {A} {C} n m lines count line read next one two =
+    same_reader lines line (λ text. read text >>= λ x. next x.0 x.1)
+    (λ text. read text >>= λ x. next x.0 x.1 >>= named (λ y. y))
+    (λ text. after_unnamed (read text) next)
+    (then_reader n m lines (λ x z. z) count line read next one two)
 
-kind_then_reader : IsReader (λ (spelling : Spelling). 1 + length (stated_text spelling.stated)) 2
-    kind_then
-kind_then_reader =
-    then_reader (λ kind. 1) (λ (stated : Stated). length (stated_text stated))
-    (λ (spelling : Spelling). 1 + length (stated_text spelling.stated)) spelling_with
-    (λ kind stated. refl) 2 (kind_at 2) (λ kind text. stated_at 3 text) (kind_reader 2)
-    (λ kind. stated_reader 3)
+width_then_reader : (version : Version) (kind : Kind)
+    → IsReader stated_lines 3 (width_then version kind)
+width_then_reader version kind =
+    then_reader (λ width. length (width_text version width))
+    (λ (stated : Stated). length (stated_text stated)) stated_lines (spelling_with version kind)
+    (λ width stated. length-append (width_text version width) (stated_text stated)) 3
+    (width_at version 3)
+    (λ width text. stated_at (3 + length (width_text version width)) text)
+    (width_reader version 3) (λ width. stated_reader (3 + length (width_text version width)))
 
-unnamed : {A : Type 0} (r : Result (A × List ℕ) CertificateFault) → r ≡ (r >>= named (λ x. x))
-unnamed (Ok x) = refl
-unnamed (Err fault) = refl
-
-after_unnamed : {A B : Type 0} (r : Result (A × List ℕ) CertificateFault)
-    (f : List ℕ → Result (B × List ℕ) CertificateFault)
-    → (r >>= λ x. f x.1) ≡ (r >>= λ x. f x.1 >>= named (λ y. y))
-after_unnamed (Ok x) f = unnamed (f x.1)
-after_unnamed (Err fault) f = refl
+kind_then_reader : (version : Version)
+    → IsReader (λ (spelling : Spelling). 1 + stated_lines spelling) 2 (kind_then version)
+kind_then_reader version =
+    tail_reader (λ kind. 1) stated_lines (λ (spelling : Spelling). 1 + stated_lines spelling)
+    (λ kind spelling. refl) 2 (kind_at 2) (width_then version) (kind_reader 2)
+    (λ kind. width_then_reader version kind)
 
 head_reader : IsReader head_lines 1 head_at
 unfolding head_at
 head_reader =
-    same_reader head_lines 1 head_at
-    (λ text. fixed_line 1 (version_line One) text >>= λ x. kind_then x.1 >>= named (λ y. y))
-    (λ text. fixed_is 1 (version_line One) text kind_then
-    ∙ after_unnamed (fixed_line 1 (version_line One) text) kind_then)
-    (then_reader (λ (b : Bool). 1)
-    (λ (spelling : Spelling). 1 + length (stated_text spelling.stated)) head_lines
-    (λ b spelling. spelling) (λ b spelling. omega arith) 1 (fixed_line 1 (version_line One))
-    (λ b. kind_then) (fixed_reader 1 (version_line One) refl) (λ b. kind_then_reader))
+    tail_reader (λ version. 1) (λ (spelling : Spelling). 1 + stated_lines spelling) head_lines
+    (λ version spelling. omega arith) 1 (version_at 1) kind_then (version_reader 1)
+    kind_then_reader
 
 -- ---- the plan and the rows
 
@@ -237,14 +272,15 @@ actions_reader (suc count) line =
     line (number_at line []) (λ action text. actions_at count (line + 1) text)
     (number_reader line [] refl) (λ action. actions_reader count (line + 1))
 
-rows_reader : (count line : ℕ) → IsReader (λ rows. length rows) line (rows_at count line)
+rows_reader : (width count line : ℕ)
+    → IsReader (λ rows. length rows) line (rows_at width count line)
 unfolding rows_at
-rows_reader zero line = given (λ rows. length rows) line [] refl
-rows_reader (suc count) line =
+rows_reader width zero line = given (λ rows. length rows) line [] refl
+rows_reader width (suc count) line =
     then_reader (λ row. 1) (λ rows. length rows) (λ rows. length rows)
     (λ row rows. row ∷ rows) one_more
-    line (row_at line) (λ row text. rows_at count (line + 1) text) (row_reader line)
-    (λ row. rows_reader count (line + 1))
+    line (row_at width line) (λ row text. rows_at width count (line + 1) text)
+    (row_reader width line) (λ row. rows_reader width count (line + 1))
 
 steps_reader : (count line : ℕ) → IsReader lines_of line (steps_at count line)
 unfolding steps_at
@@ -374,16 +410,16 @@ end_last line =
     (λ b rest. cond (eqb (length rest) 0) (Ok true) (Err (Syntax (line + 1))))
     (fixed_reader line (codes "end") refl) (λ b. nothing_last (line + 1)))
 
-body_last : (line : ℕ) → IsLastReader line (body_at line)
+body_last : (width line : ℕ) → IsLastReader line (body_at width line)
 unfolding body_at
-body_last line =
+body_last width line =
     then_last (λ count. 1) line (number_at line (codes "rows "))
-    (λ count text. rows_at count (line + 1) text
+    (λ count text. rows_at width count (line + 1) text
     >>= λ rows. end_at (line + 1 + length rows.0) rows.1 >>= λ ended. Ok rows.0)
     (number_reader line (codes "rows ") refl)
-    (λ count. then_last (λ rows. length rows) (line + 1) (rows_at count (line + 1))
+    (λ count. then_last (λ rows. length rows) (line + 1) (rows_at width count (line + 1))
     (λ rows text. end_at (line + 1 + length rows) text >>= λ ended. Ok rows)
-    (rows_reader count (line + 1))
+    (rows_reader width count (line + 1))
     (λ rows. named_last (line + 1 + length rows) (end_at (line + 1 + length rows)) (λ ended. rows)
     (end_last (line + 1 + length rows))))
 
@@ -393,18 +429,18 @@ text_last =
     then_last head_lines 1 head_at
     (λ head rest. weight_at (weight_line head) rest
     >>= λ weight. plan_at (weight_line head + 1) weight.1
-    >>= λ plan. body_at (weight_line head + 1 + plan_lines plan.0) plan.1
+    >>= λ plan. body_at head.width (weight_line head + 1 + plan_lines plan.0) plan.1
     >>= λ rows. Ok (text_with head weight.0 plan.0 rows)) head_reader
     (λ head. then_last (λ weight. 1) (weight_line head) (weight_at (weight_line head))
     (λ weight rest. plan_at (weight_line head + 1) rest
-    >>= λ plan. body_at (weight_line head + 1 + plan_lines plan.0) plan.1
+    >>= λ plan. body_at head.width (weight_line head + 1 + plan_lines plan.0) plan.1
     >>= λ rows. Ok (text_with head weight plan.0 rows)) (weight_reader (weight_line head))
     (λ weight. then_last plan_lines (weight_line head + 1) (plan_at (weight_line head + 1))
-    (λ plan rest. body_at (weight_line head + 1 + plan_lines plan) rest
+    (λ plan rest. body_at head.width (weight_line head + 1 + plan_lines plan) rest
     >>= λ rows. Ok (text_with head weight plan rows)) (plan_reader (weight_line head + 1))
     (λ plan. named_last (weight_line head + 1 + plan_lines plan)
-    (body_at (weight_line head + 1 + plan_lines plan)) (text_with head weight plan)
-    (body_last (weight_line head + 1 + plan_lines plan)))))
+    (body_at head.width (weight_line head + 1 + plan_lines plan)) (text_with head weight plan)
+    (body_last head.width (weight_line head + 1 + plan_lines plan)))))
 
 -- ---- the fault that is reported is the case
 

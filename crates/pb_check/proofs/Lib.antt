@@ -5,6 +5,7 @@ mod Loops
 mod Walks
 mod Finding
 mod Arrays
+mod FlatNumbers
 mod Passes
 mod Spelled
 mod Readable

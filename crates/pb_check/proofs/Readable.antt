@@ -1,10 +1,11 @@
 -- What is spelled so is read.
-use Rattle.std.proofs.Common.{◌≡◌, ℕ, ◌+◌, ◌*◌, ◌<◌, Bool, true, false, not, cond, eqb, ltb, Option, None, Some, List, [], ◌∷◌, ◌++◌, length, Result, Ok, Err, refl, sym, ap, ◌∙◌, arith}
-use Rattle.std.proofs.lemmas.Bool.{and_parts, and_from}
+use Rattle.std.proofs.Common.{◌≡◌, ℕ, ◌+◌, ◌*◌, ◌<◌, ◌≤◌, Bool, true, false, not, cond, eqb, ltb, leb, ◌&&◌, Option, None, Some, List, [], ◌∷◌, ◌++◌, length, Result, Ok, Err, refl, sym, ap, ◌∙◌, arith}
+use Rattle.std.proofs.lemmas.Bool.{and_parts, and_from, le-leb}
 use Rattle.std.specs.Prelude.{codes}
+use Rattle.std.specs.Fmt.{decimal}
 use Rattle.std.specs.List.{list_all}
 use Rattle.std.proofs.lemmas.Bool.Decides.{nat_tests}
-use Rattle.pb_packed.specs.Sizes.{version_1_digits}
+use Rattle.pb_packed.specs.Sizes.{version_1_digits, most_digits}
 use Rattle.pb_model.specs.Weight.{Weight}
 use Rattle.pb_model.specs.Plan.{Plan}
 use Rattle.pb_model.specs.Certificate.{Line}
@@ -16,17 +17,17 @@ use Rattle.pb_estimate.specs.declared.choice.Choice.TheVariants.{Plain}
 use Rattle.pb_estimate.specs.declared.spelling.Stated.{Stated}
 use Rattle.pb_estimate.specs.declared.spelling.Spelling.{Spelling}
 use Rattle.pb_estimate.specs.declared.spelling.Version.{Version}
-use Rattle.pb_estimate.specs.declared.spelling.Version.TheVariants.{One}
-use Rattle.pb_estimate.specs.Spelling.{IsWidthOf, IsSpelling, version_line, kind_line, choice_text, stated_text, head_of}
+use Rattle.pb_estimate.specs.declared.spelling.Version.TheVariants.{One, Two}
+use Rattle.pb_estimate.specs.Spelling.{IsWidthOf, IsSpelling, version_line, kind_line, width_text, choice_text, stated_text, head_of}
 use Rattle.pb_check.specs.declared.fault.CertificateFault.{CertificateFault}
 use Rattle.pb_check.specs.declared.fault.CertificateFault.TheVariants.{Syntax}
 use Rattle.pb_lines.specs.Words.{part, behind, is_text, number_of, has_none}
-use Rattle.pb_lines.proofs.Callers.{IsNumberWord, number_word_read, number_has_none, none_both, part_again, behind_again, text_again}
+use Rattle.pb_lines.proofs.Callers.{IsNumberWord, number_word, number_word_read, number_has_none, none_both, part_again, behind_again, text_again}
 use Rattle.pb_check.specs.Words.{hex_value, hex_after, state_of}
 use Rattle.pb_check.specs.Faults.{◌>>=◌, wanted}
-use Rattle.pb_check.specs.Reading.{line_at, number_behind, kind_in, weight_in, closed_in, row_in, fixed_at, number_at, kind_at, stated_at, head_at, weight_at, row_at, actions_at, rows_at, steps_at, plan_at, plan_lines, weight_line, first_line, Text, end_at, body_at, text_of}
-use Rattle.pb_check.proofs.Lines.{hex_value_after, IsStateWord, BeginsWith, BeginsWithNumber, closed_text, IsWeightLine, IsRowLine, AreActionLines, AreRowLines, ArePlanLines, Spells}
-use Rattle.pb_check.proofs.Spelled.{head_then}
+use Rattle.pb_check.specs.Reading.{line_at, number_behind, version_in, kind_in, width_in, weight_in, closed_in, row_in, fixed_at, number_at, version_at, kind_at, width_at, stated_at, head_at, weight_at, row_at, actions_at, rows_at, steps_at, plan_at, plan_lines, weight_line, first_line, Text, end_at, body_at, text_of}
+use Rattle.pb_check.proofs.Lines.{hex_value_after, IsStateWord, BeginsWith, BeginsWithNumber, closed_text, spelling_with, IsWeightLine, IsRowLine, AreActionLines, AreRowLines, ArePlanLines, Spells}
+use Rattle.pb_check.proofs.Spelled.{head_then, one_line, others_then}
 
 -- ---- states
 
@@ -37,9 +38,9 @@ hex_after_again n (b ∷ bs) digits =
     let c = and_parts (ltb (hex_value b) 16) (list_all (λ b. ltb (hex_value b) 16) bs) digits in
     ap (λ t. cond t (hex_after (n * 16 + hex_value b) bs) None) c.0 ∙ hex_after_again (n * 16 + hex_value b) bs c.1
 
-pub state_again : (word : List ℕ) (state : ℕ) → IsStateWord word state → state_of word ≡ Some state
-state_again word state is =
-    let e : eqb (length word) version_1_digits ≡ true = (let s = is.count in grind (arith, nat_tests, s)) in
+pub state_again : (width : ℕ) (word : List ℕ) (state : ℕ) → IsStateWord width word state → state_of width word ≡ Some state
+state_again width word state is =
+    let e : eqb (length word) width ≡ true = (let s = is.count in grind (arith, nat_tests, s)) in
     ap (λ t. cond t (hex_after 0 word) None) e ∙ hex_after_again 0 word is.digits ∙ ap (λ (k : ℕ). Some k) (sym is.value)
 
 -- ---- words have neither a space nor an end of a line
@@ -93,6 +94,32 @@ kind_none Grid = refl
 kind_none Tiles = refl
 kind_none Strips = refl
 
+pub version_again : (line : ℕ) (version : Version) → version_in line (version_line version) ≡ Ok version
+unfolding version_in behind
+version_again line One = refl
+version_again line Two = refl
+
+pub version_none : (version : Version) → has_none 10 (version_line version) ≡ true
+version_none One = refl
+version_none Two = refl
+
+-- the words of a line that says the digits of a state, in version 2
+abbrev pub width_words : (width : ℕ) → List ℕ
+width_words width = codes "width " ++ decimal width
+
+pub width_again : (line width : ℕ) → IsWidthOf Two width → width_in line (width_words width) ≡ Ok width
+unfolding width_in
+width_again line width known =
+    let small : width ≤ 256 = known.1 in
+    let number : IsNumberWord (decimal width) width = number_word (decimal width) width refl (omega (arith, small)) in
+    ap (λ r. r >>= λ k. cond (leb 1 k && leb k most_digits) (fine k) (Err (Syntax line))) (behind_number_word_read line (codes "width ") (decimal width) width number)
+    ∙ ap (λ b. cond b (fine width) (Err (Syntax line))) (and_from (leb 1 width) (leb width most_digits) (le-leb _ _ known.0) (le-leb _ _ known.1))
+
+pub width_none : (width : ℕ) → IsWidthOf Two width → has_none 10 (width_words width) ≡ true
+width_none width known =
+    let small : width ≤ 256 = known.1 in
+    none_both 10 (codes "width ") (decimal width) refl (number_has_none 10 (decimal width) (omega arith) (number_word (decimal width) width refl (omega (arith, small))).digits)
+
 closed_again : (line : ℕ) (c : Bool) → closed_in line (closed_text c) ≡ Ok c
 unfolding closed_in behind
 closed_again line true = refl
@@ -118,23 +145,23 @@ pub weight_none : (text : List ℕ) (w : Weight) → IsWeightLine text w → has
 weight_none text w is = ap (has_none 10) is.line_is
     ∙ none_both 10 (codes "weight ") (is.num ++ 32 ∷ is.den) refl (none_both 10 is.num (32 ∷ is.den) (number_has_none 10 is.num (omega arith) is.num_is.digits) (number_has_none 10 is.den (omega arith) is.den_is.digits))
 
-pub row_again : (line : ℕ) (text : List ℕ) (row : Line) → IsRowLine text row → row_in line text ≡ Ok row
+pub row_again : (width line : ℕ) (text : List ℕ) (row : Line) → IsRowLine width text row → row_in width line text ≡ Ok row
 unfolding row_in
-row_again line text row is =
+row_again width line text row is =
     let end_of = λ (state g : ℕ) (r : Result Bool CertificateFault). r >>= λ is_closed. fine_row state g is_closed in
     let g_of = λ (state : ℕ) (o : Option ℕ). wanted line o >>= λ g. end_of state g (closed_in line (closed_text row.is_closed)) in
     let state_of_word = λ (o : Option ℕ). wanted line o >>= λ state. g_of state (number_of is.g) in
-    let back_of = λ (o : Option (List ℕ × List ℕ)). wanted line o >>= λ back. wanted line (state_of is.state) >>= λ state. wanted line (number_of back.0) >>= λ g. end_of state g (closed_in line back.1) in
-    let front_of = λ (o : Option (List ℕ × List ℕ)). wanted line o >>= λ front. wanted line (part 32 front.1) >>= λ back. wanted line (state_of front.0) >>= λ state. wanted line (number_of back.0) >>= λ g. end_of state g (closed_in line back.1) in
-    ap (row_in line) is.line_is
+    let back_of = λ (o : Option (List ℕ × List ℕ)). wanted line o >>= λ back. wanted line (state_of width is.state) >>= λ state. wanted line (number_of back.0) >>= λ g. end_of state g (closed_in line back.1) in
+    let front_of = λ (o : Option (List ℕ × List ℕ)). wanted line o >>= λ front. wanted line (part 32 front.1) >>= λ back. wanted line (state_of width front.0) >>= λ state. wanted line (number_of back.0) >>= λ g. end_of state g (closed_in line back.1) in
+    ap (row_in width line) is.line_is
     ∙ ap front_of (part_again 32 is.state (is.g ++ 32 ∷ closed_text row.is_closed) (state_has_none 32 is.state (omega arith) is.state_is.digits))
     ∙ ap back_of (part_again 32 is.g (closed_text row.is_closed) (number_has_none 32 is.g (omega arith) is.g_is.digits))
-    ∙ ap state_of_word (state_again is.state row.state is.state_is)
+    ∙ ap state_of_word (state_again width is.state row.state is.state_is)
     ∙ ap (g_of row.state) (number_word_read is.g row.g is.g_is)
     ∙ ap (end_of row.state row.g) (closed_again line row.is_closed)
 
-pub row_none : (text : List ℕ) (row : Line) → IsRowLine text row → has_none 10 text ≡ true
-row_none text row is = ap (has_none 10) is.line_is
+pub row_none : (width : ℕ) (text : List ℕ) (row : Line) → IsRowLine width text row → has_none 10 text ≡ true
+row_none width text row is = ap (has_none 10) is.line_is
     ∙ none_both 10 is.state (32 ∷ (is.g ++ 32 ∷ closed_text row.is_closed)) (state_has_none 10 is.state (omega arith) is.state_is.digits)
     (none_both 10 is.g (32 ∷ closed_text row.is_closed) (number_has_none 10 is.g (omega arith) is.g_is.digits) (closed_none row.is_closed))
 
@@ -147,15 +174,15 @@ actions_again line text (action ∷ actions) rest is =
     ap (λ r. r >>= λ first. actions_at (length actions) (line + 1) first.1 >>= λ others. fine (first.0 ∷ others.0, others.1)) (number_line_again line [] text action is.0 refl is.1)
     ∙ ap (λ r. r >>= λ others. fine (action ∷ others.0, others.1)) (actions_again (line + 1) is.0 actions rest is.2)
 
-rows_again : (line : ℕ) (text : List ℕ) (rows : List Line) (rest : List ℕ) → AreRowLines text rows rest → rows_at (length rows) line text ≡ Ok (rows, rest)
+rows_again : (width line : ℕ) (text : List ℕ) (rows : List Line) (rest : List ℕ) → AreRowLines width text rows rest → rows_at width (length rows) line text ≡ Ok (rows, rest)
 unfolding rows_at row_at
-rows_again line text [] rest is = ap (λ (t : List ℕ). fine ([], t)) is
-rows_again line text (row ∷ rows) rest is =
-    let one : row_at line text ≡ Ok (row, is.1) =
-    ap (λ r. r >>= λ first. row_in line first.0 >>= λ row. fine (row, first.1)) (line_again line text is.0 is.1 is.2 (row_none is.0 row is.3))
-    ∙ ap (λ r. r >>= λ row. fine (row, is.1)) (row_again line is.0 row is.3) in
-    ap (λ r. r >>= λ first. rows_at (length rows) (line + 1) first.1 >>= λ others. fine (first.0 ∷ others.0, others.1)) one
-    ∙ ap (λ r. r >>= λ others. fine (row ∷ others.0, others.1)) (rows_again (line + 1) is.1 rows rest is.4)
+rows_again width line text [] rest is = ap (λ (t : List ℕ). fine ([], t)) is
+rows_again width line text (row ∷ rows) rest is =
+    let one : row_at width line text ≡ Ok (row, is.1) =
+    ap (λ r. r >>= λ first. row_in width line first.0 >>= λ row. fine (row, first.1)) (line_again line text is.0 is.1 is.2 (row_none width is.0 row is.3))
+    ∙ ap (λ r. r >>= λ row. fine (row, is.1)) (row_again width line is.0 row is.3) in
+    ap (λ r. r >>= λ first. rows_at width (length rows) (line + 1) first.1 >>= λ others. fine (first.0 ∷ others.0, others.1)) one
+    ∙ ap (λ r. r >>= λ others. fine (row ∷ others.0, others.1)) (rows_again width (line + 1) is.1 rows rest is.4)
 
 -- a text that begins otherwise is not this one
 plan_is_not_none : (word : List ℕ) → is_text (codes "none") (codes "plan " ++ word) ≡ false
@@ -180,11 +207,11 @@ plan_again line text (Some plan) rest is =
     ∙ ap after (behind_number_word_read line (codes "plan ") word (length plan.actions) is.2.1)
     ∙ ap (λ r. r >>= λ plan. fine (Some plan.0, plan.1)) steps
 
-body_again : (line : ℕ) (text row_part end_line : List ℕ) (rows : List Line) → BeginsWithNumber text (codes "rows ") (length rows) row_part → AreRowLines row_part rows end_line → BeginsWith end_line (codes "end") [] → body_at line text ≡ Ok rows
+body_again : (width line : ℕ) (text row_part end_line : List ℕ) (rows : List Line) → BeginsWithNumber text (codes "rows ") (length rows) row_part → AreRowLines width row_part rows end_line → BeginsWith end_line (codes "end") [] → body_at width line text ≡ Ok rows
 unfolding body_at end_at
-body_again line text row_part end_line rows count are end =
-    ap (λ r. r >>= λ count. rows_at count.0 (line + 1) count.1 >>= λ rows. end_at (line + 1 + length rows.0) rows.1 >>= λ ended. fine rows.0) (number_line_again line (codes "rows ") text (length rows) row_part refl count)
-    ∙ ap (λ r. r >>= λ rows. end_at (line + 1 + length rows.0) rows.1 >>= λ ended. fine rows.0) (rows_again (line + 1) row_part rows end_line are)
+body_again width line text row_part end_line rows count are end =
+    ap (λ r. r >>= λ count. rows_at width count.0 (line + 1) count.1 >>= λ rows. end_at (line + 1 + length rows.0) rows.1 >>= λ ended. fine rows.0) (number_line_again line (codes "rows ") text (length rows) row_part refl count)
+    ∙ ap (λ r. r >>= λ rows. end_at (line + 1 + length rows.0) rows.1 >>= λ ended. fine rows.0) (rows_again width (line + 1) row_part rows end_line are)
     ∙ ap (λ r. (r >>= λ rest. cond (eqb (length rest) 0) (Ok true) (Err (Syntax (line + 1 + length rows + 1)))) >>= λ ended. fine rows) (fixed_again (line + 1 + length rows) (codes "end") end_line [] end refl)
 
 -- ---- the head
@@ -196,38 +223,38 @@ stated_again line text stated rest is = go stated.choice is
     go : (choice : Choice) → text ≡ texts.lines (choice_text choice) ++ rest → ◌≡◌ {A = Result (Stated × List ℕ) CertificateFault} (Ok (record { choice = Plain }, text)) (Ok (record { choice = choice }, rest))
     go Plain is = ap (λ (t : List ℕ). fine (record { choice = Plain }, t)) is
 
+width_line_again : (version : Version) (width line : ℕ) (text rest : List ℕ) → IsWidthOf version width → text ≡ texts.lines (width_text version width) ++ rest → width_at version line text ≡ Ok (width, rest)
+unfolding width_at
+width_line_again One width line text rest known is = ap (λ (t : List ℕ). fine (version_1_digits, t)) is ∙ ap (λ (w : ℕ). fine (w, rest)) (sym known)
+width_line_again Two width line text rest known is =
+    ap (λ r. r >>= λ first. width_in line first.0 >>= λ w. fine (w, first.1)) (line_again line text (width_words width) rest (is ∙ one_line (width_words width) rest) (width_none width known))
+    ∙ ap (λ r. r >>= λ w. fine (w, rest)) (width_again line width known)
+
 pub head_again : (text : List ℕ) (spelling : Spelling) (rest : List ℕ) → IsSpelling spelling → text ≡ texts.lines (head_of spelling) ++ rest → head_at text ≡ Ok (spelling, rest)
-unfolding head_at kind_at
-head_again text spelling rest known is = go spelling.version spelling.width known is
-  where
-    kind : Kind
-    kind = spelling.kind
-
-    stated : Stated
-    stated = spelling.stated
-
-    behind_kind : List ℕ
-    behind_kind = texts.lines (stated_text stated) ++ rest
-
-    behind_version : List ℕ
-    behind_version = kind_line kind ++ 10 ∷ behind_kind
-
-    made : (width : ℕ) → Stated → Spelling
-    made width stated = record { kind = kind; version = One; width = width; stated = stated }
-
-    go : (version : Version) (width : ℕ) → IsWidthOf version width
-        → text ≡ texts.lines (version_line version ∷ kind_line kind ∷ stated_text stated) ++ rest
-        → head_at text ≡ Ok (record { kind = kind; version = version; width = width; stated = stated }, rest)
-    go One width known is =
-        let first : fixed_at 1 (version_line One) text ≡ Ok behind_version =
-        fixed_again 1 (version_line One) text behind_version (is ∙ head_then (version_line One) (kind_line kind) (texts.lines (stated_text stated)) rest) refl in
-        let second : kind_at 2 behind_version ≡ Ok (kind, behind_kind) =
-        ap (λ r. r >>= λ first. kind_in 2 first.0 >>= λ kind. fine (kind, first.1)) (line_again 2 behind_version (kind_line kind) behind_kind refl (kind_none kind))
-        ∙ ap (λ r. r >>= λ kind. fine (kind, behind_kind)) (kind_again 2 kind) in
-        ap (λ r. r >>= λ rest. kind_at 2 rest >>= λ kind. stated_at 3 kind.1 >>= λ stated. fine (record { kind = kind.0; version = One; width = version_1_digits; stated = stated.0 }, stated.1)) first
-        ∙ ap (λ r. r >>= λ kind. stated_at 3 kind.1 >>= λ stated. fine (record { kind = kind.0; version = One; width = version_1_digits; stated = stated.0 }, stated.1)) second
-        ∙ ap (λ r. r >>= λ stated. fine (made version_1_digits stated.0, stated.1)) (stated_again 3 behind_kind stated rest refl)
-        ∙ ap (λ (w : ℕ). fine (made w stated, rest)) (sym known)
+unfolding head_at version_at kind_at
+head_again text spelling rest known is =
+    let version : Version = spelling.version in
+    let kind : Kind = spelling.kind in
+    let width = spelling.width in
+    let stated : Stated = spelling.stated in
+    let line = 3 + length (width_text version width) in
+    let behind_width : List ℕ = texts.lines (stated_text stated) ++ rest in
+    let behind_kind : List ℕ = texts.lines (width_text version width) ++ behind_width in
+    let behind_version : List ℕ = kind_line kind ++ 10 ∷ behind_kind in
+    let begins : BeginsWith text (version_line version) behind_version =
+    is ∙ head_then (version_line version) (kind_line kind) (texts.lines (width_text version width ++ stated_text stated)) rest
+    ∙ ap (λ (t : List ℕ). version_line version ++ 10 ∷ (kind_line kind ++ 10 ∷ t)) (others_then (width_text version width) (stated_text stated) rest) in
+    let first : version_at 1 text ≡ Ok (version, behind_version) =
+    ap (λ r. r >>= λ first. version_in 1 first.0 >>= λ version. fine (version, first.1)) (line_again 1 text (version_line version) behind_version begins (version_none version))
+    ∙ ap (λ r. r >>= λ version. fine (version, behind_version)) (version_again 1 version) in
+    let second : kind_at 2 behind_version ≡ Ok (kind, behind_kind) =
+    ap (λ r. r >>= λ first. kind_in 2 first.0 >>= λ kind. fine (kind, first.1)) (line_again 2 behind_version (kind_line kind) behind_kind refl (kind_none kind))
+    ∙ ap (λ r. r >>= λ kind. fine (kind, behind_kind)) (kind_again 2 kind) in
+    let third : width_at version 3 behind_kind ≡ Ok (width, behind_width) = width_line_again version width 3 behind_kind behind_width known refl in
+    ap (λ r. r >>= λ v. kind_at 2 v.1 >>= λ k. width_at v.0 3 k.1 >>= λ w. stated_at (3 + length (width_text v.0 w.0)) w.1 >>= λ s. fine (spelling_with v.0 k.0 w.0 s.0, s.1)) first
+    ∙ ap (λ r. r >>= λ k. width_at version 3 k.1 >>= λ w. stated_at (3 + length (width_text version w.0)) w.1 >>= λ s. fine (spelling_with version k.0 w.0 s.0, s.1)) second
+    ∙ ap (λ r. r >>= λ w. stated_at (3 + length (width_text version w.0)) w.1 >>= λ s. fine (spelling_with version kind w.0 s.0, s.1)) third
+    ∙ ap (λ r. r >>= λ s. fine (spelling_with version kind width s.0, s.1)) (stated_again line behind_width stated rest refl)
 
 pub readable : (bytes : List ℕ) (text : Text) → Spells bytes text → text_of bytes ≡ Ok text
 unfolding text_of weight_at
@@ -240,9 +267,9 @@ readable bytes text is =
     ap (λ r. r >>= λ first. weight_in line first.0 >>= λ weight. fine (weight, first.1)) (line_again line is.weight_line is.weight_words is.plan_part is.weight.0 (weight_none is.weight_words c.weight is.weight.1))
     ∙ ap (λ r. r >>= λ weight. fine (weight, is.plan_part)) (weight_again line is.weight_words c.weight is.weight.1) in
     let plan : plan_at (line + 1) is.plan_part ≡ Ok (c.plan, is.count_line) = plan_again (line + 1) is.plan_part c.plan is.count_line is.plan in
-    let body : body_at (line + 1 + n) is.count_line ≡ Ok c.lines = body_again (line + 1 + n) is.count_line is.row_part is.end_line c.lines is.count is.rows is.end in
-    ap (λ r. r >>= λ head. weight_at (weight_line head.0) head.1 >>= λ weight. plan_at (weight_line head.0 + 1) weight.1 >>= λ plan. body_at (weight_line head.0 + 1 + plan_lines plan.0) plan.1 >>= λ rows. fine (record { spelling = head.0; certificate = record { weight = weight.0; plan = plan.0; lines = rows }; first = first_line head.0 plan.0 })) head
-    ∙ ap (λ r. r >>= λ weight. plan_at (line + 1) weight.1 >>= λ plan. body_at (line + 1 + plan_lines plan.0) plan.1 >>= λ rows. fine (record { spelling = text.spelling; certificate = record { weight = weight.0; plan = plan.0; lines = rows }; first = first_line text.spelling plan.0 })) weight
-    ∙ ap (λ r. r >>= λ plan. body_at (line + 1 + plan_lines plan.0) plan.1 >>= λ rows. fine (record { spelling = text.spelling; certificate = record { weight = c.weight; plan = plan.0; lines = rows }; first = first_line text.spelling plan.0 })) plan
+    let body : body_at text.spelling.width (line + 1 + n) is.count_line ≡ Ok c.lines = body_again text.spelling.width (line + 1 + n) is.count_line is.row_part is.end_line c.lines is.count is.rows is.end in
+    ap (λ r. r >>= λ head. weight_at (weight_line head.0) head.1 >>= λ weight. plan_at (weight_line head.0 + 1) weight.1 >>= λ plan. body_at head.0.width (weight_line head.0 + 1 + plan_lines plan.0) plan.1 >>= λ rows. fine (record { spelling = head.0; certificate = record { weight = weight.0; plan = plan.0; lines = rows }; first = first_line head.0 plan.0 })) head
+    ∙ ap (λ r. r >>= λ weight. plan_at (line + 1) weight.1 >>= λ plan. body_at text.spelling.width (line + 1 + plan_lines plan.0) plan.1 >>= λ rows. fine (record { spelling = text.spelling; certificate = record { weight = weight.0; plan = plan.0; lines = rows }; first = first_line text.spelling plan.0 })) weight
+    ∙ ap (λ r. r >>= λ plan. body_at text.spelling.width (line + 1 + plan_lines plan.0) plan.1 >>= λ rows. fine (record { spelling = text.spelling; certificate = record { weight = c.weight; plan = plan.0; lines = rows }; first = first_line text.spelling plan.0 })) plan
     ∙ ap (λ r. r >>= λ rows. fine (record { spelling = text.spelling; certificate = record { weight = c.weight; plan = c.plan; lines = rows }; first = first_line text.spelling c.plan })) body
     ∙ ap (λ (k : ℕ). fine (record { spelling = text.spelling; certificate = c; first = k })) (sym is.first)

@@ -1,9 +1,10 @@
--- States as four words of sixteen hexadecimal digits each.
-use Rattle.std.proofs.Common.{◌≡◌, ℕ, suc, ◌+◌, ◌*◌, ◌^◌, ◌<◌, ◌≤◌, Bool, true, false, cond, ltb, Option, None, Some, List, [], ◌∷◌, ◌++◌, length, get_or, drop, refl, sym, ap, ◌∙◌, arith, drop-cons, mul_assoc, mul_comm}
+-- States as words of sixteen hexadecimal digits each.
+use Rattle.std.proofs.Common.{lit<, ◌≡◌, ℕ, zero, suc, ◌+◌, ◌-◌, ◌*◌, ◌^◌, ◌<◌, ◌≤◌, Bool, true, false, cond, ltb, Option, None, Some, List, [], ◌∷◌, ◌++◌, length, get_or, take, drop, refl, sym, ap, ◌∙◌, subst, arith, drop-cons, mul_assoc, mul_comm}
 use Rattle.std.proofs.Math.Nat.{pow-suc, pow-le-pow_right}
-use Rattle.std.proofs.Math.ListN.{drop_of_length-le}
+use Rattle.std.proofs.Math.ListN.{drop_of_length-le, set, replicate}
+use Rattle.std.proofs.lemmas.List.{take-append-drop, drop-drop, length-drop, length-take-le, drop-set}
 use Rattle.std.specs.Option.{option_and_then, option_map}
-use Rattle.pb_packed.specs.Words.{number_of}
+use Rattle.pb_packed.specs.Words.{number_of, AreWords}
 use Rattle.pb_check.specs.Words.{hex_value, hex_after}
 
 -- ---- as a loop reads them
@@ -88,49 +89,94 @@ behind_number n ys sixteen =
     let e : n ≡ n + 0 = omega arith in
     ap (λ k. hex_after k ys) e ∙ shifted n 0 ys ∙ ap (λ k. option_map (λ v. n * 16 ^ k + v) (hex_after 0 ys)) sixteen
 
--- ---- four words
+-- ---- word by word, the highest first
 
-module _ (word first others second rest third fourth : List ℕ) (one : word ≡ first ++ others) (two : others ≡ second ++ rest) (three : rest ≡ third ++ fourth) where
-  begins : hex_after 0 word ≡ option_and_then (λ m. hex_after m others) (hex_after 0 first)
-  begins = ap (hex_after 0) one ∙ behind 0 first others
+-- what is left behind some digits that were read
+split : (n from : ℕ) (word : List ℕ) → hex_after n (drop from word) ≡ option_and_then (λ m. hex_after m (drop (from + 16) word)) (hex_after n (take 16 (drop from word)))
+split n from word =
+    ap (hex_after n) (sym (take-append-drop 16 (drop from word)))
+    ∙ behind n (take 16 (drop from word)) (drop 16 (drop from word))
+    ∙ ap (λ (ys : List ℕ). option_and_then (λ m. hex_after m ys) (hex_after n (take 16 (drop from word)))) (drop-drop 16 from word)
 
-  goes_on : (n : ℕ) → hex_after n others ≡ option_and_then (λ m. hex_after m rest) (hex_after n second)
-  goes_on n = ap (hex_after n) two ∙ behind n second rest
+sixteen_long : (from : ℕ) (word : List ℕ) → from + 16 ≤ length word → length (take 16 (drop from word)) ≡ 16
+sixteen_long from word within =
+    let left : length (drop from word) ≡ length word - from = length-drop from word in
+    length-take-le 16 (drop from word) (omega (arith, left, within))
 
-  ends : (n : ℕ) → hex_after n rest ≡ option_and_then (λ m. hex_after m fourth) (hex_after n third)
-  ends n = ap (hex_after n) three ∙ behind n third fourth
+-- sixteen digits more, behind others that spell this number
+sixteen_more : (n from : ℕ) (word : List ℕ) → from + 16 ≤ length word
+    → hex_after n (drop from word) ≡ option_and_then (λ m. hex_after m (drop (from + 16) word)) (option_map (λ v. n * 2 ^ 64 + v) (hex_after 0 (take (from + 16 - from) (drop from word))))
+sixteen_more n from word within =
+    let sixteen : 16 ≡ from + 16 - from = omega arith in
+    split n from word
+    ∙ ap (option_and_then (λ m. hex_after m (drop (from + 16) word))) (behind_number n (take 16 (drop from word)) (sixteen_long from word within)
+    ∙ ap (λ k. option_map (λ v. n * 2 ^ 64 + v) (hex_after 0 (take k (drop from word)))) sixteen)
 
-  pub first_fails : ◌≡◌ {A = Option ℕ} None (hex_after 0 first) → ◌≡◌ {A = Option ℕ} None (hex_after 0 word)
-  first_fails none = sym (begins ∙ ap (option_and_then (λ m. hex_after m others)) (sym none))
+-- the words from one on, once it was written
+pub written : (words : List ℕ) (left v : ℕ) → 1 ≤ left → left ≤ length words → number_of (drop (left - 1) (set words (left - 1) v)) ≡ number_of (drop left words) * 2 ^ 64 + v
+written words left v some within =
+    let next : left - 1 + 1 ≡ left = omega (arith, some) in
+    ap number_of (drop-set words (left - 1) v (omega (arith, some, within))) ∙ ap (λ k. number_of (drop k words) * 2 ^ 64 + v) next
 
-  module _ (a : ℕ) (a_is : Some a ≡ hex_after 0 first) (second_long : length second ≡ 16) where
-    so_far : hex_after 0 word ≡ option_and_then (λ m. hex_after m rest) (option_map (λ v. a * 2 ^ 64 + v) (hex_after 0 second))
-    so_far = begins ∙ ap (option_and_then (λ m. hex_after m others)) (sym a_is) ∙ goes_on a ∙ ap (option_and_then (λ m. hex_after m rest)) (behind_number a second second_long)
+pub sixteen_read : (total : Option ℕ) (left from v : ℕ) (word words : List ℕ) → 1 ≤ left → left ≤ length words → 16 * left ≤ length word → from ≡ length word - 16 * left
+    → Some v ≡ hex_after 0 (take (from + 16 - from) (drop from word)) → total ≡ hex_after (number_of (drop left words)) (drop from word)
+    → total ≡ hex_after (number_of (drop (left - 1) (set words (left - 1) v))) (drop (length word - 16 * (left - 1)) word)
+sixteen_read total left from v word words some within long from_is first so_far =
+    let n = number_of (drop left words) in
+    let ends : from + 16 ≤ length word = omega (arith, some, long, from_is) in
+    let next : from + 16 ≡ length word - 16 * (left - 1) = omega (arith, some, long, from_is) in
+    so_far ∙ sixteen_more n from word ends
+    ∙ ap (λ r. option_and_then (λ m. hex_after m (drop (from + 16) word)) (option_map (λ v. n * 2 ^ 64 + v) r)) (sym first)
+    ∙ ap (λ k. hex_after k (drop (from + 16) word)) (sym (written words left v some within))
+    ∙ ap (λ k. hex_after (number_of (drop (left - 1) (set words (left - 1) v))) (drop k word)) next
 
-    pub second_fails : ◌≡◌ {A = Option ℕ} None (hex_after 0 second) → ◌≡◌ {A = Option ℕ} None (hex_after 0 word)
-    second_fails none = sym (so_far ∙ ap (λ r. option_and_then (λ m. hex_after m rest) (option_map (λ v. a * 2 ^ 64 + v) r)) (sym none))
+pub sixteen_fails : (total : Option ℕ) (left from : ℕ) (word words : List ℕ) → 1 ≤ left → 16 * left ≤ length word → from ≡ length word - 16 * left
+    → ◌≡◌ {A = Option ℕ} None (hex_after 0 (take (from + 16 - from) (drop from word))) → total ≡ hex_after (number_of (drop left words)) (drop from word)
+    → ◌≡◌ {A = Option ℕ} None total
+sixteen_fails total left from word words some long from_is none so_far =
+    let n = number_of (drop left words) in
+    let ends : from + 16 ≤ length word = omega (arith, some, long, from_is) in
+    sym (so_far ∙ sixteen_more n from word ends ∙ ap (λ r. option_and_then (λ m. hex_after m (drop (from + 16) word)) (option_map (λ v. n * 2 ^ 64 + v) r)) (sym none))
 
-    module _ (b : ℕ) (b_is : Some b ≡ hex_after 0 second) (third_long : length third ≡ 16) where
-      so_long : hex_after 0 word ≡ option_and_then (λ m. hex_after m fourth) (option_map (λ v. (a * 2 ^ 64 + b) * 2 ^ 64 + v) (hex_after 0 third))
-      so_long =
-          so_far ∙ ap (λ r. option_and_then (λ m. hex_after m rest) (option_map (λ v. a * 2 ^ 64 + v) r)) (sym b_is) ∙ ends (a * 2 ^ 64 + b)
-          ∙ ap (option_and_then (λ m. hex_after m fourth)) (behind_number (a * 2 ^ 64 + b) third third_long)
+pub all_read : (total : Option ℕ) (left : ℕ) (word words : List ℕ) → left ≡ 0 → total ≡ hex_after (number_of (drop left words)) (drop (length word - 16 * left) word) → Some (number_of words) ≡ total
+unfolding hex_after
+all_read total left word words none so_far =
+    sym (so_far ∙ ap (λ k. hex_after (number_of (drop k words)) (drop (length word - 16 * k) word)) none
+    ∙ ap (hex_after (number_of words)) (drop_of_length-le word (omega arith)))
 
-      pub third_fails : ◌≡◌ {A = Option ℕ} None (hex_after 0 third) → ◌≡◌ {A = Option ℕ} None (hex_after 0 word)
-      third_fails none = sym (so_long ∙ ap (λ r. option_and_then (λ m. hex_after m fourth) (option_map (λ v. (a * 2 ^ 64 + b) * 2 ^ 64 + v) r)) (sym none))
+-- ---- the digits of the highest word
 
-      module _ (c : ℕ) (c_is : Some c ≡ hex_after 0 third) (fourth_long : length fourth ≡ 16) where
-        to_end : hex_after 0 word ≡ option_map (λ v. ((a * 2 ^ 64 + b) * 2 ^ 64 + c) * 2 ^ 64 + v) (hex_after 0 fourth)
-        to_end =
-            so_long ∙ ap (λ r. option_and_then (λ m. hex_after m fourth) (option_map (λ v. (a * 2 ^ 64 + b) * 2 ^ 64 + v) r)) (sym c_is)
-            ∙ behind_number ((a * 2 ^ 64 + b) * 2 ^ 64 + c) fourth fourth_long
+highest : (words : List ℕ) (last v : ℕ) → last + 1 ≡ length words → number_of (drop last (set words last v)) ≡ v
+highest words last v is =
+    let none : drop (last + 1) words ≡ [] = drop_of_length-le words (omega (arith, is)) in
+    ap number_of (drop-set words last v (omega (arith, is))) ∙ ap (λ (ws : List ℕ). number_of ws * 2 ^ 64 + v) none ∙ (let e : 0 * 2 ^ 64 + v ≡ v = omega arith in e)
 
-        pub fourth_fails : ◌≡◌ {A = Option ℕ} None (hex_after 0 fourth) → ◌≡◌ {A = Option ℕ} None (hex_after 0 word)
-        fourth_fails none = sym (to_end ∙ ap (option_map (λ v. ((a * 2 ^ 64 + b) * 2 ^ 64 + c) * 2 ^ 64 + v)) (sym none))
+pub first_read : (first last v : ℕ) (word words : List ℕ) → last + 1 ≡ length words → Some v ≡ hex_after 0 (take first word)
+    → hex_after (number_of (drop last (set words last v))) (drop first word) ≡ hex_after 0 word
+first_read first last v word words is front =
+    ap (λ k. hex_after k (drop first word)) (highest words last v is)
+    ∙ ap (option_and_then (λ m. hex_after m (drop first word))) front
+    ∙ sym (ap (hex_after 0) (sym (take-append-drop first word)) ∙ behind 0 (take first word) (drop first word))
 
-        pub all_four : (d state : ℕ) → Some d ≡ hex_after 0 fourth → state ≡ number_of (d ∷ c ∷ b ∷ a ∷ []) → Some state ≡ hex_after 0 word
-        all_four d state d_is is =
-            sym (to_end ∙ ap (option_map (λ v. ((a * 2 ^ 64 + b) * 2 ^ 64 + c) * 2 ^ 64 + v)) (sym d_is) ∙ ap (λ k. Some k) (sym (is ∙ value)))
-          where
-            value : number_of (d ∷ c ∷ b ∷ a ∷ []) ≡ ((a * 2 ^ 64 + b) * 2 ^ 64 + c) * 2 ^ 64 + d
-            value = omega arith
+pub first_fails : (first : ℕ) (word : List ℕ) → ◌≡◌ {A = Option ℕ} None (hex_after 0 (take first word)) → ◌≡◌ {A = Option ℕ} None (hex_after 0 word)
+first_fails first word none =
+    sym (ap (hex_after 0) (sym (take-append-drop first word)) ∙ behind 0 (take first word) (drop first word)
+    ∙ ap (option_and_then (λ m. hex_after m (drop first word))) (sym none))
+
+-- ---- words
+
+pub words_long : (count : ℕ) (words : List ℕ) → AreWords count words → length words ≡ count
+words_long zero [] h = refl
+words_long zero (w ∷ ws) h = absurd h
+words_long (suc count) [] h = absurd h
+words_long (suc count) (w ∷ ws) h = ap suc (words_long count ws h.1)
+
+pub zeros_are_words : (count : ℕ) → AreWords count (replicate count 0)
+zeros_are_words zero = tt
+zeros_are_words (suc count) = (lit< tt, zeros_are_words count)
+
+pub all_zeros : (count : ℕ) → AreWords (length (replicate {A = ℕ} count 0)) (replicate count 0)
+all_zeros count =
+    let zeros : List ℕ = replicate count 0 in
+    let are : AreWords count zeros = zeros_are_words count in
+    subst (λ k. AreWords k zeros) (sym (words_long count zeros are)) are

@@ -1,11 +1,12 @@
 -- What is read is spelled so.
-use Rattle.std.proofs.Common.{◌≡◌, ℕ, zero, suc, ◌+◌, ◌*◌, Bool, true, false, cond, eqb, ltb, Option, None, Some, List, [], ◌∷◌, ◌++◌, length, Result, Ok, Err, refl, sym, ap, ◌∙◌, subst, append_assoc}
+use Rattle.std.proofs.Common.{◌≡◌, ℕ, zero, suc, ◌+◌, ◌*◌, Bool, true, false, cond, eqb, ltb, leb, ◌&&◌, Option, None, Some, List, [], ◌∷◌, ◌++◌, length, Result, Ok, Err, refl, sym, ap, ◌∙◌, subst, append_assoc}
 use Rattle.std.proofs.lemmas.Option.{same_Some}
 use Rattle.std.specs.Prelude.{codes}
+use Rattle.std.specs.Fmt.{decimal}
 use Rattle.std.specs.List.{list_all}
 use Rattle.std.proofs.lemmas.List.{nil_from_length}
-use Rattle.std.proofs.lemmas.Bool.{eqb-true, and_from}
-use Rattle.pb_packed.specs.Sizes.{version_1_digits}
+use Rattle.std.proofs.lemmas.Bool.{eqb-true, leb-true, and_from, and_parts}
+use Rattle.pb_packed.specs.Sizes.{version_1_digits, most_digits}
 use Rattle.pb_model.specs.Weight.{Weight}
 use Rattle.pb_model.specs.Plan.{Plan}
 use Rattle.pb_model.specs.Certificate.{Line}
@@ -15,16 +16,17 @@ use Rattle.pb_task.specs.declared.kind.Kind.TheVariants.{Grid, Tiles, Strips}
 use Rattle.pb_estimate.specs.declared.choice.Choice.TheVariants.{Plain}
 use Rattle.pb_estimate.specs.declared.spelling.Stated.{Stated}
 use Rattle.pb_estimate.specs.declared.spelling.Spelling.{Spelling}
-use Rattle.pb_estimate.specs.declared.spelling.Version.TheVariants.{One}
-use Rattle.pb_estimate.specs.Spelling.{IsSpelling, version_line, kind_line, stated_text, head_of}
+use Rattle.pb_estimate.specs.declared.spelling.Version.{Version}
+use Rattle.pb_estimate.specs.declared.spelling.Version.TheVariants.{One, Two}
+use Rattle.pb_estimate.specs.Spelling.{IsWidthOf, IsSpelling, version_line, kind_line, width_text, stated_text, head_of}
 use Rattle.pb_check.specs.declared.fault.CertificateFault.{CertificateFault}
 use Rattle.pb_check.specs.declared.fault.CertificateFault.TheVariants.{Syntax}
 use Rattle.pb_lines.specs.Words.{part, behind, is_text, number_of}
-use Rattle.pb_lines.proofs.Callers.{IsNumberWord, number_word_of, if_some, part_is, behind_is, text_is}
+use Rattle.pb_lines.proofs.Callers.{IsNumberWord, number_word_of, number_word_is, if_some, part_is, behind_is, text_is}
 use Rattle.pb_check.specs.Words.{hex_value, hex_after, state_of}
 use Rattle.pb_check.specs.Faults.{◌>>=◌, wanted}
-use Rattle.pb_check.specs.Reading.{line_at, number_behind, kind_in, weight_in, closed_in, row_in, fixed_at, number_at, kind_at, stated_at, head_at, weight_at, row_at, actions_at, rows_at, steps_at, plan_at, plan_lines, weight_line, first_line, Text, end_at, body_at, stated_choice, choice_in, text_of}
-use Rattle.pb_check.proofs.Lines.{hex_value_after, IsStateWord, BeginsWith, BeginsWithNumber, closed_text, IsWeightLine, IsRowLine, AreActionLines, AreRowLines, ArePlanLines, Spells}
+use Rattle.pb_check.specs.Reading.{line_at, number_behind, version_in, kind_in, width_in, weight_in, closed_in, row_in, fixed_at, number_at, version_at, kind_at, width_at, stated_at, head_at, weight_at, row_at, actions_at, rows_at, steps_at, plan_at, plan_lines, weight_line, first_line, Text, end_at, body_at, stated_choice, choice_in, text_of}
+use Rattle.pb_check.proofs.Lines.{hex_value_after, IsStateWord, BeginsWith, BeginsWithNumber, closed_text, spelling_with, IsWeightLine, IsRowLine, AreActionLines, AreRowLines, ArePlanLines, Spells}
 
 pub bind_ok : {A B : Type 0} (r : Result A CertificateFault) (f : A → Result B CertificateFault) (y : B) → (r >>= f) ≡ Ok y → (x : A) × (r ≡ Ok x) × (f x ≡ Ok y)
 bind_ok (Ok x) f y e = (x, refl, e)
@@ -54,9 +56,9 @@ hex_after_is n (b ∷ bs) m e =
     let r = hex_after_is (n * 16 + hex_value b) bs m h.1 in
     (and_from (ltb (hex_value b) 16) (list_all (λ b. ltb (hex_value b) 16) bs) h.0 r.0, r.1)
 
-pub state_is : (word : List ℕ) (state : ℕ) → state_of word ≡ Some state → IsStateWord word state
-state_is word state e =
-    let a = if_some (eqb (length word) version_1_digits) (hex_after 0 word) state e in
+pub state_is : (width : ℕ) (word : List ℕ) (state : ℕ) → state_of width word ≡ Some state → IsStateWord width word state
+state_is width word state e =
+    let a = if_some (eqb (length word) width) (hex_after 0 word) state e in
     let r = hex_after_is 0 word state a.1 in
     record { count = eqb-true _ _ a.0; digits = r.0; value = r.1 }
 
@@ -105,6 +107,25 @@ kind_is line text k e = go (is_text (kind_line Grid) text) (is_text (kind_line T
     go false false true x y z e = text_is (kind_line Strips) text z ∙ ap kind_line (ok_is Strips k e)
     go false false false x y z e = absurd cc
 
+version_is : (line : ℕ) (text : List ℕ) (v : Version) → version_in line text ≡ Ok v → text ≡ version_line v
+unfolding version_in
+version_is line text v e = go (is_text (version_line One) text) (is_text (version_line Two) text) refl refl e
+  where
+    go : (a b : Bool) → is_text (version_line One) text ≡ a → is_text (version_line Two) text ≡ b → cond a (Ok One) (cond b (Ok Two) (Err (Syntax line))) ≡ Ok v → text ≡ version_line v
+    go true b x y e = text_is (version_line One) text x ∙ ap version_line (ok_is One v e)
+    go false true x y e = text_is (version_line Two) text y ∙ ap version_line (ok_is Two v e)
+    go false false x y e = absurd cc
+
+width_is : (line : ℕ) (text : List ℕ) (n : ℕ) → width_in line text ≡ Ok n → (text ≡ codes "width " ++ decimal n) × IsWidthOf Two n
+unfolding width_in
+width_is line text n e =
+    let a = bind_ok (number_behind line (codes "width ") text) (λ k. cond (leb 1 k && leb k most_digits) (Ok k) (Err (Syntax line))) n e in
+    let g = guard_ok (leb 1 a.0 && leb a.0 most_digits) (Syntax line) a.0 n a.2 in
+    let w = behind_number line (codes "width ") text a.0 a.1 in
+    let both = and_parts (leb 1 a.0) (leb a.0 most_digits) g.0 in
+    subst (λ (k : ℕ). (text ≡ codes "width " ++ decimal k) × IsWidthOf Two k) g.1
+    (w.2 ∙ ap (λ (t : List ℕ). codes "width " ++ t) (number_word_is w.0 a.0 w.1), (leb-true _ _ both.0, leb-true _ _ both.1))
+
 weight_is : (line : ℕ) (text : List ℕ) (w : Weight) → weight_in line text ≡ Ok w → IsWeightLine text w
 unfolding weight_in
 weight_is line text w e =
@@ -121,23 +142,30 @@ weight_is line text w e =
       den_is = number_word_of b.0.1 d.0 (wanted_ok line (number_of b.0.1) d.0 d.1);
     })
 
-row_is : (line : ℕ) (text : List ℕ) (row : Line) → row_in line text ≡ Ok row → IsRowLine text row
+row_is : (width line : ℕ) (text : List ℕ) (row : Line) → row_in width line text ≡ Ok row → IsRowLine width text row
 unfolding row_in
-row_is line text row e =
+row_is width line text row e =
     let a = bind_ok (wanted line (part 32 text)) _ row e in
     let b = bind_ok (wanted line (part 32 a.0.1)) _ row a.2 in
-    let c = bind_ok (wanted line (state_of a.0.0)) _ row b.2 in
+    let c = bind_ok (wanted line (state_of width a.0.0)) _ row b.2 in
     let d = bind_ok (wanted line (number_of b.0.0)) _ row c.2 in
     let f = bind_ok (closed_in line b.0.1) _ row d.2 in
-    subst (IsRowLine text) (ok_is (record { state = c.0; g = d.0; is_closed = f.0 }) row f.2)
+    subst (IsRowLine width text) (ok_is (record { state = c.0; g = d.0; is_closed = f.0 }) row f.2)
     (record {
       state = a.0.0;
       g = b.0.0;
       line_is = part_is 32 text a.0.0 a.0.1 (wanted_ok line (part 32 text) a.0 a.1)
           ∙ ap (λ (t : List ℕ). a.0.0 ++ 32 ∷ t) (part_is 32 a.0.1 b.0.0 b.0.1 (wanted_ok line (part 32 a.0.1) b.0 b.1) ∙ ap (λ (t : List ℕ). b.0.0 ++ 32 ∷ t) (closed_is line b.0.1 f.0 f.1));
-      state_is = state_is a.0.0 c.0 (wanted_ok line (state_of a.0.0) c.0 c.1);
+      state_is = state_is width a.0.0 c.0 (wanted_ok line (state_of width a.0.0) c.0 c.1);
       g_is = number_word_of b.0.0 d.0 (wanted_ok line (number_of b.0.0) d.0 d.1);
     })
+
+version_line_is : (line : ℕ) (text : List ℕ) (x : Version × List ℕ) → version_at line text ≡ Ok x → BeginsWith text (version_line x.0) x.1
+unfolding version_at
+version_line_is line text x e =
+    let b = bind_ok (line_at line text) _ x e in
+    let c = bind_ok (version_in line b.0.0) _ x b.2 in
+    subst (λ (y : Version × List ℕ). BeginsWith text (version_line y.0) y.1) (ok_is (c.0, b.0.1) x c.2) (line_is line text b.0 b.1 ∙ ap (λ (t : List ℕ). t ++ 10 ∷ b.0.1) (version_is line b.0.0 c.0 c.1))
 
 kind_line_is : (line : ℕ) (text : List ℕ) (x : Kind × List ℕ) → kind_at line text ≡ Ok x → BeginsWith text (kind_line x.0) x.1
 unfolding kind_at
@@ -145,6 +173,28 @@ kind_line_is line text x e =
     let b = bind_ok (line_at line text) _ x e in
     let c = bind_ok (kind_in line b.0.0) _ x b.2 in
     subst (λ (y : Kind × List ℕ). BeginsWith text (kind_line y.0) y.1) (ok_is (c.0, b.0.1) x c.2) (line_is line text b.0 b.1 ∙ ap (λ (t : List ℕ). t ++ 10 ∷ b.0.1) (kind_is line b.0.0 c.0 c.1))
+
+-- one line, and what follows
+pub one_line : (first rest : List ℕ) → texts.lines (first ∷ []) ++ rest ≡ first ++ 10 ∷ rest
+one_line first rest = append_assoc (texts.line first) [] rest ∙ append_assoc first (10 ∷ []) rest
+
+lines_both : (xs ys : List (List ℕ)) → texts.lines (xs ++ ys) ≡ texts.lines xs ++ texts.lines ys
+lines_both [] ys = refl
+lines_both (x ∷ xs) ys = ap (λ (t : List ℕ). texts.line x ++ t) (lines_both xs ys) ∙ sym (append_assoc (texts.line x) (texts.lines xs) (texts.lines ys))
+
+-- some lines, other lines, and what follows
+pub others_then : (some others : List (List ℕ)) (rest : List ℕ) → texts.lines (some ++ others) ++ rest ≡ texts.lines some ++ (texts.lines others ++ rest)
+others_then some others rest = ap (λ (t : List ℕ). t ++ rest) (lines_both some others) ∙ append_assoc (texts.lines some) (texts.lines others) rest
+
+width_line_is : (version : Version) (line : ℕ) (text : List ℕ) (x : ℕ × List ℕ) → width_at version line text ≡ Ok x → (text ≡ texts.lines (width_text version x.0) ++ x.1) × IsWidthOf version x.0
+unfolding width_at
+width_line_is One line text x e = subst (λ (y : ℕ × List ℕ). (text ≡ texts.lines (width_text One y.0) ++ y.1) × IsWidthOf One y.0) (ok_is (version_1_digits, text) x e) (refl, refl)
+width_line_is Two line text x e =
+    let b = bind_ok (line_at line text) _ x e in
+    let c = bind_ok (width_in line b.0.0) _ x b.2 in
+    let w = width_is line b.0.0 c.0 c.1 in
+    subst (λ (y : ℕ × List ℕ). (text ≡ texts.lines (width_text Two y.0) ++ y.1) × IsWidthOf Two y.0) (ok_is (c.0, b.0.1) x c.2)
+    (line_is line text b.0 b.1 ∙ ap (λ (t : List ℕ). t ++ 10 ∷ b.0.1) w.0 ∙ sym (one_line (codes "width " ++ decimal c.0) b.0.1), w.1)
 
 -- two lines, other lines, and what follows
 pub head_then : (first second others rest : List ℕ) → (texts.line first ++ (texts.line second ++ others)) ++ rest ≡ first ++ 10 ∷ (second ++ 10 ∷ (others ++ rest))
@@ -160,16 +210,22 @@ stated_is line text x e = subst (λ (y : Stated × List ℕ). text ≡ texts.lin
 pub head_is : (text : List ℕ) (x : Spelling × List ℕ) → head_at text ≡ Ok x → (text ≡ texts.lines (head_of x.0) ++ x.1) × IsSpelling x.0
 unfolding head_at
 head_is text x e =
-    let a = bind_ok (fixed_at 1 (version_line One) text) _ x e in
-    let b = bind_ok (kind_at 2 a.0) _ x a.2 in
-    let c = bind_ok (stated_at 3 b.0.1) _ x b.2 in
-    let made : Spelling = record { kind = b.0.0; version = One; width = version_1_digits; stated = c.0.0 } in
-    let others : List ℕ = texts.lines (stated_text c.0.0) in
+    let a = bind_ok (version_at 1 text) _ x e in
+    let b = bind_ok (kind_at 2 a.0.1) _ x a.2 in
+    let w = bind_ok (width_at a.0.0 3 b.0.1) _ x b.2 in
+    let line = 3 + length (width_text a.0.0 w.0.0) in
+    let c = bind_ok (stated_at line w.0.1) _ x w.2 in
+    let made : Spelling = spelling_with a.0.0 b.0.0 w.0.0 c.0.0 in
+    let width : List (List ℕ) = width_text a.0.0 w.0.0 in
+    let stated : List (List ℕ) = stated_text c.0.0 in
+    let wide = width_line_is a.0.0 3 b.0.1 w.0 w.1 in
+    let behind_kind : b.0.1 ≡ texts.lines (width ++ stated) ++ c.0.1 =
+    wide.0 ∙ ap (λ (t : List ℕ). texts.lines width ++ t) (stated_is line w.0.1 c.0 c.1) ∙ sym (others_then width stated c.0.1) in
     let is : text ≡ texts.lines (head_of made) ++ c.0.1 =
-    fixed_is 1 (version_line One) text a.0 a.1
-    ∙ ap (λ (t : List ℕ). version_line One ++ 10 ∷ t) (kind_line_is 2 a.0 b.0 b.1 ∙ ap (λ (t : List ℕ). kind_line b.0.0 ++ 10 ∷ t) (stated_is 3 b.0.1 c.0 c.1))
-    ∙ sym (head_then (version_line One) (kind_line b.0.0) others c.0.1) in
-    subst (λ (y : Spelling × List ℕ). (text ≡ texts.lines (head_of y.0) ++ y.1) × IsSpelling y.0) (ok_is (made, c.0.1) x c.2) (is, refl)
+    version_line_is 1 text a.0 a.1
+    ∙ ap (λ (t : List ℕ). version_line a.0.0 ++ 10 ∷ t) (kind_line_is 2 a.0.1 b.0 b.1 ∙ ap (λ (t : List ℕ). kind_line b.0.0 ++ 10 ∷ t) behind_kind)
+    ∙ sym (head_then (version_line a.0.0) (kind_line b.0.0) (texts.lines (width ++ stated)) c.0.1) in
+    subst (λ (y : Spelling × List ℕ). (text ≡ texts.lines (head_of y.0) ++ y.1) × IsSpelling y.0) (ok_is (made, c.0.1) x c.2) (is, wide.1)
 
 weight_line_is : (line : ℕ) (text : List ℕ) (x : Weight × List ℕ) → weight_at line text ≡ Ok x → (words : List ℕ) × BeginsWith text words x.1 × IsWeightLine words x.0
 unfolding weight_at
@@ -178,12 +234,12 @@ weight_line_is line text x e =
     let c = bind_ok (weight_in line b.0.0) _ x b.2 in
     subst (λ (y : Weight × List ℕ). (words : List ℕ) × BeginsWith text words y.1 × IsWeightLine words y.0) (ok_is (c.0, b.0.1) x c.2) (b.0.0, line_is line text b.0 b.1, weight_is line b.0.0 c.0 c.1)
 
-row_line_is : (line : ℕ) (text : List ℕ) (x : Line × List ℕ) → row_at line text ≡ Ok x → (words : List ℕ) × BeginsWith text words x.1 × IsRowLine words x.0
+row_line_is : (width line : ℕ) (text : List ℕ) (x : Line × List ℕ) → row_at width line text ≡ Ok x → (words : List ℕ) × BeginsWith text words x.1 × IsRowLine width words x.0
 unfolding row_at
-row_line_is line text x e =
+row_line_is width line text x e =
     let b = bind_ok (line_at line text) _ x e in
-    let c = bind_ok (row_in line b.0.0) _ x b.2 in
-    subst (λ (y : Line × List ℕ). (words : List ℕ) × BeginsWith text words y.1 × IsRowLine words y.0) (ok_is (c.0, b.0.1) x c.2) (b.0.0, line_is line text b.0 b.1, row_is line b.0.0 c.0 c.1)
+    let c = bind_ok (row_in width line b.0.0) _ x b.2 in
+    subst (λ (y : Line × List ℕ). (words : List ℕ) × BeginsWith text words y.1 × IsRowLine width words y.0) (ok_is (c.0, b.0.1) x c.2) (b.0.0, line_is line text b.0 b.1, row_is width line b.0.0 c.0 c.1)
 
 -- ---- lines in a row
 
@@ -196,15 +252,15 @@ actions_are (suc count) line text x e =
     let r = actions_are count (line + 1) b.0.1 c.0 c.1 in
     subst (λ (y : List ℕ × List ℕ). AreActionLines text y.0 y.1 × (length y.0 ≡ suc count)) (ok_is (b.0.0 ∷ c.0.0, c.0.1) x c.2) ((b.0.1, number_line_is line [] text b.0 b.1, r.0), ap suc r.1)
 
-rows_are : (count line : ℕ) (text : List ℕ) (x : List Line × List ℕ) → rows_at count line text ≡ Ok x → AreRowLines text x.0 x.1 × (length x.0 ≡ count)
+rows_are : (width count line : ℕ) (text : List ℕ) (x : List Line × List ℕ) → rows_at width count line text ≡ Ok x → AreRowLines width text x.0 x.1 × (length x.0 ≡ count)
 unfolding rows_at
-rows_are zero line text x e = subst (λ (y : List Line × List ℕ). AreRowLines text y.0 y.1 × (length y.0 ≡ 0)) (ok_is ([], text) x e) (refl, refl)
-rows_are (suc count) line text x e =
-    let b = bind_ok (row_at line text) _ x e in
-    let c = bind_ok (rows_at count (line + 1) b.0.1) _ x b.2 in
-    let r = rows_are count (line + 1) b.0.1 c.0 c.1 in
-    let w = row_line_is line text b.0 b.1 in
-    subst (λ (y : List Line × List ℕ). AreRowLines text y.0 y.1 × (length y.0 ≡ suc count)) (ok_is (b.0.0 ∷ c.0.0, c.0.1) x c.2) ((w.0, b.0.1, w.1, w.2, r.0), ap suc r.1)
+rows_are width zero line text x e = subst (λ (y : List Line × List ℕ). AreRowLines width text y.0 y.1 × (length y.0 ≡ 0)) (ok_is ([], text) x e) (refl, refl)
+rows_are width (suc count) line text x e =
+    let b = bind_ok (row_at width line text) _ x e in
+    let c = bind_ok (rows_at width count (line + 1) b.0.1) _ x b.2 in
+    let r = rows_are width count (line + 1) b.0.1 c.0 c.1 in
+    let w = row_line_is width line text b.0 b.1 in
+    subst (λ (y : List Line × List ℕ). AreRowLines width text y.0 y.1 × (length y.0 ≡ suc count)) (ok_is (b.0.0 ∷ c.0.0, c.0.1) x c.2) ((w.0, b.0.1, w.1, w.2, r.0), ap suc r.1)
 
 plan_cases : (line : ℕ) (text : List ℕ) (x : Option Plan × List ℕ) (first : List ℕ × List ℕ) → line_at line text ≡ Ok first → (b : Bool) → is_text (codes "none") first.0 ≡ b
     → cond b (Ok (None, first.1)) (number_behind line (codes "plan ") first.0 >>= λ count. steps_at count (line + 1) first.1 >>= λ plan. Ok (Some plan.0, plan.1)) ≡ Ok x → ArePlanLines text x.0 x.1
@@ -238,21 +294,21 @@ end_is line text x e =
     let g = guard_ok (eqb (length a.0) 0) (Syntax (line + 1)) true x a.2 in
     fixed_is line (codes "end") text a.0 a.1 ∙ ap (λ (r : List ℕ). codes "end" ++ 10 ∷ r) (nil_from_length a.0 (eqb-true _ _ g.0))
 
-pub record IsBody (text : List ℕ) (rows : List Line) : Type 0 where
+pub record IsBody (width : ℕ) (text : List ℕ) (rows : List Line) : Type 0 where
   pub row_part : List ℕ
   pub end_line : List ℕ
   pub count : BeginsWithNumber text (codes "rows ") (length rows) row_part
-  pub rows_are : AreRowLines row_part rows end_line
+  pub rows_are : AreRowLines width row_part rows end_line
   pub end : BeginsWith end_line (codes "end") []
 
-body_is : (line : ℕ) (text : List ℕ) (rows : List Line) → body_at line text ≡ Ok rows → IsBody text rows
+body_is : (width line : ℕ) (text : List ℕ) (rows : List Line) → body_at width line text ≡ Ok rows → IsBody width text rows
 unfolding body_at
-body_is line text rows e =
+body_is width line text rows e =
     let a = bind_ok (number_at line (codes "rows ") text) _ rows e in
-    let b = bind_ok (rows_at a.0.0 (line + 1) a.0.1) _ rows a.2 in
+    let b = bind_ok (rows_at width a.0.0 (line + 1) a.0.1) _ rows a.2 in
     let c = bind_ok (end_at (line + 1 + length b.0.0) b.0.1) _ rows b.2 in
-    let r = rows_are a.0.0 (line + 1) a.0.1 b.0 b.1 in
-    subst (IsBody text) (ok_is b.0.0 rows c.2) (record {
+    let r = rows_are width a.0.0 (line + 1) a.0.1 b.0 b.1 in
+    subst (IsBody width text) (ok_is b.0.0 rows c.2) (record {
       row_part = a.0.1;
       end_line = b.0.1;
       count = subst (λ n. BeginsWithNumber text (codes "rows ") n a.0.1) (sym r.1) (number_line_is line (codes "rows ") text a.0 a.1);
@@ -267,10 +323,10 @@ spelled bytes text e =
     let line = weight_line a.0.0 in
     let b = bind_ok (weight_at line a.0.1) _ text a.2 in
     let c = bind_ok (plan_at (line + 1) b.0.1) _ text b.2 in
-    let d = bind_ok (body_at (line + 1 + plan_lines c.0.0) c.0.1) _ text c.2 in
+    let d = bind_ok (body_at a.0.0.width (line + 1 + plan_lines c.0.0) c.0.1) _ text c.2 in
     let h = head_is bytes a.0 a.1 in
     let w = weight_line_is line a.0.1 b.0 b.1 in
-    let body : IsBody c.0.1 d.0 = body_is (line + 1 + plan_lines c.0.0) c.0.1 d.0 d.1 in
+    let body : IsBody a.0.0.width c.0.1 d.0 = body_is a.0.0.width (line + 1 + plan_lines c.0.0) c.0.1 d.0 d.1 in
     subst (Spells bytes) (ok_is (record { spelling = a.0.0; certificate = record { weight = b.0.0; plan = c.0.0; lines = d.0 }; first = first_line a.0.0 c.0.0 }) text d.2) (record {
       weight_line = a.0.1;
       plan_part = b.0.1;
@@ -296,6 +352,6 @@ choice_is bytes text e =
     let line = weight_line a.0.0 in
     let b = bind_ok (weight_at line a.0.1) _ text a.2 in
     let c = bind_ok (plan_at (line + 1) b.0.1) _ text b.2 in
-    let d = bind_ok (body_at (line + 1 + plan_lines c.0.0) c.0.1) _ text c.2 in
+    let d = bind_ok (body_at a.0.0.width (line + 1 + plan_lines c.0.0) c.0.1) _ text c.2 in
     ap choice_in a.1
     ∙ ap (λ (t : Text). t.spelling.stated.choice) (ok_is (record { spelling = a.0.0; certificate = record { weight = b.0.0; plan = c.0.0; lines = d.0 }; first = first_line a.0.0 c.0.0 }) text d.2)

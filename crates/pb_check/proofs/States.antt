@@ -1,13 +1,11 @@
 -- States as words of hexadecimal digits.
-use Rattle.std.proofs.Common.{lit<, ◌≡◌, ℕ, zero, suc, ◌+◌, ◌-◌, ◌*◌, ◌/◌, ◌%◌, ◌^◌, ◌<◌, ◌≤◌, Bool, true, ◌&&◌, ltb, List, [], ◌∷◌, ◌++◌, length, refl, sym, ap, ◌∙◌, subst, arith, append-nil, append_assoc, mul-le-mul_right, mul_assoc, mul_comm}
+use Rattle.std.proofs.Common.{lit<, ◌≡◌, ℕ, zero, suc, ◌+◌, ◌*◌, ◌/◌, ◌%◌, ◌^◌, ◌<◌, ◌≤◌, Bool, true, ◌&&◌, ltb, List, [], ◌∷◌, ◌++◌, length, refl, sym, ap, ◌∙◌, subst, arith, append-nil, append_assoc, mul-le-mul_right, mul_assoc, mul_comm}
 use Rattle.std.specs.List.{list_all}
-use Rattle.std.proofs.Math.Nat.{pow-suc, div-eq_of_lt, zero-mod}
+use Rattle.std.proofs.Math.Nat.{pow-suc}
 use Rattle.std.proofs.lemmas.Nat.{mod_below, div-add-mod', div_below}
 use Rattle.std.proofs.lemmas.Bool.{ltb-true, lt-ltb, and_parts, and_from}
 use Rattle.std.proofs.lemmas.Bool.Decides.{nat_tests}
 use Rattle.std.proofs.lemmas.List.Folds.{list_all-append}
-use Rattle.pb_packed.specs.Bits.{bits_of, with_bits_of}
-use Rattle.pb_packed.specs.Sizes.{version_1_digits}
 use Rattle.pb_packed.specs.Digits.{hex_digit, hex_digits}
 use Rattle.pb_packed.proofs.Callers.{no_digits, one_more, followed, digits_are_hex}
 use Rattle.pb_check.specs.Words.{hex_value}
@@ -48,11 +46,11 @@ digits_are_values (suc count) n =
     ap are_values (one_more count n) ∙ list_all-append (λ b. ltb (hex_value b) 16) (hex_digits count (n / 16)) (hex_digit (n % 16) ∷ [])
     ∙ and_from (are_values (hex_digits count (n / 16))) (ltb (hex_value (hex_digit (n % 16))) 16 && true) (digits_are_values count (n / 16)) (and_from (ltb (hex_value (hex_digit (n % 16))) 16) true last refl)
 
-pub state_word : (word : List ℕ) (state : ℕ) → word ≡ hex_digits version_1_digits state → state < 16 ^ version_1_digits → IsStateWord word state
-state_word word state is small = subst (λ w. IsStateWord w state) (sym is) (record {
-  count = (digits_are_hex version_1_digits state).0;
-  digits = digits_are_values version_1_digits state;
-  value = sym (value_of_digits version_1_digits state small);
+pub state_word : (width : ℕ) (word : List ℕ) (state : ℕ) → word ≡ hex_digits width state → state < 16 ^ width → IsStateWord width word state
+state_word width word state is small = subst (λ w. IsStateWord width w state) (sym is) (record {
+  count = (digits_are_hex width state).0;
+  digits = digits_are_values width state;
+  value = sym (value_of_digits width state small);
 })
 
 -- ---- what is read has these digits
@@ -79,22 +77,12 @@ value_is_small n (b ∷ bs) e =
     let more : (n * 16 + hex_value b + 1) * 16 ^ length bs ≤ ((n + 1) * 16) * 16 ^ length bs = mul-le-mul_right (16 ^ length bs) le in
     omega (arith, rest, power, more)
 
-pub state_word_is : (word : List ℕ) (state : ℕ) → IsStateWord word state → (word ≡ hex_digits version_1_digits state) × (state < 16 ^ version_1_digits)
-state_word_is word state is =
-    let long : 0 + length word ≡ version_1_digits = (let l = is.count in omega (arith, l)) in
+pub state_word_is : (width : ℕ) (word : List ℕ) (state : ℕ) → IsStateWord width word state → (word ≡ hex_digits width state) × (state < 16 ^ width)
+state_word_is width word state is =
+    let long : 0 + length word ≡ width = (let l = is.count in omega (arith, l)) in
     let digits : hex_digits (0 + length word) (hex_value_after 0 word) ≡ hex_digits 0 0 ++ word = digits_of_value 0 0 word is.digits in
     let small : hex_value_after 0 word < (0 + 1) * 16 ^ length word = value_is_small 0 word is.digits in
-    let limit : hex_value_after 0 word < (0 + 1) * 16 ^ version_1_digits = subst (λ k. hex_value_after 0 word < (0 + 1) * 16 ^ k) is.count small in (
-      sym (ap (λ k. hex_digits version_1_digits k) is.value ∙ ap (λ k. hex_digits k (hex_value_after 0 word)) (sym long) ∙ digits ∙ ap (λ (t : List ℕ). t ++ word) (no_digits 0)),
+    let limit : hex_value_after 0 word < (0 + 1) * 16 ^ width = subst (λ k. hex_value_after 0 word < (0 + 1) * 16 ^ k) is.count small in (
+      sym (ap (λ k. hex_digits width k) is.value ∙ ap (λ k. hex_digits k (hex_value_after 0 word)) (sym long) ∙ digits ∙ ap (λ (t : List ℕ). t ++ word) (no_digits 0)),
       (let v = is.value in omega (arith, v, limit)),
     )
-
--- a field above all bits of a number is added to it
-pub field_above : (n at len value : ℕ) → n < 2 ^ at → with_bits_of n at len value ≡ n + value * 2 ^ at
-field_above n at len value small =
-    let none : n / 2 ^ at ≡ 0 = div-eq_of_lt small in
-    let field : bits_of n at len ≡ 0 = ap (λ k. k % 2 ^ len) none ∙ zero-mod (2 ^ len) in
-    ap (λ k. n - k * 2 ^ at + value * 2 ^ at) field ∙ (let e : n - 0 * 2 ^ at + value * 2 ^ at ≡ n + value * 2 ^ at = rest n (value * 2 ^ at) (2 ^ at) in e)
-  where
-    rest : (n field power : ℕ) → n - 0 * power + field ≡ n + field
-    rest n field power = omega arith

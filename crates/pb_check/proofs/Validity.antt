@@ -20,6 +20,9 @@ use Rattle.pb_task.specs.declared.kind.Kind.TheVariants.{Grid, Tiles, Strips}
 use Rattle.pb_task.specs.declared.parts.TaskParts.{TaskParts}
 use Rattle.pb_task.specs.Parts.{space_of}
 use Rattle.pb_task.specs.Kinds.{kind_of}
+use Rattle.pb_task.specs.Widths.{width_of}
+use Rattle.pb_estimate.specs.declared.spelling.Version.{Version}
+use Rattle.pb_estimate.specs.declared.spelling.Version.TheVariants.{One, Two}
 use Rattle.pb_estimate.specs.Estimates.{estimate_by}
 use Rattle.pb_check.specs.declared.fault.CertificateFault.{CertificateFault}
 use Rattle.pb_check.specs.declared.fault.CertificateFault.TheVariants as faults
@@ -29,7 +32,8 @@ use Rattle.pb_check.specs.declared.fault.CheckError.{CheckError}
 use Rattle.pb_check.specs.Shown.{IsAccepted}
 use Rattle.pb_check.specs.Faults.{◌>>=◌, Gives}
 use Rattle.pb_check.specs.Reading.{Text, text_of}
-use Rattle.pb_check.specs.Judging.{passes, or_then, unless, same_kind, stated_fault, is_weight, after_step, walk, plan_fault, plan_fault_if_any, AreAbove, Rise, rows_order_fault, first_fault_by, state_fault, g_of, is_zero, target_fault, step_fault, steps_fault, may_be_cut, row_fault, verdict_of, judged, checked}
+use Rattle.pb_check.specs.Spelling.{HasWidthOf}
+use Rattle.pb_check.specs.Judging.{passes, or_then, unless, same_kind, width_fault, stated_fault, is_weight, after_step, walk, plan_fault, plan_fault_if_any, AreAbove, Rise, rows_order_fault, first_fault_by, state_fault, g_of, is_zero, target_fault, step_fault, steps_fault, may_be_cut, row_fault, verdict_of, judged, checked}
 use Rattle.pb_check.proofs.Finding.{order_rises}
 use Rattle.pb_check.proofs.Spelled.{bind_ok, ok_is, spelled}
 use Rattle.pb_check.proofs.Written.{is_spelled}
@@ -48,7 +52,7 @@ first_none : (a b : Option CertificateFault) → or_then a b ≡ None → (a ≡
 first_none None b e = (refl, e)
 first_none (Some f) b e = absurd cc
 
--- ---- kind and weight
+-- ---- kind, width and weight
 
 pub kinds_same : (a b : Kind) → same_kind a b ≡ true → b ≡ a
 kinds_same Grid Grid e = refl
@@ -60,6 +64,10 @@ kinds_same Tiles Grid e = absurd cc
 kinds_same Tiles Strips e = absurd cc
 kinds_same Strips Grid e = absurd cc
 kinds_same Strips Tiles e = absurd cc
+
+pub width_suits : (parts : TaskParts) (version : Version) (width : ℕ) → width_fault parts version width ≡ None → HasWidthOf parts version width
+width_suits parts One width e = tt
+width_suits parts Two width e = eqb-true _ _ (holds (eqb width (width_of parts)) (faults.Width width (width_of parts)) e)
 
 pub weighs : (weight : Weight) → is_weight weight ≡ true → IsWeight weight
 weighs weight e =
@@ -207,6 +215,7 @@ stated_estimate parts text = estimate_by parts text.spelling.stated.choice
 
 pub record IsJudged (parts : TaskParts) (text : Text) (verdict : Verdict) : Type 0 where
   pub kind : text.spelling.kind ≡ kind_of parts
+  pub width : HasWidthOf parts text.spelling.version text.spelling.width
   pub stated : stated_fault parts text.spelling.stated ≡ None
   pub valid : IsValid (space_of parts) (stated_estimate parts text) text.certificate
   pub verdict_is : verdict ≡ verdict_of text.certificate.weight text.certificate.plan
@@ -221,7 +230,8 @@ judged_valid parts greatest text verdict proper e =
     let weight = text.certificate.weight in
     let best = cost_of text.certificate.plan in
     let b1 = bind_ok (passes (unless (same_kind kind text.spelling.kind) faults.Kind)) _ verdict e in
-    let b0 = bind_ok (passes (stated_fault parts text.spelling.stated)) _ verdict b1.2 in
+    let bw = bind_ok (passes (width_fault parts text.spelling.version text.spelling.width)) _ verdict b1.2 in
+    let b0 = bind_ok (passes (stated_fault parts text.spelling.stated)) _ verdict bw.2 in
     let b2 = bind_ok (passes (unless (is_weight weight) faults.Weight)) _ verdict b0.2 in
     let b3 = bind_ok (plan_fault_if_any space text.certificate.plan) _ verdict b2.2 in
     let b4 = bind_ok (passes (rows_order_fault text.first lines)) _ verdict b3.2 in
@@ -229,6 +239,7 @@ judged_valid parts greatest text verdict proper e =
     let b6 = bind_ok (passes (unless (is_zero (g_of lines space.start)) faults.NoStart)) _ verdict b5.2 in
     let b7 = bind_ok (passes (first_fault_by (row_fault space estimate weight best lines) text.first lines)) _ verdict b6.2 in record {
       kind = kinds_same kind text.spelling.kind (holds (same_kind kind text.spelling.kind) faults.Kind (passed (unless (same_kind kind text.spelling.kind) faults.Kind) b1.0 b1.1));
+      width = width_suits parts text.spelling.version text.spelling.width (passed (width_fault parts text.spelling.version text.spelling.width) bw.0 bw.1);
       stated = passed (stated_fault parts text.spelling.stated) b0.0 b0.1;
       valid = record {
         weight = weighs weight (holds (is_weight weight) faults.Weight (passed (unless (is_weight weight) faults.Weight) b2.0 b2.1));
@@ -252,6 +263,7 @@ accepted parts greatest bytes verdict proper e =
       certificate = b.0.certificate;
       spelled = is_spelled bytes b.0 (spelled bytes b.0 b.1);
       kind = v.kind;
+      width = v.width;
       stated = v.stated;
       valid = v.valid;
       verdict_is = v.verdict_is;

@@ -1,20 +1,17 @@
 -- What is spelled line by line is the text of a certificate, and the other way round.
-use Rattle.std.proofs.Common.{◌≡◌, ℕ, ◌^◌, ◌<◌, Bool, true, false, if◌then◌else◌, Option, None, Some, List, [], ◌∷◌, ◌++◌, length, map, All, Ok, refl, sym, ap, ◌∙◌, subst, append_assoc}
+use Rattle.std.proofs.Common.{◌≡◌, ℕ, ◌^◌, ◌<◌, Bool, true, false, if◌then◌else◌, Option, None, Some, List, [], ◌∷◌, ◌++◌, length, map, All, Ok, refl, sym, ap, ◌∙◌, append_assoc}
 use Rattle.std.specs.Prelude.{codes}
 use Rattle.std.specs.Fmt.{decimal}
 use Rattle.std.proofs.lemmas.List.Elements.{All-nil, All-cons, All-head, All-tail}
-use Rattle.pb_packed.specs.Sizes.{version_1_digits}
 use Rattle.pb_packed.specs.Digits.{hex_digits}
 use Rattle.pb_model.specs.Weight.{Weight}
 use Rattle.pb_model.specs.Plan.{Plan}
 use Rattle.pb_model.specs.Certificate.{Line, Certificate}
 use Rattle.pb_model.specs.Texts as texts
 use Rattle.pb_estimate.specs.declared.spelling.Spelling.{Spelling}
-use Rattle.pb_estimate.specs.declared.spelling.Version.{Version}
-use Rattle.pb_estimate.specs.declared.spelling.Version.TheVariants.{One}
-use Rattle.pb_estimate.specs.Spelling.{IsWidthOf, head_of}
+use Rattle.pb_estimate.specs.Spelling.{head_of}
 use Rattle.pb_check.specs.Reading.{Text, first_line, text_of}
-use Rattle.pb_check.specs.Spelling.{PlanFitsIfAny, Fits, IsSpelled, ReadAsSpelled, TextsHaveOneSpelling}
+use Rattle.pb_check.specs.Spelling.{PlanFitsIfAny, IsSpelled, ReadAsSpelled, TextsHaveOneSpelling}
 use Rattle.pb_check.proofs.Lines.{BeginsWithNumber, closed_text, IsWeightLine, IsRowLine, AreActionLines, AreRowLines, ArePlanLines, Spells}
 use Rattle.pb_check.proofs.Spelled.{ok_is, spelled}
 use Rattle.pb_check.proofs.Readable.{readable}
@@ -55,52 +52,52 @@ lines_of_actions text (action ∷ actions) rest is small =
 
 -- ---- rows
 
-abbrev IsSmall : Line → Type 0
-IsSmall row = (row.state < 16 ^ version_1_digits) × (row.g < 2 ^ 63)
+abbrev IsSmall : (width : ℕ) → Line → Type 0
+IsSmall width row = (row.state < 16 ^ width) × (row.g < 2 ^ 63)
 
 end_of_row : (is_closed : Bool) → closed_text is_closed ≡ (if is_closed then codes "closed" else codes "cut")
 end_of_row true = refl
 end_of_row false = refl
 
-row_is : (line : List ℕ) (row : Line) → IsRowLine line row → (line ≡ texts.line_text version_1_digits row) × IsSmall row
-row_is line row is =
-    let state = state_word_is is.state row.state is.state_is in
+row_is : (width : ℕ) (line : List ℕ) (row : Line) → IsRowLine width line row → (line ≡ texts.line_text width row) × IsSmall width row
+row_is width line row is =
+    let state = state_word_is width is.state row.state is.state_is in
     let g = number_word_is is.g row.g is.g_is in (
       is.line_is ∙ ap (λ (w : List ℕ). w ++ 32 ∷ (is.g ++ 32 ∷ closed_text row.is_closed)) state.0
-          ∙ ap (λ (w : List ℕ). hex_digits version_1_digits row.state ++ 32 ∷ (w ++ 32 ∷ closed_text row.is_closed)) g
-          ∙ ap (λ (w : List ℕ). hex_digits version_1_digits row.state ++ 32 ∷ (decimal row.g ++ 32 ∷ w)) (end_of_row row.is_closed),
+          ∙ ap (λ (w : List ℕ). hex_digits width row.state ++ 32 ∷ (w ++ 32 ∷ closed_text row.is_closed)) g
+          ∙ ap (λ (w : List ℕ). hex_digits width row.state ++ 32 ∷ (decimal row.g ++ 32 ∷ w)) (end_of_row row.is_closed),
       (state.1, is.g_is.small),
     )
 
-pub line_of_row : (row : Line) → IsSmall row → IsRowLine (texts.line_text version_1_digits row) row
-line_of_row row small = record {
-  state = hex_digits version_1_digits row.state;
+pub line_of_row : (width : ℕ) (row : Line) → IsSmall width row → IsRowLine width (texts.line_text width row) row
+line_of_row width row small = record {
+  state = hex_digits width row.state;
   g = decimal row.g;
-  line_is = ap (λ (w : List ℕ). hex_digits version_1_digits row.state ++ 32 ∷ (decimal row.g ++ 32 ∷ w)) (sym (end_of_row row.is_closed));
-  state_is = state_word (hex_digits version_1_digits row.state) row.state refl small.0;
+  line_is = ap (λ (w : List ℕ). hex_digits width row.state ++ 32 ∷ (decimal row.g ++ 32 ∷ w)) (sym (end_of_row row.is_closed));
+  state_is = state_word width (hex_digits width row.state) row.state refl small.0;
   g_is = number_word (decimal row.g) row.g refl small.1;
 }
 
-rows_are : (text : List ℕ) (rows : List Line) (rest : List ℕ) → AreRowLines text rows rest → (text ≡ texts.lines (map (texts.line_text version_1_digits) rows) ++ rest) × All IsSmall rows
-rows_are text [] rest are = (are, All-nil IsSmall)
-rows_are text (row ∷ rows) rest (line, after, begins, is, are) =
-    let one = row_is line row is in
-    let others = rows_are after rows rest are in (
-      begins ∙ ap (λ (t : List ℕ). t ++ 10 ∷ after) one.0 ∙ sym (line_then (texts.line_text version_1_digits row) after)
-          ∙ ap (λ (t : List ℕ). texts.line (texts.line_text version_1_digits row) ++ t) others.0
-          ∙ sym (append_assoc (texts.line (texts.line_text version_1_digits row)) (texts.lines (map (texts.line_text version_1_digits) rows)) rest),
-      All-cons IsSmall row rows one.1 others.1,
+rows_are : (width : ℕ) (text : List ℕ) (rows : List Line) (rest : List ℕ) → AreRowLines width text rows rest → (text ≡ texts.lines (map (texts.line_text width) rows) ++ rest) × All (IsSmall width) rows
+rows_are width text [] rest are = (are, All-nil (IsSmall width))
+rows_are width text (row ∷ rows) rest (line, after, begins, is, are) =
+    let one = row_is width line row is in
+    let others = rows_are width after rows rest are in (
+      begins ∙ ap (λ (t : List ℕ). t ++ 10 ∷ after) one.0 ∙ sym (line_then (texts.line_text width row) after)
+          ∙ ap (λ (t : List ℕ). texts.line (texts.line_text width row) ++ t) others.0
+          ∙ sym (append_assoc (texts.line (texts.line_text width row)) (texts.lines (map (texts.line_text width) rows)) rest),
+      All-cons (IsSmall width) row rows one.1 others.1,
     )
 
-lines_of_rows : (text : List ℕ) (rows : List Line) (rest : List ℕ) → text ≡ texts.lines (map (texts.line_text version_1_digits) rows) ++ rest → All IsSmall rows → AreRowLines text rows rest
-lines_of_rows text [] rest is small = is
-lines_of_rows text (row ∷ rows) rest is small =
-    let after : List ℕ = texts.lines (map (texts.line_text version_1_digits) rows) ++ rest in (
-      texts.line_text version_1_digits row,
+lines_of_rows : (width : ℕ) (text : List ℕ) (rows : List Line) (rest : List ℕ) → text ≡ texts.lines (map (texts.line_text width) rows) ++ rest → All (IsSmall width) rows → AreRowLines width text rows rest
+lines_of_rows width text [] rest is small = is
+lines_of_rows width text (row ∷ rows) rest is small =
+    let after : List ℕ = texts.lines (map (texts.line_text width) rows) ++ rest in (
+      texts.line_text width row,
       after,
-      is ∙ append_assoc (texts.line (texts.line_text version_1_digits row)) (texts.lines (map (texts.line_text version_1_digits) rows)) rest ∙ line_then (texts.line_text version_1_digits row) after,
-      line_of_row row (All-head IsSmall row rows small),
-      lines_of_rows after rows rest refl (All-tail IsSmall row rows small),
+      is ∙ append_assoc (texts.line (texts.line_text width row)) (texts.lines (map (texts.line_text width) rows)) rest ∙ line_then (texts.line_text width row) after,
+      line_of_row width row (All-head (IsSmall width) row rows small),
+      lines_of_rows width after rows rest refl (All-tail (IsSmall width) row rows small),
     )
 
 -- ---- the plan
@@ -169,70 +166,65 @@ weight_words c = codes "weight " ++ (decimal c.weight.num ++ 32 ∷ decimal c.we
 abbrev count_words : Certificate → List ℕ
 count_words c = codes "rows " ++ decimal (length c.lines)
 
-abbrev row_lines : Certificate → List ℕ
-row_lines c = texts.lines (map (texts.line_text version_1_digits) c.lines)
+abbrev row_lines : (width : ℕ) → Certificate → List ℕ
+row_lines width c = texts.lines (map (texts.line_text width) c.lines)
 
 abbrev end_line : List ℕ
 end_line = codes "end" ++ 10 ∷ []
 
-abbrev from_rows : Certificate → List ℕ
-from_rows c = row_lines c ++ end_line
+abbrev from_rows : (width : ℕ) → Certificate → List ℕ
+from_rows width c = row_lines width c ++ end_line
 
-abbrev from_count : Certificate → List ℕ
-from_count c = texts.line (count_words c) ++ from_rows c
+abbrev from_count : (width : ℕ) → Certificate → List ℕ
+from_count width c = texts.line (count_words c) ++ from_rows width c
 
-abbrev from_plan : Certificate → List ℕ
-from_plan c = texts.plan_text c.plan ++ from_count c
+abbrev from_plan : (width : ℕ) → Certificate → List ℕ
+from_plan width c = texts.plan_text c.plan ++ from_count width c
 
-abbrev from_weight : Certificate → List ℕ
-from_weight c = weight_words c ++ 10 ∷ from_plan c
+abbrev from_weight : (width : ℕ) → Certificate → List ℕ
+from_weight width c = weight_words c ++ 10 ∷ from_plan width c
 
-whole : (head : List (List ℕ)) (c : Certificate) → texts.certificate_text head version_1_digits c ≡ texts.lines head ++ from_weight c
-whole head c = cat (texts.lines head) (weight_words c) (texts.plan_text c.plan) (count_words c) (row_lines c) end_line
-
--- each version that is read has the digits of version 1
-width_of_version : (version : Version) (width : ℕ) → IsWidthOf version width → width ≡ version_1_digits
-width_of_version One width is = is
+whole : (head : List (List ℕ)) (width : ℕ) (c : Certificate) → texts.certificate_text head width c ≡ texts.lines head ++ from_weight width c
+whole head width c = cat (texts.lines head) (weight_words c) (texts.plan_text c.plan) (count_words c) (row_lines width c) end_line
 
 pub is_spelled : (bytes : List ℕ) (text : Text) → Spells bytes text → IsSpelled bytes text.spelling text.certificate
 is_spelled bytes text is =
     let c = text.certificate in
     let head = head_of text.spelling in
-    let width : version_1_digits ≡ text.spelling.width = sym (width_of_version text.spelling.version text.spelling.width is.known) in
+    let width = text.spelling.width in
     let weight = weight_is is.weight_words c.weight is.weight.1 in
     let plan = plan_is is.plan_part c.plan is.count_line is.plan in
     let count = number_line is.count_line (codes "rows ") (length c.lines) is.row_part is.count in
-    let rows = rows_are is.row_part c.lines is.end_line is.rows in
-    let of_rows : is.row_part ≡ from_rows c = rows.0 ∙ ap (λ (t : List ℕ). row_lines c ++ t) is.end in
-    let of_count : is.count_line ≡ from_count c = count.0 ∙ ap (λ (t : List ℕ). texts.line (count_words c) ++ t) of_rows in
-    let of_plan : is.plan_part ≡ from_plan c = plan.0 ∙ ap (λ (t : List ℕ). texts.plan_text c.plan ++ t) of_count in
-    let of_weight : is.weight_line ≡ from_weight c = is.weight.0 ∙ ap (λ (t : List ℕ). t ++ 10 ∷ is.plan_part) weight ∙ ap (λ (t : List ℕ). weight_words c ++ 10 ∷ t) of_plan in
-    let fits : Fits version_1_digits c = record { weight = (is.weight.1.num_is.small, is.weight.1.den_is.small); plan = plan.1; count = count.1; lines = rows.1 } in
+    let rows = rows_are width is.row_part c.lines is.end_line is.rows in
+    let of_rows : is.row_part ≡ from_rows width c = rows.0 ∙ ap (λ (t : List ℕ). row_lines width c ++ t) is.end in
+    let of_count : is.count_line ≡ from_count width c = count.0 ∙ ap (λ (t : List ℕ). texts.line (count_words c) ++ t) of_rows in
+    let of_plan : is.plan_part ≡ from_plan width c = plan.0 ∙ ap (λ (t : List ℕ). texts.plan_text c.plan ++ t) of_count in
+    let of_weight : is.weight_line ≡ from_weight width c = is.weight.0 ∙ ap (λ (t : List ℕ). t ++ 10 ∷ is.plan_part) weight ∙ ap (λ (t : List ℕ). weight_words c ++ 10 ∷ t) of_plan in
     record {
       known = is.known;
-      text = is.head ∙ ap (λ (t : List ℕ). texts.lines head ++ t) of_weight ∙ sym (whole head c) ∙ ap (λ w. texts.certificate_text head w c) width;
-      fits = subst (λ w. Fits w c) width fits;
+      text = is.head ∙ ap (λ (t : List ℕ). texts.lines head ++ t) of_weight ∙ sym (whole head width c);
+      fits = record { weight = (is.weight.1.num_is.small, is.weight.1.den_is.small); plan = plan.1; count = count.1; lines = rows.1 };
     }
 
 pub spells : (bytes : List ℕ) (text : Text) → IsSpelled bytes text.spelling text.certificate → text.first ≡ first_line text.spelling text.certificate.plan → Spells bytes text
 spells bytes text is first =
     let c = text.certificate in
     let head = head_of text.spelling in
-    let width : text.spelling.width ≡ version_1_digits = width_of_version text.spelling.version text.spelling.width is.known in
-    let fits : Fits version_1_digits c = subst (λ w. Fits w c) width is.fits in
+    let width = text.spelling.width in
+    let fits = is.fits in
     record {
-      weight_line = from_weight c;
-      plan_part = from_plan c;
-      count_line = from_count c;
-      row_part = from_rows c;
+      weight_line = from_weight width c;
+      plan_part = from_plan width c;
+      count_line = from_count width c;
+      row_part = from_rows width c;
       end_line = end_line;
       weight_words = weight_words c;
       known = is.known;
-      head = is.text ∙ ap (λ w. texts.certificate_text head w c) width ∙ whole head c;
+      head = is.text ∙ whole head width c;
       weight = (refl, line_of_weight c.weight fits.weight);
-      plan = lines_of_plan (from_plan c) c.plan (from_count c) refl fits.plan;
-      count = line_of_number (from_count c) (codes "rows ") (length c.lines) (from_rows c) refl fits.count;
-      rows = lines_of_rows (from_rows c) c.lines end_line refl fits.lines;
+      plan = lines_of_plan (from_plan width c) c.plan (from_count width c) refl fits.plan;
+      count = line_of_number (from_count width c) (codes "rows ") (length c.lines) (from_rows width c) refl fits.count;
+      rows = lines_of_rows width (from_rows width c) c.lines end_line refl fits.lines;
       end = refl;
       first = first;
     }

@@ -1,6 +1,6 @@
 -- The case of each refusal, in the words of texts, plans and rows: all that is judged before the
 -- fault is sound, and then comes the fault.
-use Rattle.std.specs.Prelude.{◌≡◌, ◌≢◌, ℕ, ◌+◌, ◌<◌, ◌⊎◌, IsTrue, IsFalse, Option, None, Some, Err, List, [], ◌∷◌, ◌++◌, length, All, Contains}
+use Rattle.std.specs.Prelude.{◌≡◌, ◌≢◌, ℕ, ◌+◌, ◌<◌, ◌⊎◌, IsTrue, IsFalse, None, Some, Err, List, [], ◌∷◌, ◌++◌, length, All, Contains}
 use Rattle.pb_model.specs.Space.{Space, Steps}
 use Rattle.pb_model.specs.Weight.{IsWeight}
 use Rattle.pb_model.specs.Plan.{Plan, Walk}
@@ -9,13 +9,15 @@ use Rattle.pb_model.specs.Certificate.{Line, Certificate, Ascends, HasLineWithin
 use Rattle.pb_task.specs.declared.parts.TaskParts.{TaskParts}
 use Rattle.pb_task.specs.Parts.{space_of, IsTask}
 use Rattle.pb_task.specs.Kinds.{kind_of}
+use Rattle.pb_task.specs.Widths.{width_of}
 use Rattle.pb_estimate.specs.declared.spelling.Spelling.{Spelling}
+use Rattle.pb_estimate.specs.declared.spelling.Version.TheVariants.{Two}
 use Rattle.pb_estimate.specs.Estimates.{estimate_by}
 use Rattle.pb_lines.specs.Words.{line_feeds}
 use Rattle.pb_check.specs.declared.fault.CertificateFault.{CertificateFault}
 use Rattle.pb_check.specs.declared.fault.CertificateFault.TheVariants as faults
 use Rattle.pb_check.specs.Reading.{first_line}
-use Rattle.pb_check.specs.Spelling.{IsSpelled}
+use Rattle.pb_check.specs.Spelling.{IsSpelled, HasWidthOf}
 use Rattle.pb_check.specs.Judging.{stated_fault, checked}
 
 -- ---- the text
@@ -53,10 +55,12 @@ IsSaid bytes Fault =
 
 -- ---- what is judged, one thing after another
 
--- it is for a task of this kind, and nothing that it states besides is a fault
+-- it is for a task of this kind, with states of its width, and nothing that it states besides is a
+-- fault
 abbrev pub IsForTask : TaskParts → Spelling → Type 0
 IsForTask parts spelling =
-    (spelling.kind ≡ kind_of parts) × (stated_fault parts spelling.stated ≡ None)
+    (spelling.kind ≡ kind_of parts) × HasWidthOf parts spelling.version spelling.width
+    × (stated_fault parts spelling.stated ≡ None)
 
 -- .. and its weight is one
 abbrev pub HasWeight : TaskParts → Spelling → Certificate → Type 0
@@ -195,6 +199,10 @@ abbrev pub IsCaseOf : TaskParts → (bytes : List ℕ) → CertificateFault → 
 IsCaseOf parts bytes (faults.Syntax line) = IsSyntaxFault bytes line
 IsCaseOf parts bytes faults.Kind =
     IsSaid bytes (λ spelling certificate. spelling.kind ≢ kind_of parts)
+IsCaseOf parts bytes (faults.Width said wanted) =
+    IsSaid bytes (λ spelling certificate. (spelling.kind ≡ kind_of parts)
+    × (spelling.version ≡ Two) × (said ≡ spelling.width) × (wanted ≡ width_of parts)
+    × (said ≢ wanted))
 IsCaseOf parts bytes faults.Weight =
     IsSaid bytes (λ spelling certificate. IsForTask parts spelling
     × (IsWeight certificate.weight → ⊥))

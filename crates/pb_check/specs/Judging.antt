@@ -12,9 +12,12 @@ use Rattle.pb_task.specs.declared.kind.Kind.TheVariants.{Grid, Tiles, Strips}
 use Rattle.pb_task.specs.declared.parts.TaskParts.{TaskParts}
 use Rattle.pb_task.specs.Parts.{space_of}
 use Rattle.pb_task.specs.Kinds.{kind_of}
+use Rattle.pb_task.specs.Widths.{width_of}
 use Rattle.pb_estimate.specs.declared.choice.Choice.{Choice}
 use Rattle.pb_estimate.specs.declared.choice.Choice.TheVariants.{Plain}
 use Rattle.pb_estimate.specs.declared.spelling.Stated.{Stated}
+use Rattle.pb_estimate.specs.declared.spelling.Version.{Version}
+use Rattle.pb_estimate.specs.declared.spelling.Version.TheVariants.{One, Two}
 use Rattle.pb_estimate.specs.Estimates.{estimate_by, suits}
 use Rattle.pb_check.specs.declared.fault.CertificateFault.{CertificateFault}
 use Rattle.pb_check.specs.declared.fault.CertificateFault.TheVariants as faults
@@ -47,6 +50,11 @@ same_kind Tiles Grid = false
 same_kind Tiles Strips = false
 same_kind Strips Grid = false
 same_kind Strips Tiles = false
+
+-- the fault of the number of digits that a text states, for this task; version 1 states none
+abbrev pub width_fault : TaskParts → Version → (width : ℕ) → Option CertificateFault
+width_fault parts One width = None
+width_fault parts Two width = unless (width == width_of parts) (faults.Width width (width_of parts))
 
 -- the fault of a choice of an estimate that a text states
 abbrev pub choice_fault : TaskParts → Choice → Option CertificateFault
@@ -180,6 +188,7 @@ verdict_of weight (Some plan) = Bounded plan.cost (bound_of weight plan.cost)
 unfoldable pub judged : TaskParts → Text → Result Verdict CertificateFault
 judged parts text = do
   kinds ← passes (unless (same_kind (kind_of parts) text.spelling.kind) faults.Kind)
+  widths ← passes (width_fault parts text.spelling.version text.spelling.width)
   stated ← passes (stated_fault parts text.spelling.stated)
   weights ← passes (unless (is_weight text.certificate.weight) faults.Weight)
   plans ← plan_fault_if_any (space_of parts) text.certificate.plan

@@ -7,6 +7,7 @@ pub use Rattle.pb_task.specs.Parts
 pub mod Faults
 pub mod Words
 pub mod Reading
+pub mod Numbers
 pub mod Rows
 pub mod Spelling
 pub mod Judging

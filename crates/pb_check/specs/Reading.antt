@@ -1,7 +1,7 @@
 -- Reading a certificate from its first byte to its last, with the first line that is not spelled as
 -- it must be.
-use Rattle.std.specs.Prelude.{ℕ, zero, suc, ◌+◌, Bool, true, false, Option, None, Some, List, [], ◌∷◌, length, Result, Ok, Err, if◌then◌else◌, ◌==◌, codes}
-use Rattle.pb_packed.specs.Sizes.{version_1_digits}
+use Rattle.std.specs.Prelude.{ℕ, zero, suc, ◌+◌, Bool, true, false, Option, None, Some, List, [], ◌∷◌, length, Result, Ok, Err, if◌then◌else◌, nat_le, ◌==◌, ◌&&◌, codes}
+use Rattle.pb_packed.specs.Sizes.{version_1_digits, most_digits}
 use Rattle.pb_model.specs.Weight.{Weight}
 use Rattle.pb_model.specs.Plan.{Plan}
 use Rattle.pb_model.specs.Certificate.{Line, Certificate}
@@ -11,8 +11,9 @@ use Rattle.pb_estimate.specs.declared.choice.Choice.{Choice}
 use Rattle.pb_estimate.specs.declared.choice.Choice.TheVariants.{Plain}
 use Rattle.pb_estimate.specs.declared.spelling.Stated.{Stated}
 use Rattle.pb_estimate.specs.declared.spelling.Spelling.{Spelling}
-use Rattle.pb_estimate.specs.declared.spelling.Version.TheVariants.{One}
-use Rattle.pb_estimate.specs.Spelling.{version_line, kind_line, head_lines}
+use Rattle.pb_estimate.specs.declared.spelling.Version.{Version}
+use Rattle.pb_estimate.specs.declared.spelling.Version.TheVariants.{One, Two}
+use Rattle.pb_estimate.specs.Spelling.{version_line, kind_line, width_text, head_lines}
 use Rattle.pb_check.specs.declared.fault.CertificateFault.{CertificateFault}
 use Rattle.pb_check.specs.declared.fault.CertificateFault.TheVariants.{Syntax}
 use Rattle.pb_check.specs.Faults.{◌>>=◌, wanted}
@@ -30,11 +31,22 @@ abbrev pub number_behind : (line : ℕ) → (piece text : List ℕ) → Result �
 number_behind line piece text =
     wanted line (behind piece text) >>= λ word. wanted line (number_of word)
 
+unfoldable pub version_in : (line : ℕ) → List ℕ → Result Version CertificateFault
+version_in line text =
+    if is_text (version_line One) text then Ok One
+    else (if is_text (version_line Two) text then Ok Two else Err (Syntax line))
+
 unfoldable pub kind_in : (line : ℕ) → List ℕ → Result Kind CertificateFault
 kind_in line text =
     if is_text (kind_line Grid) text then Ok Grid
     else (if is_text (kind_line Tiles) text then Ok Tiles
     else (if is_text (kind_line Strips) text then Ok Strips else Err (Syntax line)))
+
+-- how many digits a state has, from 1 to 256
+unfoldable pub width_in : (line : ℕ) → List ℕ → Result ℕ CertificateFault
+width_in line text = do
+  width ← number_behind line (codes "width ") text
+  if nat_le 1 width && nat_le width most_digits then Ok width else Err (Syntax line)
 
 unfoldable pub weight_in : (line : ℕ) → List ℕ → Result Weight CertificateFault
 weight_in line text = do
@@ -49,11 +61,12 @@ closed_in line text =
     if is_text (codes "closed") text then Ok true
     else (if is_text (codes "cut") text then Ok false else Err (Syntax line))
 
-unfoldable pub row_in : (line : ℕ) → List ℕ → Result Line CertificateFault
-row_in line text = do
+-- a row whose state has so many digits
+unfoldable pub row_in : (width line : ℕ) → List ℕ → Result Line CertificateFault
+row_in width line text = do
   front ← wanted line (part 32 text)
   back ← wanted line (part 32 front.1)
-  state ← wanted line (state_of front.0)
+  state ← wanted line (state_of width front.0)
   g ← wanted line (number_of back.0)
   is_closed ← closed_in line back.1
   Ok (record { state = state; g = g; is_closed = is_closed })
@@ -71,23 +84,46 @@ number_at line piece text = do
   n ← number_behind line piece first.0
   Ok (n, first.1)
 
+unfoldable pub version_at : (line : ℕ) → List ℕ → Result (Version × List ℕ) CertificateFault
+version_at line text = do
+  first ← line_at line text
+  version ← version_in line first.0
+  Ok (version, first.1)
+
 unfoldable pub kind_at : (line : ℕ) → List ℕ → Result (Kind × List ℕ) CertificateFault
 kind_at line text = do
   first ← line_at line text
   kind ← kind_in line first.0
   Ok (kind, first.1)
 
--- what is stated besides, if it is the version that this program reads: the plain choice, in no line
+-- how many digits a state has: a line says it from version 2 on
+unfoldable pub width_at : Version → (line : ℕ) → List ℕ → Result (ℕ × List ℕ) CertificateFault
+width_at One line text = Ok (version_1_digits, text)
+width_at Two line text = do
+  first ← line_at line text
+  width ← width_in line first.0
+  Ok (width, first.1)
+
+-- what is stated besides: in both versions the plain choice, in no line
 unfoldable pub stated_at : (line : ℕ) → List ℕ → Result (Stated × List ℕ) CertificateFault
 stated_at line text = Ok (record { choice = Plain }, text)
 
--- the lines before the weight, which say that states have the digits of version 1
+-- the lines before the weight
 unfoldable pub head_at : List ℕ → Result (Spelling × List ℕ) CertificateFault
 head_at text = do
-  rest ← fixed_at 1 (version_line One) text
-  kind ← kind_at 2 rest
-  stated ← stated_at 3 kind.1
-  Ok (record { kind = kind.0; version = One; width = version_1_digits; stated = stated.0 }, stated.1)
+  version ← version_at 1 text
+  kind ← kind_at 2 version.1
+  width ← width_at version.0 3 kind.1
+  stated ← stated_at (3 + length (width_text version.0 width.0)) width.1
+  Ok (
+    record {
+      kind = kind.0;
+      version = version.0;
+      width = width.0;
+      stated = stated.0;
+    },
+    stated.1,
+  )
 
 unfoldable pub weight_at : (line : ℕ) → List ℕ → Result (Weight × List ℕ) CertificateFault
 weight_at line text = do
@@ -95,10 +131,10 @@ weight_at line text = do
   weight ← weight_in line first.0
   Ok (weight, first.1)
 
-unfoldable pub row_at : (line : ℕ) → List ℕ → Result (Line × List ℕ) CertificateFault
-row_at line text = do
+unfoldable pub row_at : (width line : ℕ) → List ℕ → Result (Line × List ℕ) CertificateFault
+row_at width line text = do
   first ← line_at line text
-  row ← row_in line first.0
+  row ← row_in width line first.0
   Ok (row, first.1)
 
 -- that many actions, one a line
@@ -110,11 +146,12 @@ actions_at (suc count) line text = do
   Ok (first.0 ∷ others.0, others.1)
 
 -- that many rows, one a line
-unfoldable pub rows_at : (count line : ℕ) → List ℕ → Result (List Line × List ℕ) CertificateFault
-rows_at zero line text = Ok ([], text)
-rows_at (suc count) line text = do
-  first ← row_at line text
-  others ← rows_at count (line + 1) first.1
+unfoldable pub rows_at : (width count line : ℕ) → List ℕ
+    → Result (List Line × List ℕ) CertificateFault
+rows_at width zero line text = Ok ([], text)
+rows_at width (suc count) line text = do
+  first ← row_at width line text
+  others ← rows_at width count (line + 1) first.1
   Ok (first.0 ∷ others.0, others.1)
 
 -- a plan of that many steps, and its cost
@@ -151,10 +188,10 @@ end_at line text = do
   if length rest == 0 then Ok true else Err (Syntax (line + 1))
 
 -- the rows and the end
-unfoldable pub body_at : (line : ℕ) → List ℕ → Result (List Line) CertificateFault
-body_at line text = do
+unfoldable pub body_at : (width line : ℕ) → List ℕ → Result (List Line) CertificateFault
+body_at width line text = do
   count ← number_at line (codes "rows ") text
-  rows ← rows_at count.0 (line + 1) count.1
+  rows ← rows_at width count.0 (line + 1) count.1
   ended ← end_at (line + 1 + length rows.0) rows.1
   Ok rows.0
 
@@ -172,7 +209,7 @@ text_of bytes = do
   head ← head_at bytes
   weight ← weight_at (weight_line head.0) head.1
   plan ← plan_at (weight_line head.0 + 1) weight.1
-  rows ← body_at (weight_line head.0 + 1 + plan_lines plan.0) plan.1
+  rows ← body_at head.0.width (weight_line head.0 + 1 + plan_lines plan.0) plan.1
   Ok (record {
     spelling = head.0;
     certificate = record {

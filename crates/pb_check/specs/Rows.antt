@@ -1,6 +1,5 @@
 -- The rows of a certificate as arrays of their states, costs and statuses.
-use Rattle.std.specs.Prelude.{ℕ, ◌*◌, ◌^◌, ◌<◌, Bool, List, [], ◌∷◌, All}
-use Rattle.pb_packed.specs.Sizes.{version_1_digits}
+use Rattle.std.specs.Prelude.{ℕ, zero, suc, Bool, true, List, [], ◌∷◌, nat_lt}
 use Rattle.pb_model.specs.Certificate.{Line}
 
 abbrev pub rows_of : (states costs : List ℕ) (closed : List Bool) → List Line
@@ -9,9 +8,9 @@ rows_of (s ∷ ss) [] cs = []
 rows_of (s ∷ ss) (g ∷ gs) [] = []
 rows_of (s ∷ ss) (g ∷ gs) (c ∷ cs) = record { state = s; g = g; is_closed = c } ∷ rows_of ss gs cs
 
--- the digits of version 1 can spell this state
-abbrev pub IsSmall : ℕ → Type 0
-IsSmall state = state < 2 ^ (4 * version_1_digits)
-
-abbrev pub AreSmall : List ℕ → Type 0
-AreSmall = All IsSmall
+-- whether the state of the row after the one in this place is above that row's
+abbrev pub rises_at : List Line → (i : ℕ) → Bool
+rises_at [] i = true
+rises_at (row ∷ []) i = true
+rises_at (row ∷ next ∷ rows) zero = nat_lt row.state next.state
+rises_at (row ∷ next ∷ rows) (suc i) = rises_at (next ∷ rows) i

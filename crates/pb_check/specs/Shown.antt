@@ -13,7 +13,7 @@ use Rattle.pb_lines.specs.Words.{line_feeds}
 use Rattle.pb_check.specs.declared.fault.Verdict.{Verdict}
 use Rattle.pb_check.specs.declared.fault.Claim.TheVariants.{Bounded, Unsolvable}
 use Rattle.pb_check.specs.declared.fault.CertificateFault.TheVariants.{Syntax}
-use Rattle.pb_check.specs.Spelling.{IsSpelled}
+use Rattle.pb_check.specs.Spelling.{IsSpelled, HasWidthOf}
 use Rattle.pb_check.specs.Judging.{stated_fault, verdict_of, bound_of, checked}
 
 -- The bytes spell a valid certificate of this task, and this is its verdict. The estimate by which
@@ -23,6 +23,7 @@ pub record IsAccepted (parts : TaskParts) (bytes : List ℕ) (verdict : Verdict)
   pub certificate : Certificate
   pub spelled : IsSpelled bytes spelling certificate
   pub kind : spelling.kind ≡ kind_of parts
+  pub width : HasWidthOf parts spelling.version spelling.width
   pub stated : stated_fault parts spelling.stated ≡ None
   pub valid : IsValid (space_of parts) (estimate_by parts spelling.stated.choice) certificate
   pub verdict_is : verdict ≡ verdict_of certificate.weight certificate.plan

@@ -2,7 +2,11 @@
 use Rattle.std.specs.Prelude.{◌≡◌, ℕ, ◌^◌, ◌<◌, List, length, All, Option, None, Some, Ok, ⊤}
 use Rattle.pb_model.specs.Plan.{Plan}
 use Rattle.pb_model.specs.Certificate.{Certificate}
+use Rattle.pb_task.specs.declared.parts.TaskParts.{TaskParts}
+use Rattle.pb_task.specs.Widths.{width_of}
 use Rattle.pb_estimate.specs.declared.spelling.Spelling.{Spelling}
+use Rattle.pb_estimate.specs.declared.spelling.Version.{Version}
+use Rattle.pb_estimate.specs.declared.spelling.Version.TheVariants.{One, Two}
 use Rattle.pb_estimate.specs.Spelling.{IsSpelling, spelled_text}
 use Rattle.pb_check.specs.Reading.{Text, first_line, text_of}
 
@@ -33,6 +37,12 @@ pub record IsSpelled (bytes : List ℕ) (spelling : Spelling) (certificate : Cer
     pub known : IsSpelling spelling
     pub text : bytes ≡ spelled_text spelling certificate
     pub fits : Fits spelling.width certificate
+
+-- What a text of this version says of the digits of a state is what the task's states need. Version
+-- 1 says nothing of the task: its states have 64 digits, whatever the task is.
+abbrev pub HasWidthOf : TaskParts → Version → (width : ℕ) → Type 0
+HasWidthOf parts One width = ⊤
+HasWidthOf parts Two width = width ≡ width_of parts
 
 -- What is read is spelled so, and what is spelled so is read, with the line of the first row.
 abbrev pub ReadAsSpelled : Type 0

@@ -1,7 +1,11 @@
 -- States as words of hexadecimal digits.
-use Rattle.std.specs.Prelude.{ℕ, ◌+◌, ◌-◌, ◌*◌, Option, None, Some, List, [], ◌∷◌, length, if◌then◌else◌, nat_lt, nat_le, ◌==◌, ◌&&◌}
-use Rattle.pb_packed.specs.Sizes.{version_1_digits}
+use Rattle.std.specs.Prelude.{ℕ, Bool, true, false, ◌+◌, ◌-◌, ◌*◌, ◌/◌, Option, None, Some, List, [], ◌∷◌, length, if◌then◌else◌, nat_lt, nat_le, ◌==◌, ◌&&◌}
+use Rattle.pb_packed.specs.Words.{number_of}
 use Rattle.pb_lines.specs.Words.{is_digit}
+
+-- how many words of 64 bits a state of so many digits takes, sixteen digits each
+abbrev pub words_for : (width : ℕ) → ℕ
+words_for width = (width + 15) / 16
 
 -- the value of a hexadecimal digit, 0 to 9 and a to f, and 16 for another byte
 abbrev pub hex_value : ℕ → ℕ
@@ -11,6 +15,11 @@ unfoldable pub hex_after : ℕ → List ℕ → Option ℕ
 hex_after n [] = Some n
 hex_after n (b ∷ bs) = if nat_lt (hex_value b) 16 then hex_after (n * 16 + hex_value b) bs else None
 
--- the state that exactly the digits of version 1 spell
-abbrev pub state_of : List ℕ → Option ℕ
-state_of word = if length word == version_1_digits then hex_after 0 word else None
+-- the state that exactly so many digits spell
+abbrev pub state_of : (width : ℕ) → List ℕ → Option ℕ
+state_of width word = if length word == width then hex_after 0 word else None
+
+-- the state that was read into these words, if it was
+abbrev pub read_by : Bool → (words : List ℕ) → Option ℕ
+read_by true words = Some (number_of words)
+read_by false words = None

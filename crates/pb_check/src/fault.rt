@@ -13,6 +13,9 @@ pub enum CertificateFault {
     Syntax { line: u64 },
     /// It is for a task of another kind.
     Kind,
+    /// It is of version 2 and says that a state has `said` hexadecimal digits; those of the task's
+    /// states are `wanted`.
+    Width { said: u32, wanted: u32 },
     /// The weight is not a fraction from 1 to 1000 whose denominator is at least 1 and whose
     /// numerator is at most 1000.
     Weight,

@@ -6,17 +6,16 @@ ghost use Rattle.pb_task.specs.Parts.{space_of, IsTask, greatest_cost};
 ghost use Rattle.pb_estimate.specs.Estimates.{estimate_by};
 ghost use Rattle.pb_estimate.specs.Tables.{IsOfTask};
 ghost use Rattle.pb_check.specs.Faults.{Gives};
-ghost use Rattle.pb_check.specs.Judging.{passes, unless, same_kind, stated_fault, is_weight, walk, plan_fault, plan_fault_if_any, order_fault, rows_order_fault, first_fault_by, state_fault, g_of, is_zero, target_fault, step_fault, steps_fault, may_be_cut, row_fault, bound_of, verdict_of, judged, Rise};
+ghost use Rattle.pb_check.specs.Judging.{passes, unless, same_kind, width_fault, stated_fault, is_weight, walk, plan_fault, plan_fault_if_any, order_fault, rows_order_fault, first_fault_by, state_fault, g_of, is_zero, target_fault, step_fault, steps_fault, may_be_cut, row_fault, bound_of, verdict_of, judged, Rise};
 
 use crate::fault::{CertificateFault, CheckError, Claim, Verdict};
 use crate::rows::{StatedRow, StatedRows};
 use crate::stated::{StatedPlan, StatedText, StatedWeight};
-use pb_estimate::{Choice, Estimator, Stated};
+use pb_estimate::{Choice, Estimator, Stated, Version};
 use pb_model::Estimate;
 use pb_packed::Packed;
 use pb_task::{Kind, Task};
 use std::alloc::Global;
-use std::cmp::Ordering;
 
 fn pass(fault: Option<CertificateFault>) -> Result<bool, CheckError>
     ensures gives { Gives (λ x. x) result (passes fault) }
@@ -53,6 +52,25 @@ fn same_kind(one: Kind, two: Kind) -> bool
         (Kind::Grid, Kind::Grid) | (Kind::Tiles, Kind::Tiles) | (Kind::Strips, Kind::Strips) =>
             true,
         _ => false,
+    }
+}
+
+// The fault of the number of digits that a text states.
+fn width_fault(task: &Task, version: Version, width: u32) -> Option<CertificateFault>
+    ensures { result ≡ width_fault task.now version width }
+{
+    match version {
+        Version::One => None,
+        Version::Two => {
+            let wanted = task.width();
+            unless(
+                width == wanted,
+                CertificateFault::Width {
+                    said: width,
+                    wanted,
+                },
+            )
+        }
     }
 }
 
@@ -136,13 +154,6 @@ fn judge_plan_if_any(task: &Task, plan: &Option<StatedPlan>) -> Result<bool, Che
 
 // ---- the rows
 
-fn is_above(state: &Packed, other: &Packed) -> bool
-    ensures yes { result ≡ true → other.now < state.now }
-    ensures no { result ≡ false → state.now ≤ other.now }
-{
-    state.cmp(other) == Ordering::Greater
-}
-
 // The first row whose state is not above that of the row before it.
 fn rows_order_fault(line: u64, rows: &StatedRows) -> Option<CertificateFault>
     requires { line + length rows.now < 2 ^ 64 }
@@ -156,18 +167,11 @@ fn first_in_order(line: u64, rows: &StatedRows) -> Option<CertificateFault>
     requires { line + length rows.now < 2 ^ 64 }
     ensures { result ≡ rows_order_fault line rows.now }
 {
-    if rows.len() == 0 {
-        return None;
-    }
-    let first = rows.at(0);
-    let mut last = first.state;
     for i in 1..rows.len() {
-        let row = rows.at(i);
-        if !is_above(&row.state, &last) {
+        if !rows.rises_at(i) {
             let at = line + i as u64;
             return Some(CertificateFault::RowOrder { line: at });
         }
-        last = row.state;
     }
     None
 }
@@ -434,8 +438,8 @@ fn need_rows(
     pass(fault)
 }
 
-/// The verdict on what a text says, or its first fault. The estimator is of the choice that the text
-/// states.
+/// The verdict on what a text says, or its first fault. The estimator is of the choice that the
+/// text states.
 #[tactic(auto, unfolding(crate::specs::Judging::judged))]
 pub fn judge(
     alloc: Global,
@@ -458,6 +462,7 @@ pub fn judge(
         same_kind(task.kind(), text.spelling.kind),
         CertificateFault::Kind,
     )?;
+    pass(width_fault(task, text.spelling.version, text.spelling.width))?;
     pass(stated_fault(task, stated))?;
     need(is_weight(weight), CertificateFault::Weight)?;
     judge_plan_if_any(task, &text.plan)?;

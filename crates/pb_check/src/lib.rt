@@ -9,6 +9,7 @@ mod checker;
 mod fault;
 mod judging;
 mod laws;
+mod numbers;
 mod reading;
 mod rows;
 mod stated;

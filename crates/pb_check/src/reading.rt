@@ -1,21 +1,23 @@
 ghost use Rattle.std.specs.Prelude.{◌≡◌, ◌≤◌, ◌+◌, ◌<◌, ◌^◌, length, codes, IfSome, IfNone, IfOk, Some, None, Option, List, ℕ, Err, Ok, Result, []};
+ghost use Rattle.pb_packed.specs.Sizes.{most_digits};
+ghost use Rattle.pb_packed.specs.Words.{AreWords, number_of as number_in};
 ghost use Rattle.pb_model.specs.Weight.{Weight};
 ghost use Rattle.pb_model.specs.Plan.{Plan};
 ghost use Rattle.pb_model.specs.Certificate.{Certificate};
 ghost use Rattle.pb_lines.specs.Words.{number_of, behind, part};
-ghost use Rattle.pb_check.specs.Rows.{IsSmall};
-ghost use Rattle.pb_check.specs.Words.{state_of};
-ghost use Rattle.pb_estimate.specs.Spelling.{stated_text, head_lines};
+ghost use Rattle.pb_check.specs.Words.{words_for, state_of};
+ghost use Rattle.pb_estimate.specs.Spelling.{width_text, stated_text, head_lines};
 ghost use Rattle.pb_check.specs.Faults.{Gives, wanted};
-ghost use Rattle.pb_check.specs.Reading.{Text, plan_lines, line_at, number_behind, kind_in, weight_in, closed_in, row_in, fixed_at, number_at, kind_at, weight_at, row_at, actions_at, rows_at, steps_at, plan_at, end_at, body_at, stated_at, head_at, stated_choice, text_of};
+ghost use Rattle.pb_check.specs.Reading.{Text, plan_lines, line_at, number_behind, version_in, kind_in, width_in, weight_in, closed_in, row_in, fixed_at, number_at, version_at, kind_at, width_at, weight_at, row_at, actions_at, rows_at, steps_at, plan_at, end_at, body_at, stated_at, head_at, stated_choice, text_of};
 
 use crate::fault::{CertificateFault, CheckError};
-use crate::rows::{StatedRow, StatedRows};
-use crate::stated::{StatedPlan, StatedText, StatedWeight};
-use crate::words::state_of;
+use crate::numbers::Numbers;
+use crate::rows::StatedRows;
+use crate::stated::{RowEnd, StatedPlan, StatedText, StatedWeight};
+use crate::words::{read_state, words_for};
 use pb_estimate::{Choice, Spelling, Stated, Version};
 use pb_lines::{behind, is_text, number_of, part};
-use pb_packed::{DIGITS, Packed};
+use pb_packed::{DIGITS, MOST_DIGITS};
 use pb_task::Kind;
 use std::alloc::Global;
 
@@ -47,6 +49,19 @@ fn number_behind(line: u64, text: &[u8], piece: &[u8]) -> Result<u64, CheckError
     match behind(text, piece) {
         Some(word) => number_in(line, word),
         None => Err(CheckError::Fault(CertificateFault::Syntax { line })),
+    }
+}
+
+#[tactic(auto, unfolding(crate::specs::Reading::version_in))]
+fn version_in(line: u64, text: &[u8]) -> Result<Version, CheckError>
+    ensures { Gives (λ x. x) result (version_in line text.now) }
+{
+    if is_text(text, b"pbnf-certificate 1") {
+        Ok(Version::One)
+    } else if is_text(text, b"pbnf-certificate 2") {
+        Ok(Version::Two)
+    } else {
+        Err(CheckError::Fault(CertificateFault::Syntax { line }))
     }
 }
 
@@ -83,13 +98,34 @@ fn behind_in<'a>(line: u64, text: &'a [u8], piece: &[u8]) -> Result<&'a [u8], Ch
     }
 }
 
-fn state_in(line: u64, text: &[u8]) -> Result<Packed, CheckError>
-    ensures gives { Gives (λ x. x) result (wanted line (state_of text.now)) }
-    ensures small { IfOk result IsSmall }
+#[tactic(auto, unfolding(crate::specs::Reading::width_in))]
+fn width_in(line: u64, text: &[u8]) -> Result<u32, CheckError>
+    ensures gives { Gives (λ x. x) result (width_in line text.now) }
+    ensures some { IfOk result (λ x. 1 ≤ x) }
+    ensures most { IfOk result (λ x. x ≤ most_digits) }
 {
-    match state_of(text) {
-        Some(state) => Ok(state),
-        None => Err(CheckError::Fault(CertificateFault::Syntax { line })),
+    let width = number_behind(line, text, b"width ")?;
+    if 1 <= width && width <= MOST_DIGITS as u64 {
+        Ok(width as u32)
+    } else {
+        Err(CheckError::Fault(CertificateFault::Syntax { line }))
+    }
+}
+
+// Reads a state of this many digits into its words.
+fn state_in(width: u32, line: u64, text: &[u8], words: &mut [u64]) -> Result<bool, CheckError>
+    requires some { 1 ≤ width }
+    requires most { width ≤ most_digits }
+    requires long { length words.old ≡ words_for width }
+    requires words { AreWords (length words.old) words.old }
+    ensures gives { Gives (λ x. number_in words.new) result
+        (wanted line (state_of width text.now)) }
+    ensures words { AreWords (length words.old) words.new }
+{
+    if read_state(width, text, words) {
+        Ok(true)
+    } else {
+        Err(CheckError::Fault(CertificateFault::Syntax { line }))
     }
 }
 
@@ -117,21 +153,26 @@ fn closed_in(line: u64, text: &[u8]) -> Result<bool, CheckError>
     }
 }
 
+// Reads the state of a row into its words.
 #[tactic(auto, unfolding(crate::specs::Reading::row_in))]
-fn row_in(line: u64, text: &[u8]) -> Result<StatedRow, CheckError>
-    ensures gives { Gives (λ x. x) result (row_in line text.now) }
-    ensures small { IfOk result (λ x. IsSmall x.state) }
+fn row_in(width: u32, line: u64, text: &[u8], words: &mut [u64]) -> Result<RowEnd, CheckError>
+    requires some { 1 ≤ width }
+    requires most { width ≤ most_digits }
+    requires long { length words.old ≡ words_for width }
+    requires words { AreWords (length words.old) words.old }
+    ensures gives { Gives (λ x. record {
+      state = number_in words.new;
+      g = x.g;
+      is_closed = x.is_closed;
+    }) result (row_in width line text.now) }
+    ensures words { AreWords (length words.old) words.new }
 {
     let (front, back) = part_in(line, text, b' ')?;
     let (middle, end) = part_in(line, back, b' ')?;
-    let state = state_in(line, front)?;
+    state_in(width, line, front, words)?;
     let g = number_in(line, middle)?;
     let is_closed = closed_in(line, end)?;
-    Ok(StatedRow {
-        state,
-        g,
-        is_closed,
-    })
+    Ok(RowEnd { g, is_closed })
 }
 
 // ---- the lines of a text, one after another
@@ -160,6 +201,16 @@ fn number_at<'a>(line: u64, text: &'a [u8], piece: &[u8]) -> Result<(u64, &'a [u
     Ok((n, rest))
 }
 
+#[tactic(auto, unfolding(crate::specs::Reading::version_at))]
+fn version_at(line: u64, text: &[u8]) -> Result<(Version, &[u8]), CheckError>
+    ensures gives { Gives (λ x. (x.0, x.1.now)) result (version_at line text.now) }
+    ensures shorter { IfOk result (λ x. length x.1.now + 1 ≤ length text.now) }
+{
+    let (first, rest) = line_at(line, text)?;
+    let version = version_in(line, first)?;
+    Ok((version, rest))
+}
+
 #[tactic(auto, unfolding(crate::specs::Reading::kind_at))]
 fn kind_at(line: u64, text: &[u8]) -> Result<(Kind, &[u8]), CheckError>
     ensures gives { Gives (λ x. (x.0, x.1.now)) result (kind_at line text.now) }
@@ -168,6 +219,25 @@ fn kind_at(line: u64, text: &[u8]) -> Result<(Kind, &[u8]), CheckError>
     let (first, rest) = line_at(line, text)?;
     let kind = kind_in(line, first)?;
     Ok((kind, rest))
+}
+
+// How many digits a state has.
+#[tactic(auto, unfolding(crate::specs::Reading::width_at))]
+fn width_at(version: Version, line: u64, text: &[u8]) -> Result<(u32, &[u8]), CheckError>
+    ensures gives { Gives (λ x. (x.0, x.1.now)) result (width_at version line text.now) }
+    ensures shorter { IfOk result (λ x. length x.1.now + length (width_text version x.0)
+        ≤ length text.now) }
+    ensures some { IfOk result (λ x. 1 ≤ x.0) }
+    ensures most { IfOk result (λ x. x.0 ≤ most_digits) }
+{
+    match version {
+        Version::One => Ok((DIGITS as u32, text)),
+        Version::Two => {
+            let (first, rest) = line_at(line, text)?;
+            let width = width_in(line, first)?;
+            Ok((width, rest))
+        }
+    }
 }
 
 // What is stated besides: the plain choice, in no line.
@@ -188,14 +258,18 @@ fn stated_at(_line: u64, text: &[u8]) -> Result<(Stated, &[u8]), CheckError>
 fn head_at(text: &[u8]) -> Result<(Spelling, &[u8]), CheckError>
     ensures gives { Gives (λ x. (x.0, x.1.now)) result (head_at text.now) }
     ensures shorter { IfOk result (λ x. length x.1.now + head_lines x.0 ≤ length text.now) }
+    ensures some { IfOk result (λ x. 1 ≤ x.0.width) }
+    ensures most { IfOk result (λ x. x.0.width ≤ most_digits) }
 {
-    let rest = fixed_at(1, text, b"pbnf-certificate 1")?;
+    let (version, rest) = version_at(1, text)?;
     let (kind, rest) = kind_at(2, rest)?;
-    let (stated, rest) = stated_at(3, rest)?;
+    let (width, rest) = width_at(version, 3, rest)?;
+    let line = 3 + u64::from(version.width_lines());
+    let (stated, rest) = stated_at(line, rest)?;
     let spelling = Spelling {
         kind,
-        version: Version::One,
-        width: DIGITS as u32,
+        version,
+        width,
         stated,
     };
     Ok((spelling, rest))
@@ -223,15 +297,32 @@ fn weight_at(line: u64, text: &[u8]) -> Result<(StatedWeight, &[u8]), CheckError
     Ok((weight, rest))
 }
 
+// Reads the state of a row into its words.
 #[tactic(auto, unfolding(crate::specs::Reading::row_at))]
-fn row_at(line: u64, text: &[u8]) -> Result<(StatedRow, &[u8]), CheckError>
-    ensures gives { Gives (λ x. (x.0, x.1.now)) result (row_at line text.now) }
-    ensures small { IfOk result (λ x. IsSmall x.0.state) }
+fn row_at<'a>(
+    width: u32,
+    line: u64,
+    text: &'a [u8],
+    words: &mut [u64],
+) -> Result<(RowEnd, &'a [u8]), CheckError>
+    requires some { 1 ≤ width }
+    requires most { width ≤ most_digits }
+    requires long { length words.old ≡ words_for width }
+    requires words { AreWords (length words.old) words.old }
+    ensures gives { Gives (λ x. (
+      record {
+        state = number_in words.new;
+        g = x.0.g;
+        is_closed = x.0.is_closed;
+      },
+      x.1.now,
+    )) result (row_at width line text.now) }
+    ensures words { AreWords (length words.old) words.new }
     ensures shorter { IfOk result (λ x. length x.1.now + 1 ≤ length text.now) }
 {
     let (first, rest) = line_at(line, text)?;
-    let row = row_in(line, first)?;
-    Ok((row, rest))
+    let end = row_in(width, line, first, words)?;
+    Ok((end, rest))
 }
 
 // That many actions, one a line. The list grows with the lines that were read.
@@ -256,27 +347,34 @@ fn actions_at(
     Ok((actions, rest))
 }
 
-// That many rows, one a line. The arrays grow with the lines that were read.
-fn rows_at(
+// That many rows, one a line. The arrays grow with the lines that were read. Each state is read
+// into the same words first.
+fn rows_in<'a>(
     alloc: Global,
+    width: u32,
     count: u64,
     line: u64,
-    text: &[u8],
-) -> Result<(StatedRows, &[u8]), CheckError>
-    requires { line + length text.now < 2 ^ 64 }
-    ensures gives { Gives (λ x. (x.0, x.1.now)) result (rows_at count line text.now) }
+    text: &'a [u8],
+    words: &mut [u64],
+) -> Result<(StatedRows, &'a [u8]), CheckError>
+    requires some { 1 ≤ width }
+    requires most { width ≤ most_digits }
+    requires long { length words.old ≡ words_for width }
+    requires words { AreWords (length words.old) words.old }
+    requires lines { line + length text.now < 2 ^ 64 }
+    ensures gives { Gives (λ x. (x.0, x.1.now)) result (rows_at width count line text.now) }
     ensures shorter { IfOk result (λ x. length x.1.now + length x.0 ≤ length text.now) }
     ensures many { IfOk result (λ x. length x.0 ≡ count) }
 {
-    let mut states = Vec::new(alloc);
+    let mut states = Numbers::new(alloc, words.len());
     let mut costs = Vec::new(alloc);
     let mut closed = Vec::new(alloc);
     let mut rest = text;
     for i in 0..count {
-        let (row, after) = row_at(line + i, rest)?;
-        states.push(row.state.in_words::<4>())?;
-        costs.push(row.g)?;
-        closed.push(row.is_closed)?;
+        let (end, after) = row_at(width, line + i, rest, words)?;
+        states.push(words)?;
+        costs.push(end.g)?;
+        closed.push(end.is_closed)?;
         rest = after;
     }
     let rows = StatedRows {
@@ -285,6 +383,25 @@ fn rows_at(
         closed,
     };
     Ok((rows, rest))
+}
+
+// That many rows, one a line.
+fn rows_at(
+    alloc: Global,
+    width: u32,
+    count: u64,
+    line: u64,
+    text: &[u8],
+) -> Result<(StatedRows, &[u8]), CheckError>
+    requires some { 1 ≤ width }
+    requires most { width ≤ most_digits }
+    requires lines { line + length text.now < 2 ^ 64 }
+    ensures gives { Gives (λ x. (x.0, x.1.now)) result (rows_at width count line text.now) }
+    ensures shorter { IfOk result (λ x. length x.1.now + length x.0 ≤ length text.now) }
+    ensures many { IfOk result (λ x. length x.0 ≡ count) }
+{
+    let mut words = Vec::from_elem(alloc, 0u64, words_for(width))?;
+    rows_in(alloc, width, count, line, text, &mut words)
 }
 
 #[tactic(auto, unfolding(crate::specs::Reading::steps_at))]
@@ -333,13 +450,15 @@ fn end_at(line: u64, text: &[u8]) -> Result<bool, CheckError>
 }
 
 #[tactic(auto, unfolding(crate::specs::Reading::body_at))]
-fn body_at(alloc: Global, line: u64, text: &[u8]) -> Result<StatedRows, CheckError>
-    requires { line + length text.now < 2 ^ 64 }
-    ensures gives { Gives (λ x. x) result (body_at line text.now) }
+fn body_at(alloc: Global, width: u32, line: u64, text: &[u8]) -> Result<StatedRows, CheckError>
+    requires some { 1 ≤ width }
+    requires most { width ≤ most_digits }
+    requires lines { line + length text.now < 2 ^ 64 }
+    ensures gives { Gives (λ x. x) result (body_at width line text.now) }
     ensures shorter { IfOk result (λ x. length x + 2 ≤ length text.now) }
 {
     let (count, rest) = number_at(line, text, b"rows ")?;
-    let (rows, rest) = rows_at(alloc, count, line + 1, rest)?;
+    let (rows, rest) = rows_at(alloc, width, count, line + 1, rest)?;
     end_at(line + 1 + count, rest)?;
     Ok(rows)
 }
@@ -367,7 +486,7 @@ pub fn text_of(alloc: Global, bytes: &[u8]) -> Result<StatedText, CheckError>
     let (weight, rest) = weight_at(line, rest)?;
     let (plan, rest) = plan_at(alloc, line + 1, rest)?;
     let lines = plan_lines(&plan);
-    let rows = body_at(alloc, line + 1 + lines, rest)?;
+    let rows = body_at(alloc, spelling.width, line + 1 + lines, rest)?;
     Ok(StatedText {
         spelling,
         weight,

@@ -1,7 +1,9 @@
-ghost use Rattle.std.specs.Prelude.{◌≡◌, ◌<◌, Some, length, slice_get};
+ghost use Rattle.std.specs.Prelude.{◌≡◌, ◌-◌, ◌<◌, ◌≤◌, Some, length, slice_get};
 ghost use Rattle.pb_check.specs.Judging.{Rise, g_of};
+ghost use Rattle.pb_check.specs.Rows.{rises_at};
 
-use pb_packed::{Packed, Words};
+use crate::numbers::Numbers;
+use pb_packed::Packed;
 use std::marker::Model;
 
 /// A row of a certificate. Contracts see a line of the model.
@@ -21,11 +23,11 @@ impl Model for StatedRow {
 }
 
 /// The rows of a certificate, in the order of the text. The states, the costs and the statuses are
-/// in an array each, and a state takes the 4 words that the digits of version 1 spell. Contracts see
-/// the list of the rows.
+/// in an array each, and a state takes as many words as the stated width needs: 1 to 16. Contracts
+/// see the list of the rows.
 #[derive(Drop)]
 pub struct StatedRows {
-    pub(crate) states: Vec<Words<4>>,
+    pub(crate) states: Numbers,
     pub(crate) costs: Vec<u64>,
     pub(crate) closed: Vec<bool>,
 }
@@ -33,14 +35,14 @@ pub struct StatedRows {
 impl Model for StatedRows {
     ghost use Rattle.std.specs.Prelude.{◌≡◌, List, length};
     ghost use Rattle.pb_model.specs.Certificate.{Line};
-    ghost use Rattle.pb_check.specs.Rows.{rows_of, AreSmall};
+    ghost use Rattle.pb_check.specs.Rows.{rows_of};
 
     ghost Value = { List Line };
 
-    ghost view = { λ r. rows_of r.states.items r.costs.items r.closed.items };
+    ghost view = { λ r. rows_of r.states.numbers r.costs.items r.closed.items };
 
-    ghost invariant = { λ r. (length r.costs.items ≡ length r.states.items)
-        × (length r.closed.items ≡ length r.states.items) × AreSmall r.states.items };
+    ghost invariant = { λ r. (length r.costs.items ≡ length r.states.numbers)
+        × (length r.closed.items ≡ length r.states.numbers) };
 }
 
 impl StatedRows {
@@ -57,10 +59,19 @@ impl StatedRows {
         ensures { slice_get self.now i ≡ Some result }
     {
         StatedRow {
-            state: Packed::of_few(self.states[i]),
+            state: Packed::of_slice(self.states.at(i)),
             g: self.costs[i],
             is_closed: self.closed[i],
         }
+    }
+
+    /// Whether the state of the row in this place is above that of the row before it.
+    pub fn rises_at(&self, i: usize) -> bool
+        requires some { 1 ≤ i }
+        requires inside { i < length self.now }
+        ensures { result ≡ rises_at self.now (i - 1) }
+    {
+        self.states.is_above(i, self.states.at(i - 1))
     }
 
     /// The g of the row of a state. The place `near` is looked at first; if the state isn't there,
@@ -70,30 +81,12 @@ impl StatedRows {
         requires { Rise self.now }
         ensures { result ≡ g_of self.now state.now }
     {
-        let _ = &self.states;
-        match state.as_words::<4>() {
-            Some(words) => self.g_of_words(&words, near),
-            None => None,
-        }
-    }
-
-    // The g of the row of a state of 4 words.
-    fn g_of_words(&self, words: &Words<4>, near: &mut usize) -> Option<u64>
-        requires { Rise self.now }
-        ensures { result ≡ g_of self.now words.now }
-    {
-        let states = self.states.as_slice();
-        let here = *near;
-        if here < states.len() && states[here] == *words {
-            *near = here + 1;
-            return Some(self.costs[here]);
-        }
-        match states.binary_search(words) {
-            Ok(i) => {
+        match self.states.place(state, *near) {
+            Some(i) => {
                 *near = i + 1;
                 Some(self.costs[i])
             }
-            Err(_) => None,
+            None => None,
         }
     }
 }

@@ -11,6 +11,14 @@ pub struct StatedWeight {
     pub den: u64,
 }
 
+/// What a row says behind its state: its cost, in the unit of the task's action costs, and whether
+/// it is closed.
+#[derive(Clone, Copy)]
+pub struct RowEnd {
+    pub g: u64,
+    pub is_closed: bool,
+}
+
 /// The actions of a plan, and the cost that is stated. Contracts see a plan of the model.
 #[derive(Drop)]
 pub struct StatedPlan {

@@ -1,10 +1,8 @@
 //! The states that words of a certificate spell.
-ghost use Rattle.std.specs.Prelude.{◌≡◌, ◌≤◌, ◌<◌, ◌^◌, length, IfSome};
-ghost use Rattle.pb_packed.specs.Sizes.{version_1_digits};
-ghost use Rattle.pb_check.specs.Rows.{IsSmall};
-ghost use Rattle.pb_check.specs.Words.{hex_value, hex_after, state_of};
-
-use pb_packed::{DIGITS, Packed};
+ghost use Rattle.std.specs.Prelude.{◌≡◌, ◌≤◌, ◌<◌, ◌+◌, ◌-◌, ◌*◌, ◌^◌, if◌then◌else◌, length, drop, Some, None, Option, ℕ, IfSome};
+ghost use Rattle.pb_packed.specs.Sizes.{most_digits};
+ghost use Rattle.pb_packed.specs.Words.{number_of, AreWords};
+ghost use Rattle.pb_check.specs.Words.{words_for, hex_value, hex_after, state_of, read_by};
 
 // The value of a hexadecimal digit, and 16 for another byte.
 fn hex_value(byte: u8) -> u64
@@ -34,30 +32,69 @@ fn hex_number(digits: &[u8]) -> Option<u64>
     Some(number)
 }
 
-// The state that the hexadecimal digits of version 1 spell, sixteen by sixteen.
-fn state_in_fours(word: &[u8]) -> Option<Packed>
-    requires { length word.now ≡ version_1_digits }
-    ensures state { result ≡ hex_after 0 word.now }
-    ensures small { IfSome result IsSmall }
+/// How many words of 64 bits a state of so many hexadecimal digits takes.
+pub fn words_for(width: u32) -> usize
+    requires { width ≤ most_digits }
+    ensures words { result ≡ words_for width }
+    ensures most { result ≤ 16 }
 {
-    let (first, behind_first) = word.split_at(16);
-    let (second, behind_second) = behind_first.split_at(16);
-    let (third, fourth) = behind_second.split_at(16);
-    let highest = hex_number(first)?;
-    let high = hex_number(second)?;
-    let low = hex_number(third)?;
-    let lowest = hex_number(fourth)?;
-    Some(Packed::of_slice(&[lowest, low, high, highest]))
+    ((width + 15) / 16) as usize
 }
 
-/// The state that exactly the hexadecimal digits of version 1 spell.
-pub fn state_of(word: &[u8]) -> Option<Packed>
-    ensures state { result ≡ state_of word.now }
-    ensures small { IfSome result IsSmall }
+// Reads the digits behind those of the highest word, sixteen a word. Whether all are digits.
+fn read_sixteens(word: &[u8], words: &mut [u64]) -> bool
+    requires some { 1 ≤ length words.old }
+    requires long { 16 * length words.old ≤ length word.now + 15 }
+    requires words { AreWords (length words.old) words.old }
+    ensures state { read_by result words.new
+        ≡ hex_after (number_of (drop (length words.old - 1) words.old))
+        (drop (length word.now - 16 * (length words.old - 1)) word.now) }
+    ensures words { AreWords (length words.old) words.new }
 {
-    if word.len() == DIGITS {
-        state_in_fours(word)
+    let count = words.len();
+    for i in 1..count {
+        let left = count - i;
+        let from = word.len() - 16 * left;
+        match hex_number(&word[from..from + 16]) {
+            None => return false,
+            Some(number) => words[left - 1] = number,
+        }
+    }
+    true
+}
+
+// Reads a state of this many digits, the lowest word first. Whether all are digits.
+fn read_digits(word: &[u8], words: &mut [u64]) -> bool
+    requires some { 1 ≤ length words.old }
+    requires least { 16 * (length words.old - 1) < length word.now }
+    requires most { length word.now ≤ 16 * length words.old }
+    requires words { AreWords (length words.old) words.old }
+    ensures state { read_by result words.new ≡ hex_after 0 word.now }
+    ensures words { AreWords (length words.old) words.new }
+{
+    let last = words.len() - 1;
+    match hex_number(&word[..word.len() - 16 * last]) {
+        None => false,
+        Some(number) => {
+            words[last] = number;
+            read_sixteens(word, words)
+        }
+    }
+}
+
+/// Reads the state that exactly so many digits spell into its words, the lowest word first. Whether
+/// there is one.
+pub fn read_state(width: u32, word: &[u8], words: &mut [u64]) -> bool
+    requires some { 1 ≤ width }
+    requires most { width ≤ most_digits }
+    requires long { length words.old ≡ words_for width }
+    requires words { AreWords (length words.old) words.old }
+    ensures state { read_by result words.new ≡ state_of width word.now }
+    ensures words { AreWords (length words.old) words.new }
+{
+    if word.len() == width as usize {
+        read_digits(word, words)
     } else {
-        None
+        false
     }
 }

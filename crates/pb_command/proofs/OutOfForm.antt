@@ -1,6 +1,7 @@
 -- Words after the arguments of `solve` that are refused for their form.
-use Rattle.std.proofs.Common.{◌≡◌, ◌∙◌, ◌++◌, ◌&&◌, ℕ, Bool, true, false, List, [], ◌∷◌, None, Some, refl, sym, ap, ap₂, subst, codes}
+use Rattle.std.proofs.Common.{◌≡◌, ◌∙◌, ◌++◌, ◌&&◌, ℕ, Bool, true, false, List, [], ◌∷◌, Option, None, Some, refl, sym, ap, ap₂, subst, codes}
 use Rattle.std.specs.Prelude.{fold, not, if◌then◌else◌}
+use Rattle.std.specs.List.{AllByRecursion}
 use Rattle.std.specs.Str.{bytes_eq}
 use Rattle.clap.specs.Walk.{Held, Row as MatchRow, Text, Walk, walked, walk_from, nothing_held, settled, has_row, arg_by_long}
 use Rattle.clap.specs.Simple.{Shape}
@@ -10,13 +11,14 @@ use Rattle.pb_command.specs.Names.{IsName}
 use Rattle.pb_command.specs.Values.{InputNames}
 use Rattle.pb_command.specs.Meaning.{Reading, Refused, reading_of_words, unless_faulty}
 use Rattle.pb_command.specs.declared.table.ValuedOption.{ValuedOption}
+use Rattle.pb_command.specs.declared.table.ValuedOption.TheVariants.{Row, Rewrite}
 use Rattle.pb_command.specs.declared.table.FlagOption.{FlagOption}
-use Rattle.pb_command.specs.Options.{Argument, option_word, words_of, value_given, flag_word, flag_given, is_value_of, AreOfSolve}
+use Rattle.pb_command.specs.Options.{Argument, Placed, Valued, Flag, IsArgumentOf, is_same, is_of_solve, is_flag_of_solve, option_word, words_of, value_given, flag_word, flag_given, is_value_of, AreOfSolve}
 use Rattle.pb_command.specs.declared.refusal.CommandFault.TheVariants as fault
-use Rattle.pb_command.proofs.Walking.{FailsHere as IsFaulty, HasOption, at, option_id, flag_id, match_row, held_with, valued_step, flag_again, option_accepts}
+use Rattle.pb_command.proofs.Walking.{FailsHere as IsFaulty, HasOption, same_option, at, option_id, flag_id, match_row, held_with, valued_step, flag_again, option_accepts}
 use Rattle.pb_command.proofs.Arguments.{row_of, rows_for, found_option, has_flag_row, IsWalkedWhole}
 use Rattle.clap.proofs.OnLiterals.{clap_on_literals}
-use Rattle.pb_command.proofs.Shapes.{solve_shape, make_shape, plainless_rules, solve_takes, all_of_solve, all_flags_of_solve, by_words, ToSolve, ToMake}
+use Rattle.pb_command.proofs.Shapes.{solve_shape, make_shape, plainless_rules, solve_takes, all_flags_of_solve, by_words, ToSolve, ToMake}
 use Rattle.pb_command.proofs.SolveReading.{solve_places, solve_walk, solve_fits}
 
 first_fails : (a b : Kinds) → IsFaulty a → IsFaulty (or_else a b)
@@ -91,11 +93,28 @@ has_found id (q ∷ qs) r found = by (bytes_eq q.id id) refl found (λ e. has_fo
 strict_settle : (h : Held) → IsFaulty (settle_fault solve_shape.rules false h) → IsFaulty (settle_fault solve_shape.rules solve_shape.args_override_self h)
 strict_settle h is = rw solve_takes.strict is
 
+-- an option that has a value of another form is one of `solve`, since a name has any text
+wrong_of_solve : (o : ValuedOption) (value : Text) → is_value_of o value ≡ false → is_of_solve o ≡ true
+wrong_of_solve Row value wrong = refl
+wrong_of_solve Rewrite value wrong = cc
+wrong_of_solve _ value wrong = refl
+
+-- an option that is given is one of `solve`
+given_of_solve : (arguments : List Argument) → AllByRecursion (IsArgumentOf is_of_solve is_flag_of_solve) arguments → (o : ValuedOption) (first : Text)
+    → value_given o arguments ≡ Some first → is_of_solve o ≡ true
+given_of_solve [] all o first given = cc
+given_of_solve (Placed word ∷ rest) all o first given = given_of_solve rest all.1 o first given
+given_of_solve (Flag flag ∷ rest) all o first given = given_of_solve rest all.1 o first given
+given_of_solve (Valued other value ∷ rest) all o first given = by (λ e. given_of_solve rest all.1 o first e) (is_same o other) refl given where
+  by : (value_given o rest ≡ Some first → is_of_solve o ≡ true) → (b : Bool) → is_same o other ≡ b → (if b then Some value else value_given o rest) ≡ Some first → is_of_solve o ≡ true
+  by later true is e = subst (λ (x : ValuedOption). is_of_solve x ≡ true) (sym (same_option o other is)) all.0.0
+  by later false is e = later e
+
 pub out_of_range : (input : InputNames) (arguments : List Argument) → AreOfSolve input arguments → (o : ValuedOption) (value : Text) → IsName value → is_value_of o value ≡ false
     → reading_of_words (codes "solve" ∷ words_of arguments ++ option_word o ∷ value ∷ []) ≡ Refused fault.Form
 out_of_range input arguments are o value is wrong =
     let w = solve_walk arguments are.each are.distinct (solve_fits input arguments are) in
-    let has = solve_takes.option o (all_of_solve o) in
+    let has = solve_takes.option o (wrong_of_solve o value wrong) in
     fails_at_end arguments w (option_word o ∷ value ∷ []) (at (held_with solve_shape (option_id o) value w.last) w.end) (valued_step solve_shape o value w.last w.end has is)
     (strict_settle (held_with solve_shape (option_id o) value w.last) (wrong_value solve_shape o value w.last has wrong))
 
@@ -104,7 +123,7 @@ pub given_twice : (input : InputNames) (arguments : List Argument) → AreOfSolv
     → reading_of_words (codes "solve" ∷ words_of arguments ++ option_word o ∷ second ∷ []) ≡ Refused fault.Form
 given_twice input arguments are o first second given is =
     let w = solve_walk arguments are.each are.distinct (solve_fits input arguments are) in
-    let has = solve_takes.option o (all_of_solve o) in
+    let has = solve_takes.option o (given_of_solve arguments are.each o first given) in
     let found : row_of (option_id o) (rows_for solve_places arguments) ≡ Some (match_row (option_id o) first) = found_option solve_places o arguments ∙ rw given refl in
     fails_at_end arguments w (option_word o ∷ second ∷ []) (at (held_with solve_shape (option_id o) second w.last) w.end) (valued_step solve_shape o second w.last w.end has is)
     (strict_settle (held_with solve_shape (option_id o) second w.last) (second_value solve_shape o second w.last has (ap (has_row (option_id o)) w.found ∙ has_found (option_id o) (rows_for solve_places arguments) (match_row (option_id o) first) found)))

@@ -9,7 +9,7 @@ use Rattle.clap.specs.Kinds.{Kinds, or_else}
 use Rattle.pb_command.specs.Parser.{the_program}
 use Rattle.pb_command.specs.Meaning.{Reading, reading_of_words, unless_faulty, command_met, solve_of, check_of, journal_of, make_of}
 use Rattle.pb_command.specs.declared.table.ValuedOption.{ValuedOption}
-use Rattle.pb_command.specs.declared.table.ValuedOption.TheVariants.{Row, Workers}
+use Rattle.pb_command.specs.declared.table.ValuedOption.TheVariants.{Row, Workers, Rewrite}
 use Rattle.pb_command.specs.declared.table.FlagOption.{FlagOption}
 use Rattle.pb_command.specs.declared.table.FlagOption.TheVariants.{Plain, Swamp}
 use Rattle.pb_command.specs.Table.{solve_options, solve_flags, check_options, check_flags, journal_options, make_options}
@@ -152,13 +152,10 @@ places_of_solve = (record { by_index = refl; by_id = refl; next = refl }, (recor
 options_of_solve : (o : ValuedOption) → is_of_solve o ≡ true → HasOption solve_shape o
 unfolding solve_shape plainless_rules
 options_of_solve Row is = record { by_long = refl; by_id = refl }
+options_of_solve Rewrite is = cc
 options_of_solve _ is = record { by_long = refl; by_id = refl }
 
--- `solve` has every option and every flag
-pub all_of_solve : (o : ValuedOption) → is_of_solve o ≡ true
-all_of_solve Row = refl
-all_of_solve _ = refl
-
+-- `solve` has every flag
 pub all_flags_of_solve : (f : FlagOption) → is_flag_of_solve f ≡ true
 all_flags_of_solve Plain = refl
 all_flags_of_solve _ = refl
@@ -191,6 +188,7 @@ places_of_check = (
 options_of_check : (o : ValuedOption) → is_of_check o ≡ true → HasOption check_shape o
 unfolding check_shape flagless_rules
 options_of_check Row is = record { by_long = refl; by_id = refl }
+options_of_check Rewrite is = record { by_long = refl; by_id = refl }
 options_of_check _ is = cc
 
 check_is_strict : check_shape.args_override_self ≡ false

@@ -43,6 +43,7 @@ check_meant s =
       input = input_meant s.input;
       certificate = s.certificate.now;
       options = s.options;
+      rewrite = option_map (λ t. t.now) s.rewrite;
     }
 
 abbrev pub journal_meant : JournalCommand → JournalMeaning

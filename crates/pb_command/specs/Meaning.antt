@@ -7,12 +7,12 @@ use Rattle.pb_machine.specs.Settings.{AreInRange}
 use Rattle.pb_task.specs.declared.kind.Kind.{Kind}
 use Rattle.pb_command.specs.declared.command.InputOptions.{InputOptions}
 use Rattle.pb_command.specs.declared.table.ValuedOption.{ValuedOption}
-use Rattle.pb_command.specs.declared.table.ValuedOption.TheVariants.{Row as ScenarioRow, Workers, Num, Den, Budget, Lot, Blocks, Certificate, Journal as JournalName}
+use Rattle.pb_command.specs.declared.table.ValuedOption.TheVariants.{Row as ScenarioRow, Workers, Num, Den, Budget, Lot, Blocks, Certificate, Journal as JournalName, Rewrite}
 use Rattle.pb_command.specs.declared.table.FlagOption.{FlagOption}
 use Rattle.pb_command.specs.declared.table.FlagOption.TheVariants.{Plain, Swamp}
 use Rattle.pb_command.specs.Parser.{the_program, seed_most}
 use Rattle.pb_command.specs.Table.{IsInRangeOf, solve_options, check_options, journal_options, make_options}
-use Rattle.pb_command.specs.Values.{InputNames, kind_of_text, input_of, values_fit, number_at, text_at, flag_at, seed_of, size_of, least_size, most_size, is_size, are_one_name}
+use Rattle.pb_command.specs.Values.{InputNames, kind_of_text, input_of, values_fit, number_at, text_at, flag_at, seed_of, size_of, least_size, most_size, is_size, are_one_name, is_loaded_name}
 use Rattle.pb_command.specs.declared.refusal.CommandFault.{CommandFault}
 use Rattle.pb_command.specs.declared.refusal.CommandFault.TheVariants as fault
 
@@ -25,11 +25,13 @@ pub record SolveMeaning : Type 0 where
   pub certificate : Option Text
   pub journal : Option Text
 
--- `check`: the task and how its files are read, and the certificate's name
+-- `check`: the task and how its files are read, the certificate's name, and the name under which it
+-- is saved anew, if one is given
 pub record CheckMeaning : Type 0 where
   pub input : InputNames
   pub certificate : Text
   pub options : InputOptions
+  pub rewrite : Option Text
 
 -- `journal`: the task and how its files are read, and the journal's name
 pub record JournalMeaning : Type 0 where
@@ -119,22 +121,30 @@ solve_of rows = if_fit (values_fit solve_options rows)
 
 -- ---- `check` and `journal`
 
--- `check` has no test of its own yet
+-- to save the certificate under the name of a file that is loaded is a fault
 abbrev pub check_tested : CheckMeaning → Reading
-check_tested check = Read (Check check)
+check_tested check =
+    if is_loaded_name check.rewrite check.certificate check.input then Refused fault.Names
+    else Read (Check check)
 
-abbrev pub check_with : Option Text → Option Text → Option Text → InputOptions → Kind → Reading
-check_with (Some certificate) (Some first) second options kind =
+abbrev pub check_with : Option Text → Option Text → Option Text → InputOptions
+    → (rewrite : Option Text) → Kind → Reading
+check_with (Some certificate) (Some first) second options rewrite kind =
     with_input (input_of kind first second)
-    (λ input. check_tested
-    (record { input = input; certificate = certificate; options = options }))
-check_with _ _ _ _ kind = Refused fault.Form
+    (λ input. check_tested (record {
+      input = input;
+      certificate = certificate;
+      options = options;
+      rewrite = rewrite;
+    }))
+check_with _ _ _ _ _ kind = Refused fault.Form
 
 abbrev pub check_of : List Row → Reading
 check_of rows = if_fit (values_fit check_options rows)
     (with_kind (kind_of_text (first_of (codes "KIND") rows))
     (check_with (first_of (codes "CERTIFICATE") rows) (first_of (codes "FIRST_FILE") rows)
-    (first_of (codes "SECOND_FILE") rows) (options_by (number_at rows) (flag_at rows))))
+    (first_of (codes "SECOND_FILE") rows) (options_by (number_at rows) (flag_at rows))
+    (text_at rows Rewrite)))
 
 abbrev pub journal_with : Option Text → Option Text → Option Text → InputOptions → Kind → Reading
 journal_with (Some journal) (Some first) second options kind =

@@ -1,6 +1,6 @@
 -- What a command reads of its options, in whatever order its words come. Names, ranges and defaults
 -- are those of the table.
-use Rattle.std.specs.Prelude.{◌≡◌, ◌≤◌, ◌<◌, ℕ, List, [], ◌∷◌, ◌++◌, ◌||◌, Bool, true, false, Option, None, Some, if◌then◌else◌, codes}
+use Rattle.std.specs.Prelude.{◌≡◌, ◌≤◌, ◌<◌, ℕ, List, [], ◌∷◌, ◌++◌, ◌||◌, ◌⊎◌, Bool, true, false, Option, None, Some, if◌then◌else◌, codes}
 use Rattle.std.specs.List.{AllByRecursion, list_any}
 use Rattle.std.specs.Option.{option_map_or}
 use Rattle.std.specs.Str.{bytes_eq}
@@ -14,7 +14,7 @@ use Rattle.pb_machine.specs.declared.settings.Settings.{Settings}
 use Rattle.pb_machine.specs.Settings.{standard}
 use Rattle.pb_command.specs.declared.command.InputOptions.{InputOptions}
 use Rattle.pb_command.specs.declared.table.ValuedOption.{ValuedOption}
-use Rattle.pb_command.specs.declared.table.ValuedOption.TheVariants.{Row, Workers, Num, Den, Certificate, Journal}
+use Rattle.pb_command.specs.declared.table.ValuedOption.TheVariants.{Row, Workers, Num, Den, Certificate, Journal, Rewrite}
 use Rattle.pb_command.specs.declared.table.FlagOption.{FlagOption}
 use Rattle.pb_command.specs.Names.{IsName}
 use Rattle.pb_command.specs.Table.{Form, Number, FileName, OneOf, option_name, option_form, flag_name, is_value, solve_options, solve_flags, check_options, check_flags, journal_options, make_options}
@@ -201,18 +201,41 @@ OneNameIsRefused =
     → value_given Certificate arguments ≡ Some name → value_given Journal arguments ≡ Some name
     → reading_of_words (codes "solve" ∷ words_of arguments) ≡ Refused fault.Names
 
--- `check` with the kind, the certificate and the files, and with a row and the flag for swamp
--- anywhere among them, checks that certificate for this task.
+-- the name is one of these
+abbrev pub IsAmong : Text → List Text → Type 0
+IsAmong name [] = ⊥
+IsAmong name (other ∷ others) = (name ≡ other) ⊎ IsAmong name others
+
+-- the name that `--rewrite` is given, if it is, is of no file that is loaded
+abbrev pub HasNewName : InputNames → (certificate : Text) → List Argument → Type 0
+HasNewName input certificate arguments =
+    (name : Text) → value_given Rewrite arguments ≡ Some name
+    → IsAmong name (certificate ∷ file_words input) → ⊥
+
+-- `check` with the kind, the certificate and the files, and with a row, a new name and the flag for
+-- swamp anywhere among them, checks that certificate for this task.
 abbrev pub CheckReadsOptions : Type 0
 CheckReadsOptions =
     (input : InputNames) (certificate : Text) (arguments : List Argument)
     → AllByRecursion (IsArgumentOf is_of_check is_flag_of_check) arguments → AreDistinct arguments
     → placed_words arguments ≡ kind_word input ∷ certificate ∷ file_words input
+    → HasNewName input certificate arguments
     → reading_of_words (codes "check" ∷ words_of arguments) ≡ Read (Check (record {
       input = input;
       certificate = certificate;
       options = options_given arguments;
+      rewrite = value_given Rewrite arguments;
     }))
+
+-- A name for the new certificate that a file has which is loaded is refused.
+abbrev pub LoadedNameIsRefused : Type 0
+LoadedNameIsRefused =
+    (input : InputNames) (certificate name : Text) (arguments : List Argument)
+    → AllByRecursion (IsArgumentOf is_of_check is_flag_of_check) arguments → AreDistinct arguments
+    → placed_words arguments ≡ kind_word input ∷ certificate ∷ file_words input
+    → value_given Rewrite arguments ≡ Some name
+    → IsAmong name (certificate ∷ file_words input)
+    → reading_of_words (codes "check" ∷ words_of arguments) ≡ Refused fault.Names
 
 -- `journal` with the kind, the journal and the files, and with a row anywhere among them, checks
 -- that journal for this task.

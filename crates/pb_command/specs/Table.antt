@@ -7,7 +7,7 @@ use Rattle.std.specs.Str.{bytes_eq}
 use Rattle.clap.specs.Words.{Text}
 use Rattle.clap.specs.ValueTests.{is_unsigned_in}
 use Rattle.pb_command.specs.declared.table.ValuedOption.{ValuedOption}
-use Rattle.pb_command.specs.declared.table.ValuedOption.TheVariants.{Row, Workers, Num, Den, Budget, Lot, Blocks, Certificate, Journal}
+use Rattle.pb_command.specs.declared.table.ValuedOption.TheVariants.{Row, Workers, Num, Den, Budget, Lot, Blocks, Certificate, Journal, Rewrite}
 use Rattle.pb_command.specs.declared.table.FlagOption.{FlagOption}
 use Rattle.pb_command.specs.declared.table.FlagOption.TheVariants.{Plain, Swamp}
 
@@ -39,7 +39,8 @@ file_name name = record { name = name; form = FileName }
 -- The table: the row of the scenario, how many workers search, the numerator and the denominator of
 -- the weight, and how many expansions a search may do, at most 2^40. How many expansions a lease
 -- gets at most, at most 2^20, and how many blocks the abstract graph has at most. The names under
--- which the certificate and the journal are saved.
+-- which the certificate and the journal are saved, and under which a certificate that was accepted
+-- is saved anew.
 abbrev pub entry_of : ValuedOption → Entry
 entry_of Row = number (codes "row") 0 1000000 0
 entry_of Workers = number (codes "workers") 1 64 1
@@ -50,6 +51,7 @@ entry_of Lot = number (codes "lot") 1 1048576 256
 entry_of Blocks = number (codes "blocks") 16 4096 256
 entry_of Certificate = file_name (codes "cert")
 entry_of Journal = file_name (codes "trace")
+entry_of Rewrite = file_name (codes "rewrite")
 
 abbrev pub option_name : ValuedOption → Text
 option_name option = (entry_of option).name
@@ -72,7 +74,7 @@ abbrev pub solve_flags : List FlagOption
 solve_flags = Plain ∷ Swamp ∷ []
 
 abbrev pub check_options : List ValuedOption
-check_options = Row ∷ []
+check_options = Row ∷ Rewrite ∷ []
 
 abbrev pub check_flags : List FlagOption
 check_flags = Swamp ∷ []

@@ -1,5 +1,5 @@
 -- What the values of words are.
-use Rattle.std.specs.Prelude.{ℕ, ◌≤◌, ◌&&◌, ⊤, Bool, true, false, List, [], ◌∷◌, Option, None, Some, if◌then◌else◌, nat_le, codes}
+use Rattle.std.specs.Prelude.{ℕ, ◌≤◌, ◌&&◌, ◌||◌, ⊤, Bool, true, false, List, [], ◌∷◌, Option, None, Some, if◌then◌else◌, nat_le, codes}
 use Rattle.std.specs.Option.{option_map_or}
 use Rattle.std.specs.Str.{bytes_eq}
 use Rattle.std.specs.Str.Parse.{digits_value, without_leading_plus}
@@ -135,3 +135,15 @@ is_size k n = nat_le (least_size k) n && nat_le n (most_size k)
 abbrev pub are_one_name : Option Text → Option Text → Bool
 are_one_name (Some a) (Some b) = bytes_eq a b
 are_one_name _ _ = false
+
+-- whether a file of the task has this name
+abbrev pub is_input_name : InputNames → Text → Bool
+is_input_name (Grid names) name = bytes_eq name names.map || bytes_eq name names.scenario
+is_input_name (Tiles board) name = bytes_eq name board
+is_input_name (Strips names) name = bytes_eq name names.domain || bytes_eq name names.problem
+
+-- whether a name is given that a file has which is loaded: the certificate or a file of the task
+abbrev pub is_loaded_name : Option Text → (certificate : Text) → InputNames → Bool
+is_loaded_name None certificate input = false
+is_loaded_name (Some name) certificate input =
+    bytes_eq name certificate || is_input_name input name

@@ -66,6 +66,9 @@ pub struct CheckCommand<'a> {
     pub certificate: &'a str,
     /// How the files of the task are read.
     pub options: InputOptions,
+    /// `--rewrite NAME`: the name under which the certificate is to be saved in version 2, if one is
+    /// given and the certificate is accepted. It isn't that of a file that is loaded.
+    pub rewrite: Option<&'a str>,
 }
 
 /// `journal KIND JOURNAL FILE [FILE]` and its options.

@@ -1,5 +1,5 @@
 ghost use Rattle.pb_command.specs.Options.{SolveReadsOptions, LowWeightIsRefused, OneNameIsRefused};
-ghost use Rattle.pb_command.specs.Options.{CheckReadsOptions, JournalReadsOptions};
+ghost use Rattle.pb_command.specs.Options.{CheckReadsOptions, LoadedNameIsRefused, JournalReadsOptions};
 ghost use Rattle.pb_command.specs.Options.{MakeReadsOptions, OtherSizeIsRefused};
 ghost use Rattle.pb_command.specs.Options.{OutOfRangeIsRefused, GivenTwiceIsRefused};
 ghost use Rattle.pb_command.specs.Options.{FlagTwiceIsRefused, HelpIsRefused};
@@ -31,10 +31,16 @@ pub fn solve_tests_options()
     ensures names { OneNameIsRefused }
 {}
 
-/// `--row` and `--swamp` give `check` their values, anywhere among the kind, the certificate and
-/// the files. An option that isn't given has its default.
+/// `--row`, `--rewrite` and `--swamp` give `check` their values, anywhere among the kind, the
+/// certificate and the files. An option that isn't given has its default.
 pub fn check_reads_options()
     ensures { CheckReadsOptions }
+{}
+
+/// Wherever the options of `check` stand, a name for the new certificate is refused that a loaded
+/// file has.
+pub fn check_tests_options()
+    ensures { LoadedNameIsRefused }
 {}
 
 /// `--row` gives `journal` its value, anywhere among the kind, the journal and the files. If it

@@ -21,8 +21,8 @@ use crate::table::{
     CHECK_OPTIONS, FlagOption, JOURNAL_OPTIONS, MAKE_OPTIONS, SOLVE_OPTIONS, ValuedOption,
 };
 use crate::values::{
-    SEED_MOST, SIZE_WORD_MOST, flag_at, input_of, is_one_name, is_size, known_kind, number,
-    number_at, text, text_at, values_fit,
+    SEED_MOST, SIZE_WORD_MOST, flag_at, input_of, is_loaded_name, is_one_name, is_size, known_kind,
+    number, number_at, text, text_at, values_fit,
 };
 use clap::{ArgMatches, Error};
 use pb_machine::Settings;
@@ -106,12 +106,15 @@ fn read_solve<'a>(matches: &ArgMatches<'a>) -> Result<CommandLine<'a>, CommandFa
     }
 }
 
-// The command: what `check` alone is given has no test yet.
+// The command, if the certificate isn't to be saved under the name of a file that is loaded.
 fn tested_check<'a>(command: CheckCommand<'a>) -> Result<CommandLine<'a>, CommandFault>
     requires row { IsInRangeOf Row command.options.row }
     ensures read { Answers meaning_of (check_tested (check_meant command.entry)) result }
     ensures ranges { IfOk result (λ c. IsInRange (meaning_of c)) }
 {
+    if is_loaded_name(command.rewrite, command.certificate, &command.input) {
+        return Err(CommandFault::Names);
+    }
     Ok(CommandLine::Check(command))
 }
 
@@ -125,6 +128,7 @@ fn read_check<'a>(matches: &ArgMatches<'a>) -> Result<CommandLine<'a>, CommandFa
     let first = text(matches, "FIRST_FILE");
     let second = text(matches, "SECOND_FILE");
     let options = input_options(matches);
+    let rewrite = text_at(matches, ValuedOption::Rewrite);
     if !values_fit(matches, &CHECK_OPTIONS) {
         return Err(CommandFault::Form);
     }
@@ -137,6 +141,7 @@ fn read_check<'a>(matches: &ArgMatches<'a>) -> Result<CommandLine<'a>, CommandFa
                 input,
                 certificate,
                 options,
+                rewrite,
             }),
             None => Err(CommandFault::Files),
         },

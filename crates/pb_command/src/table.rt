@@ -25,6 +25,8 @@ pub enum ValuedOption {
     Certificate,
     /// `--trace NAME`: the name under which the journal is saved.
     Journal,
+    /// `--rewrite NAME`: the name under which an accepted certificate is saved anew.
+    Rewrite,
 }
 
 /// An option without a value.
@@ -67,7 +69,7 @@ pub(crate) const SOLVE_OPTIONS: [ValuedOption; 9] = [
 
 pub(crate) const SOLVE_FLAGS: [FlagOption; 2] = [FlagOption::Plain, FlagOption::Swamp];
 
-pub(crate) const CHECK_OPTIONS: [ValuedOption; 1] = [ValuedOption::Row];
+pub(crate) const CHECK_OPTIONS: [ValuedOption; 2] = [ValuedOption::Row, ValuedOption::Rewrite];
 
 pub(crate) const CHECK_FLAGS: [FlagOption; 1] = [FlagOption::Swamp];
 
@@ -117,6 +119,7 @@ fn entry_of<'a>(option: ValuedOption) -> TableEntry<'a>
         ValuedOption::Blocks => number("blocks", 16, 4_096, 256),
         ValuedOption::Certificate => file_name("cert"),
         ValuedOption::Journal => file_name("trace"),
+        ValuedOption::Rewrite => file_name("rewrite"),
     }
 }
 

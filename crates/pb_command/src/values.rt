@@ -3,7 +3,7 @@ ghost use Rattle.std.specs.Prelude.{◌≡◌, ◌≤◌, IfSome, option_map};
 ghost use Rattle.clap.specs.Words.{first_of, found_of, one_of, rows_of};
 ghost use Rattle.pb_command.specs.Values.{number_in, flag_of, kind_of_text, input_of, is_size};
 ghost use Rattle.pb_command.specs.Values.{are_one_name, fits, values_fit, number_at};
-ghost use Rattle.pb_command.specs.Values.{text_at, flag_at};
+ghost use Rattle.pb_command.specs.Values.{text_at, flag_at, is_input_name, is_loaded_name};
 ghost use Rattle.pb_command.specs.Table.{option_form, option_name, IsInRangeOf};
 ghost use Rattle.pb_command.specs.Causes.{input_meant};
 
@@ -129,6 +129,28 @@ pub(crate) fn is_one_name(first: Option<&str>, second: Option<&str>) -> bool
     match (first, second) {
         (Some(first), Some(second)) => first == second,
         _ => false,
+    }
+}
+
+// Whether a file of the task has this name.
+fn is_input_name(input: &Input<'_>, name: &str) -> bool
+    ensures { result ≡ is_input_name (input_meant input.now) name.now }
+{
+    match input {
+        Input::Grid(files) => name == files.map || name == files.scenario,
+        Input::Tiles(board) => name == *board,
+        Input::Strips(files) => name == files.domain || name == files.problem,
+    }
+}
+
+// Whether a name is given that a file has which is loaded.
+pub(crate) fn is_loaded_name(name: Option<&str>, certificate: &str, input: &Input<'_>) -> bool
+    ensures { result ≡ is_loaded_name (option_map (λ t. t.now) name.entry) certificate.now
+        (input_meant input.now) }
+{
+    match name {
+        Some(name) => name == certificate || is_input_name(input, name),
+        None => false,
     }
 }
 

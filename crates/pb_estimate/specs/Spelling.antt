@@ -1,33 +1,36 @@
 -- How a certificate is spelled: the lines before its weight, and the digits of its states. What
 -- writes certificates and what reads them both cite this.
-use Rattle.std.specs.Prelude.{◌≡◌, ℕ, List, [], ◌∷◌, length, codes}
-use Rattle.pb_packed.specs.Sizes.{version_1_digits}
+use Rattle.std.specs.Prelude.{◌≡◌, ◌≤◌, ℕ, List, [], ◌∷◌, ◌++◌, length, codes}
+use Rattle.std.specs.Fmt.{decimal}
+use Rattle.pb_packed.specs.Sizes.{version_1_digits, most_digits}
 use Rattle.pb_model.specs.Certificate.{Certificate}
 use Rattle.pb_model.specs.Texts.{spaced, certificate_text}
 use Rattle.pb_task.specs.declared.kind.Kind.{Kind}
 use Rattle.pb_task.specs.declared.parts.TaskParts.{TaskParts}
 use Rattle.pb_task.specs.Kinds.{kind_of, kind_name}
+use Rattle.pb_task.specs.Widths.{width_of}
 use Rattle.pb_estimate.specs.declared.choice.Choice.{Choice}
 use Rattle.pb_estimate.specs.declared.choice.Choice.TheVariants.{Plain}
 use Rattle.pb_estimate.specs.declared.spelling.Stated.{Stated}
 use Rattle.pb_estimate.specs.declared.spelling.Version.{Version}
-use Rattle.pb_estimate.specs.declared.spelling.Version.TheVariants.{One}
+use Rattle.pb_estimate.specs.declared.spelling.Version.TheVariants.{One, Two}
 use Rattle.pb_estimate.specs.declared.spelling.Spelling.{Spelling}
 
 -- How a certificate of this task is written whose search had this choice of an estimate: in version
--- 1, with the digits of that version.
+-- 2, with as many digits as the task's states need.
 abbrev pub spelling_of : TaskParts → Choice → Spelling
 spelling_of parts choice =
     record {
       kind = kind_of parts;
-      version = One;
-      width = version_1_digits;
+      version = Two;
+      width = width_of parts;
       stated = record { choice = choice };
     }
 
 -- the states of this version have so many digits
 abbrev pub IsWidthOf : Version → (width : ℕ) → Type 0
 IsWidthOf One width = width ≡ version_1_digits
+IsWidthOf Two width = (1 ≤ width) × (width ≤ most_digits)
 
 -- a spelling that there is
 abbrev pub IsSpelling : Spelling → Type 0
@@ -37,9 +40,15 @@ IsSpelling spelling = IsWidthOf spelling.version spelling.width
 
 abbrev pub version_line : Version → List ℕ
 version_line One = codes "pbnf-certificate 1"
+version_line Two = codes "pbnf-certificate 2"
 
 abbrev pub kind_line : Kind → List ℕ
 kind_line kind = spaced (codes "kind") (kind_name kind)
+
+-- the line that says how many digits a state has; version 1 has none
+abbrev pub width_text : Version → (width : ℕ) → List (List ℕ)
+width_text One width = []
+width_text Two width = spaced (codes "width") (decimal width) ∷ []
 
 -- the lines that say the choice of an estimate; the plain one needs none
 abbrev pub choice_text : Choice → List (List ℕ)
@@ -51,7 +60,9 @@ stated_text stated = choice_text stated.choice
 
 abbrev pub head_of : Spelling → List (List ℕ)
 head_of spelling =
-    version_line spelling.version ∷ kind_line spelling.kind ∷ stated_text spelling.stated
+    version_line spelling.version
+    ∷ kind_line spelling.kind
+    ∷ (width_text spelling.version spelling.width ++ stated_text spelling.stated)
 
 -- how many lines come before the weight
 abbrev pub head_lines : Spelling → ℕ

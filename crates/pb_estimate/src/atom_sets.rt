@@ -5,29 +5,9 @@ ghost use Rattle.pb_task.specs.Strips.{has_atom};
 ghost use Rattle.pb_estimate.specs.Tables.{atoms_in};
 
 use pb_packed::{Packed, fields_are_replaced};
+use pb_task::next_atom;
 use std::alloc::{AllocError, Global};
 use std::marker::Model;
-
-/// The first atom from one on that is in a set, and `count` if none below it is.
-pub fn next_atom(set: &Packed, from: u32, count: u32) -> u32
-    requires count { count ≤ most_atoms }
-    requires from { from ≤ count }
-    ensures from { from ≤ result }
-    ensures most { result ≤ count }
-    ensures none { (atom : ℕ) → from ≤ atom → atom < result → has_atom set.now atom ≡ false }
-    ensures has { result < count → has_atom set.now result ≡ true }
-{
-    let mut at = from;
-    while at < count {
-        let len = (count - at).min(64);
-        let word = set.bits(at, len);
-        if word != 0 {
-            return at + word.trailing_zeros();
-        }
-        at += len;
-    }
-    count
-}
 
 /// The numbers of some ground atoms.
 #[derive(Drop)]

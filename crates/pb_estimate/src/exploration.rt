@@ -5,8 +5,8 @@ ghost use Rattle.pb_estimate.specs.declared.exploration.AtomCost.TheVariants.{Un
 ghost use Rattle.pb_estimate.specs.Hmax.{IsAtMost};
 ghost use Rattle.pb_estimate.specs.Exploring.{known_in, cost_in, final_in, final_cost, is_final_in, AreLowered, HaveSameFinals, FinalsAreWithin, OpensAreFrom, IsExploration, IsLeastOpen, IsOneOf};
 
-use crate::atom_sets::next_atom;
 use pb_packed::Packed;
+use pb_task::next_atom;
 use std::alloc::{AllocError, Global};
 use std::marker::Model;
 

@@ -1,9 +1,8 @@
 //! How a certificate is spelled. What writes certificates and what reads them both stand on this.
-ghost use Rattle.std.specs.Prelude.{◌≡◌, ◌≤◌, length};
-ghost use Rattle.pb_estimate.specs.Spelling.{spelling_of, stated_text, head_lines};
+ghost use Rattle.std.specs.Prelude.{◌≡◌, ◌≤◌, ℕ, length};
+ghost use Rattle.pb_estimate.specs.Spelling.{IsSpelling, spelling_of, width_text, stated_text, head_lines};
 
 use crate::choice::Choice;
-use pb_packed::DIGITS;
 use pb_task::{Kind, Task};
 
 /// What a certificate states beside the kind of its task and the width of its states.
@@ -30,6 +29,21 @@ impl Stated {
 pub enum Version {
     /// States have 64 hexadecimal digits, and nothing is stated besides.
     One,
+    /// A line states how many hexadecimal digits a state has, from 1 to 256.
+    Two,
+}
+
+impl Version {
+    /// How many lines of a certificate say how many digits a state has.
+    pub fn width_lines(self) -> u32
+        ensures lines { (width : ℕ) → result ≡ length (width_text self width) }
+        ensures few { result ≤ 1 }
+    {
+        match self {
+            Version::One => 0,
+            Version::Two => 1,
+        }
+    }
 }
 
 /// How a certificate is spelled.
@@ -48,12 +62,13 @@ pub struct Spelling {
 impl Spelling {
     /// How a certificate of this task is written whose search had this choice of an estimate.
     pub fn of(task: &Task, choice: Choice) -> Spelling
-        ensures { result ≡ spelling_of task.now choice }
+        ensures spelling { result ≡ spelling_of task.now choice }
+        ensures known { IsSpelling result }
     {
         Spelling {
             kind: task.kind(),
-            version: Version::One,
-            width: DIGITS as u32,
+            version: Version::Two,
+            width: task.width(),
             stated: Stated { choice },
         }
     }
@@ -61,8 +76,8 @@ impl Spelling {
     /// How many lines come before a certificate's weight.
     pub fn head_lines(&self) -> u32
         ensures lines { result ≡ head_lines self.now }
-        ensures few { result ≤ 18 }
+        ensures few { result ≤ 19 }
     {
-        2 + self.stated.lines()
+        2 + self.version.width_lines() + self.stated.lines()
     }
 }

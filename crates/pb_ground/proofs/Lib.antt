@@ -6,6 +6,7 @@ mod Indexing
 mod Membership
 mod Once
 mod Products
+mod Rising
 mod Rows
 mod Sorted
 mod Stepping

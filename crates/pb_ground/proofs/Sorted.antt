@@ -40,7 +40,7 @@ above_member row r (first ∷ rows) above e = at (above_member row r rows above.
     at later true p q = ap (λ x. rows_cmp row x) ((bytes_eq-Decides r first).0 p) ∙ above.0
     at later false p q = later q
 
-never_both : (a b : List ℕ) → rows_cmp a b ≡ Less → rows_cmp b a ≡ Less → ⊥
+pub never_both : (a b : List ℕ) → rows_cmp a b ≡ Less → rows_cmp b a ≡ Less → ⊥
 never_both a b p q = let e : Less ≡ Greater = sym p ∙ (nat_list_cmp_total.antisymm a b ∙ ap ordering_reverse q) in cc
 
 none_itself : (x : List ℕ) (xs : List (List ℕ)) → Above x xs → list_any (bytes_eq x) xs ≡ false
@@ -149,11 +149,11 @@ fitting_ascends types wanted i (kind ∷ kinds) = at (comes_to types (length typ
     at true above rest = (above, rest)
     at false above rest = rest
 
-above_append : (row : List ℕ) (a b : List (List ℕ)) → Above row a → Above row b → Above row (a ++ b)
+pub above_append : (row : List ℕ) (a b : List (List ℕ)) → Above row a → Above row b → Above row (a ++ b)
 above_append row [] b x y = y
 above_append row (r ∷ a) b x y = (x.0, above_append row a b x.1 y)
 
-ascends_append : (a b : List (List ℕ)) → Ascends a → Ascends b → AllByRecursion (λ r. Above r b) a → Ascends (a ++ b)
+pub ascends_append : (a b : List (List ℕ)) → Ascends a → Ascends b → AllByRecursion (λ r. Above r b) a → Ascends (a ++ b)
 unfolding IsStrictlySortedBy
 ascends_append [] b sa sb all = sb
 ascends_append (r ∷ a) b sa sb all = (above_append r a b sa.0 all.0, ascends_append a b sa.1 sb all.1)
@@ -162,12 +162,12 @@ longer_above : (x : ℕ) (r : List ℕ) (rows : List (List ℕ)) → Above r row
 longer_above x r [] h = tt
 longer_above x r (q ∷ rows) h = (ap (λ o. ordering_then o (rows_cmp r q)) (nat_itself x) ∙ h.0, longer_above x r rows h.1)
 
-longer_ascends : (x : ℕ) (rows : List (List ℕ)) → Ascends rows → Ascends (map (λ q. x ∷ q) rows)
+pub longer_ascends : (x : ℕ) (rows : List (List ℕ)) → Ascends rows → Ascends (map (λ q. x ∷ q) rows)
 unfolding IsStrictlySortedBy
 longer_ascends x [] s = tt
 longer_ascends x (r ∷ rows) s = (longer_above x r rows s.0, longer_ascends x rows s.1)
 
-lower_all : (x y : ℕ) (r : List ℕ) (rest : List (List ℕ)) → nat_cmp x y ≡ Less → Above (x ∷ r) (map (λ q. y ∷ q) rest)
+pub lower_all : (x y : ℕ) (r : List ℕ) (rest : List (List ℕ)) → nat_cmp x y ≡ Less → Above (x ∷ r) (map (λ q. y ∷ q) rest)
 lower_all x y r [] h = tt
 lower_all x y r (q ∷ rest) h = (ap (λ o. ordering_then o (rows_cmp r q)) h, lower_all x y r rest h)
 

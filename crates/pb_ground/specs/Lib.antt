@@ -7,6 +7,7 @@ pub mod Steps
 pub mod Errors
 pub mod Members
 pub mod Pruning
+pub mod Order
 pub mod Search
 pub mod Known
 pub mod Index

@@ -1,8 +1,11 @@
-ghost use Rattle.std.specs.Prelude.{◌≡◌, ◌≤◌, ◌++◌, map, length, IfOk, OnOk, IfErr};
+ghost use Rattle.std.specs.Prelude.{◌≡◌, ◌<◌, ◌≤◌, ◌++◌, ◌∷◌, map, length, IfOk, OnOk, IfErr};
+ghost use Rattle.std.specs.Cmp.Lexicographic.{slice_cmp};
+ghost use Rattle.std.specs.Ordering.{nat_cmp};
 ghost use Rattle.pb_packed.specs.Sizes.{most_atoms};
-ghost use Rattle.pb_ground.specs.Atoms.{ground_atoms, atoms_of, number_in, same_atom, atom_of};
+ghost use Rattle.pb_ground.specs.Atoms.{ground_atoms, atoms_of, number_in, atom_of};
 ghost use Rattle.pb_ground.specs.Errors.{TellsAtoms};
-ghost use Rattle.pb_ground.specs.Pruning.{AreFluent};
+ghost use Rattle.pb_ground.specs.Order.{row_in};
+ghost use Rattle.pb_ground.specs.Pruning.{AreFluent, row_of};
 
 use crate::count::count_atoms;
 use crate::error::GroundError;
@@ -13,6 +16,7 @@ use pb_lifted::Lifted;
 use pb_packed::MOST_ATOMS;
 use pb_pddl::Listed;
 use std::alloc::{AllocError, Global};
+use std::cmp::Ordering;
 use std::collections::BTreeSet;
 use std::marker::Model;
 
@@ -23,7 +27,8 @@ pub struct GroundAtom {
     pub objects: Listed<usize>,
 }
 
-/// The ground atoms in the order of their numbers. A contract sees the list of them.
+/// The ground atoms in the order of their numbers: by their predicates, and then by their objects.
+/// A contract sees the list of them.
 #[derive(Drop)]
 pub struct Atoms {
     items: Listed<GroundAtom>,
@@ -32,18 +37,22 @@ pub struct Atoms {
 impl Model for Atoms {
     ghost use Rattle.std.specs.Prelude.{List};
     ghost use Rattle.pb_ground.specs.declared.atoms.GroundAtom.{GroundAtom};
+    ghost use Rattle.pb_ground.specs.Order.{AreRising};
 
     ghost Value = { List GroundAtom };
 
     ghost view = { λ a. a.items };
+
+    ghost invariant = { λ a. AreRising a.items };
 }
 
 impl GroundAtom {
-    /// Whether it is of this predicate and these objects.
-    fn is_of(&self, predicate: usize, objects: &[usize]) -> bool
-        ensures { result ≡ same_atom (atom_of predicate objects.now) self.now }
+    /// How it compares with the atom of this predicate and these objects.
+    fn compare(&self, predicate: usize, objects: &[usize]) -> Ordering
+        ensures { result ≡ slice_cmp nat_cmp (row_of self.now) (predicate ∷ objects.now) }
     {
-        predicate == self.predicate && objects == self.objects.as_slice()
+        let by_objects = self.objects.as_slice().cmp(objects);
+        self.predicate.cmp(&predicate).then(by_objects)
     }
 }
 
@@ -55,14 +64,36 @@ impl Atoms {
         self.items.as_slice()
     }
 
+    /// How many atoms there are.
+    fn len(&self) -> usize
+        ensures { result ≡ length self.now }
+    {
+        self.items.as_slice().len()
+    }
+
+    /// How the atom of this number compares with that of this predicate and these objects.
+    fn compare_at(&self, i: usize, predicate: usize, objects: &[usize]) -> Ordering
+        requires { i < length self.now }
+        ensures { result ≡ slice_cmp nat_cmp (row_in self.now i) (predicate ∷ objects.now) }
+    {
+        self.items.as_slice()[i].compare(predicate, objects)
+    }
+
     /// The number of the atom of this predicate and these objects, or None if it is none of these
-    /// atoms. It takes time in the number of the atoms.
+    /// atoms. It is found by halving, since the atoms rise.
     pub fn number(&self, predicate: usize, objects: &[usize]) -> Option<usize>
         ensures { result ≡ number_in (atom_of predicate objects.now) self.now }
     {
-        for (i, atom) in self.items.as_slice().iter().enumerate() {
-            if atom.is_of(predicate, objects) {
-                return Some(i);
+        // that the atoms rise
+        let _ = &self.items;
+        let mut low = 0;
+        let mut high = self.len();
+        while low < high {
+            let middle = low + (high - low) / 2;
+            match self.compare_at(middle, predicate, objects) {
+                Ordering::Less => low = middle + 1,
+                Ordering::Greater => high = middle,
+                Ordering::Equal => return Some(middle),
             }
         }
         None

@@ -1,5 +1,5 @@
 //! The lines of a journal, in a piece of its text.
-ghost use Rattle.std.specs.Prelude.{◌≡◌, ◌+◌, ◌<◌, ◌≤◌, ◌^◌, [], ◌++◌, map, length, codes};
+ghost use Rattle.std.specs.Prelude.{◌≡◌, ◌+◌, ◌<◌, ◌≤◌, ◌^◌, ⊤, [], ◌++◌, map, length, codes};
 ghost use Rattle.std.specs.Fmt.{decimal};
 ghost use Rattle.pb_model.specs.Texts.{line, spaced};
 ghost use Rattle.pb_print.specs.Saved.{longest_line, PutsLine};
@@ -165,11 +165,13 @@ impl NumberedLines for JournalText<'_> {
 
     ghost lines_of = { λ j. lines_of j.settings.now j.events.now };
 
+    ghost begins = { λ j at begin. ⊤ };
+
     fn count(&self) -> u128 {
         6 + self.events.len() as u128
     }
 
-    fn put_line(&self, at: u128, out: &mut Piece) {
+    fn put_line(&self, at: u128, _begin: &mut usize, out: &mut Piece) {
         if at < 6 {
             put_setting(self.settings, at, out);
         } else {

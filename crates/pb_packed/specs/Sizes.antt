@@ -12,7 +12,7 @@ most_digits = 256
 
 -- how many ground atoms a task has at most
 abbrev pub most_atoms : ℕ
-most_atoms = 256
+most_atoms = 1024
 
 -- how many hexadecimal digits spell a state in version 1 of certificates
 abbrev pub version_1_digits : ℕ

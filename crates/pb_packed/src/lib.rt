@@ -20,4 +20,5 @@ mod words_order;
 pub use laws::{digits_are_hex, digits_tell_numbers, fields_are_replaced};
 pub use packed::Packed;
 pub use sizes::{BITS, DIGITS, MOST_ATOMS, MOST_DIGITS};
+pub use slices::compare;
 pub use words::Words;

@@ -150,9 +150,10 @@ pub(crate) fn same(words: &[u64], other: &[u64]) -> bool
     true
 }
 
-// How two numbers compare: by the highest words that differ.
+/// How two numbers compare that are held in as many words, the lowest first: by the highest words that
+/// differ.
 #[inline]
-pub(crate) fn compare(words: &[u64], other: &[u64]) -> Ordering
+pub fn compare(words: &[u64], other: &[u64]) -> Ordering
     requires words { AreWords (length words.now) words.now }
     requires size { length other.now ≡ length words.now }
     requires other { AreWords (length words.now) other.now }

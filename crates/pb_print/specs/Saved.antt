@@ -6,9 +6,10 @@ use Rattle.pb_outside.specs.Calls.{Call}
 use Rattle.pb_outside.specs.Saves.{IsWritten, HaveBegun}
 use Rattle.pb_model.specs.Texts.{line, lines}
 
--- how many bytes a line of a saved text has at most, its line feed included
+-- How many bytes a line of a saved text has at most, its line feed included. The longest is a row
+-- of a certificate: 256 digits of a state, its g and its status.
 abbrev pub longest_line : ℕ
-longest_line = 128
+longest_line = 320
 
 -- the line of this number, counted from 0, was put at the end of the piece, which grew by no more
 -- than a line has

@@ -1,10 +1,10 @@
 ghost use Rattle.std.specs.Prelude.{◌≡◌, ◌+◌, ◌≤◌, [], ◌++◌, length};
 ghost use Rattle.std.specs.Fmt.{decimal};
 ghost use Rattle.pb_packed.specs.Digits.{hex_digits};
-ghost use Rattle.pb_packed.specs.Sizes.{version_1_digits};
+ghost use Rattle.pb_packed.specs.Sizes.{most_digits};
 
 use itoa::Buffer;
-use pb_packed::{DIGITS, MOST_DIGITS, Packed};
+use pb_packed::{MOST_DIGITS, Packed};
 use std::marker::Model;
 
 /// A piece of a text, of at most 4,096 bytes, in a buffer of that size. No call takes memory.
@@ -80,15 +80,18 @@ impl Piece {
         self.push(buffer.format(n).as_bytes());
     }
 
-    /// Appends a state in the hexadecimal digits of version 1.
-    pub fn push_hex(&mut self, state: &Packed)
-        requires { length self.old + version_1_digits ≤ 4096 }
-        ensures digits { self.new ≡ self.old ++ hex_digits version_1_digits state.now }
-        ensures len { length self.new ≡ length self.old + version_1_digits }
+    /// Appends a state in so many hexadecimal digits, the lowest ones: all of its number, if that is
+    /// below 16 to the power of this count.
+    pub fn push_hex(&mut self, state: &Packed, digits: u32)
+        requires some { 1 ≤ digits }
+        requires most { digits ≤ most_digits }
+        requires room { length self.old + digits ≤ 4096 }
+        ensures digits { self.new ≡ self.old ++ hex_digits digits state.now }
+        ensures len { length self.new ≡ length self.old + digits }
     {
-        let mut digits = [0u8; MOST_DIGITS];
-        state.hex(DIGITS as u32, &mut digits);
-        let (text, _rest) = digits.as_slice().split_at(DIGITS);
+        let mut written = [0u8; MOST_DIGITS];
+        state.hex(digits, &mut written);
+        let (text, _rest) = written.as_slice().split_at(digits as usize);
         self.push(text);
     }
 }

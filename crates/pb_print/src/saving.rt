@@ -10,9 +10,13 @@ use crate::Piece;
 use pb_outside::{Failed, Shelf};
 
 // No line has more bytes, its line feed included.
-const LONGEST: usize = 128;
+const LONGEST: usize = 320;
 
-/// A text in lines, which are numbered from 0.
+/// A text in lines, which are numbered from 0 and put in their order.
+///
+/// The lines of a text that is made of another text may be found only one after another. So a call
+/// that puts a line gets where in that other text the line begins, and sets where the next one
+/// does: both begin with byte 0. A text whose lines are found by their numbers doesn't look at it.
 pub trait NumberedLines {
     /// The text.
     ghost text: { Self → List ℕ };
@@ -20,18 +24,24 @@ pub trait NumberedLines {
     /// Its lines, without their line feeds.
     ghost lines_of: { Self → List (List ℕ) };
 
+    /// The line of a number begins in this byte of what the text is made of.
+    ghost begins: { Self → (at begin : ℕ) → Type 0 };
+
     /// How many lines there are: at least one.
     fn count(&self) -> u128
         ensures count { result ≡ length (lines_of self.now) }
         ensures some { 1 ≤ result }
         ensures most { result < 2 ^ 66 }
-        ensures text { lines (lines_of self.now) ≡ text self.now };
+        ensures text { lines (lines_of self.now) ≡ text self.now }
+        ensures first { begins self.now 0 0 };
 
     /// Puts the line of this number at the piece's end.
-    fn put_line(&self, at: u128, out: &mut Piece)
+    fn put_line(&self, at: u128, begin: &mut usize, out: &mut Piece)
         requires within { at < length (lines_of self.now) }
         requires room { length out.old + longest_line ≤ 4096 }
-        ensures { PutsLine out.old out.new (lines_of self.now) at };
+        requires begins { begins self.now at begin.old }
+        ensures line { PutsLine out.old out.new (lines_of self.now) at }
+        ensures next { begins self.now (at + 1) begin.new };
 }
 
 // Appends what the piece holds to the file, and empties the piece.
@@ -98,9 +108,12 @@ fn add_line<T: NumberedLines, H: Shelf>(
     name: &str,
     piece: &mut Piece,
     at: u128,
+    begin: &mut usize,
 ) -> Result<(), Failed>
     requires within { at < length (T.lines_of text.now) }
     requires lines { AreLines piece.old }
+    requires begins { T.begins text.now at begin.old }
+    ensures next { OnOk result (T.begins text.now (at + 1) begin.new) }
     ensures lines { OnOk result (AreLines piece.new) }
     ensures full { OnOk result (HasBytes piece.new) }
     ensures ok { OnOk result (IfTold (H.files shelf.old) (H.files shelf.new)
@@ -124,7 +137,7 @@ fn add_line<T: NumberedLines, H: Shelf>(
     ensures cause { HasCause (H.faults shelf.old) (H.faults shelf.new) result }
 {
     make_room(shelf, name, piece)?;
-    text.put_line(at, piece);
+    text.put_line(at, begin, piece);
     Ok(())
 }
 
@@ -154,9 +167,10 @@ pub fn save_lines<T: NumberedLines, H: Shelf>(
     shelf.create(name)?;
     let mut piece = Piece::new();
     let mut at = 0u128;
+    let mut begin = 0usize;
     let count = text.count();
     'lines: while at < count {
-        add_line(text, shelf, name, &mut piece, at)?;
+        add_line(text, shelf, name, &mut piece, at, &mut begin)?;
         at += 1;
     }
     append_piece(shelf, name, &mut piece)
@@ -168,10 +182,11 @@ pub fn len_of_lines<T: NumberedLines>(text: &T) -> u128
 {
     let mut len = 0u128;
     let mut at = 0u128;
+    let mut begin = 0usize;
     let count = text.count();
     'lines: while at < count {
         let mut line = Piece::new();
-        text.put_line(at, &mut line);
+        text.put_line(at, &mut begin, &mut line);
         len += line.len() as u128;
         at += 1;
     }

@@ -122,6 +122,13 @@ impl Report {
                 line,
             ),
             CertificateFault::Kind => Report::of_line(alloc, b"refused Kind"),
+            CertificateFault::Width { said, wanted } => Report::with_numbers(
+                alloc,
+                b"refused Width ",
+                u64::from(said),
+                b" ",
+                u64::from(wanted),
+            ),
             CertificateFault::Weight => Report::of_line(alloc, b"refused Weight"),
             CertificateFault::PlanStep { i } => Report::with_number(alloc, b"refused PlanStep ", i),
             CertificateFault::NotGoal => Report::of_line(alloc, b"refused NotGoal"),

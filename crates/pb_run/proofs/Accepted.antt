@@ -208,10 +208,10 @@ module _ (words others : List (List ℕ)) (solve : SolveMeaning) (solved other :
 
 pub certificates_are_accepted_by_words : SolveReadsOptions → CheckReadsOptions
     → CertificatesAreAcceptedByWords
-certificates_are_accepted_by_words solve_reads check_reads input name file text arguments others solved checked matching same_swamp named kept kept_too answered saved texts =
+certificates_are_accepted_by_words solve_reads check_reads input name file text arguments others solved checked matching same_swamp new named kept kept_too answered saved texts =
     certificate_by_words _ _ _ solved checked
     (solve_reads input arguments matching.solve matching.weight matching.names) kept kept_too _ name
-    text (check_reads input file others matching.each matching.distinct matching.placed) refl
+    text (check_reads input file others matching.each matching.distinct matching.placed new) refl
     (ap₂ (λ row swamp. record { row = row; swamp = swamp }) matching.row same_swamp) named answered saved texts
 
 pub journals_are_accepted_by_words : SavedJournalsAreAccepted → SolveReadsOptions

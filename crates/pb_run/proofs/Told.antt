@@ -12,6 +12,7 @@ use Rattle.pb_command.specs.Causes.{IsPrinted}
 use Rattle.pb_command.specs.Meaning.{Reading, Refused, Read, Solve, Check, Journal, Make, SolveMeaning, CheckMeaning, JournalMeaning, MakeMeaning}
 use Rattle.pb_run.specs.Asked.{listed, saved_names}
 use Rattle.pb_answer.specs.Outputs.{Output}
+use Rattle.pb_cert.specs.Rewritten.{rewritten_text}
 use Rattle.pb_answer.specs.Loaded.{solve_task, check_task, journal_task, OfTexts, RefusesTexts}
 use Rattle.pb_machine.specs.declared.event.Event.{Event}
 use Rattle.pb_machine.specs.declared.settings.Settings.{Settings}
@@ -19,7 +20,7 @@ use Rattle.pb_model.specs.Guide.{Guide}
 use Rattle.pb_model.specs.Store.{Store}
 use Rattle.pb_model.specs.Weight.{Weight}
 use Rattle.pb_answer.specs.Searches.{settings_of, weight_asked}
-use Rattle.pb_answer.specs.Claims.{IsCertificate, journal_outputs, journal_outputs_if_any, Certifies, Stops, Solves, PrintsPlan, PrintsLeastCost, SavesPlan, Accepts, Rejects}
+use Rattle.pb_answer.specs.Claims.{IsCertificate, journal_outputs, journal_outputs_if_any, Certifies, Stops, Solves, PrintsPlan, PrintsLeastCost, SavesPlan, text_outputs, rewritten_outputs, Accepts, Rejects}
 use Rattle.pb_answer.specs.Journals.{AcceptsJournal, RejectsJournal}
 use Rattle.pb_answer.specs.Answer.{Said, Says, Saves, IsSolved, IsUnsolvable, IsStopped, IsFound, IsChecked, IsJudged, IsRefused, OrRefused}
 use Rattle.pb_run.specs.Makes.{MakesPlan, MakesNone, MakesStop}
@@ -49,6 +50,10 @@ module _ (texts : List (List ℕ)) (said : Said) where
 
   none_named : (reading : Reading) → said.outputs ≡ [] → AreNamed reading
   none_named reading none = subst (λ (os : List Output). AreSomeOf (names_of os) (saved_names reading)) (sym none) tt
+
+  text_named : (given : Option (List ℕ)) (text : List ℕ) → AreSomeOf (names_of (text_outputs given text)) (listed given)
+  text_named None text = tt
+  text_named (Some name) text = inl (refl, tt)
 
   -- ---- texts that are refused, and others
 
@@ -162,16 +167,17 @@ module _ (texts : List (List ℕ)) (said : Said) where
   abbrev Judged : Type 0
   Judged = Result (TaskParts × List ℕ) (List ℕ)
 
-  module _ (task : Judged) (Good Bad : (says : List ℕ → Type 0) → TaskParts → List ℕ → Type 0) where
+  -- `anew` is what is saved of an accepted text
+  module _ (task : Judged) (Good Bad : (says : List ℕ → Type 0) → TaskParts → List ℕ → Type 0) (anew : TaskParts → List ℕ → List Output) where
     abbrev IsVerdict : TaskParts × List ℕ → Said → Type 0
-    IsVerdict t s = ((s.status ≡ 0) × Saves s [] × Good (Says s) t.0 t.1) ⊎ ((s.status ≡ 3) × Saves s [] × Bad (Says s) t.0 t.1)
+    IsVerdict t s = ((s.status ≡ 0) × Saves s (anew t.0 t.1) × Good (Says s) t.0 t.1) ⊎ ((s.status ≡ 3) × Saves s [] × Bad (Says s) t.0 t.1)
 
     abbrev Holds : (P : TaskParts → List ℕ → Type 0) → Type 0
     Holds P = (parts : TaskParts) × (text : List ℕ) × (task ≡ Ok (parts, text)) × P parts text
 
     module _ (answers : OrRefused task IsVerdict said) where
       -- whether the text is accepted or rejected, or the texts are refused
-      by_verdict : (Q : Type 0) → ((parts : TaskParts) (text : List ℕ) → task ≡ Ok (parts, text) → (said.status ≡ 0) × Saves said [] × Good (Says said) parts text → Q)
+      by_verdict : (Q : Type 0) → ((parts : TaskParts) (text : List ℕ) → task ≡ Ok (parts, text) → (said.status ≡ 0) × Saves said (anew parts text) × Good (Says said) parts text → Q)
           → ((parts : TaskParts) (text : List ℕ) → task ≡ Ok (parts, text) → (said.status ≡ 3) × Saves said [] × Bad (Says said) parts text → Q)
           → (task ≡ Err said.report → IsRefused said.report said → Q) → Q
       by_verdict Q good bad refused = by_task task IsVerdict answers Q judged refused
@@ -198,8 +204,21 @@ module _ (texts : List (List ℕ)) (said : Said) where
       verdict_refused : said.status ≡ 65 → task ≡ Err said.report
       verdict_refused e = by_verdict (task ≡ Err said.report) (λ parts text is h. absurd (omega (arith, e, h.0))) (λ parts text is h. absurd (omega (arith, e, h.0))) (λ is h. is)
 
-      verdict_saves_none : said.outputs ≡ []
-      verdict_saves_none = by_verdict (said.outputs ≡ []) (λ parts text is h. h.1) (λ parts text is h. h.1) (λ is h. h.2)
+      refusal_saves : said.status ≡ 65 → said.outputs ≡ []
+      refusal_saves e = by_verdict (said.outputs ≡ []) (λ parts text is h. absurd (omega (arith, e, h.0))) (λ parts text is h. h.1) (λ is h. h.2)
+
+      verdict_saves : (parts : TaskParts) (text : List ℕ) → task ≡ Ok (parts, text) → said.status ≡ 0 → said.outputs ≡ anew parts text
+      verdict_saves parts text is zero = go (of_task task IsVerdict answers (parts, text) is)
+        where
+          go : IsVerdict (parts, text) said → said.outputs ≡ anew parts text
+          go (inl h) = h.1
+          go (inr h) = absurd (omega (arith, zero, h.0))
+
+      -- what is saved has names among these, if what is saved anew has
+      verdict_named : (reading : Reading) → ((parts : TaskParts) (text : List ℕ) → AreSomeOf (names_of (anew parts text)) (saved_names reading)) → AreNamed reading
+      verdict_named reading named =
+          by_verdict (AreNamed reading) (λ parts text is h. subst (λ (os : List Output). AreSomeOf (names_of os) (saved_names reading)) (sym h.1) (named parts text))
+          (λ parts text is h. none_named reading h.1) (λ is h. none_named reading h.2)
 
       -- what is not rejected is accepted
       verdict_answered : (parts : TaskParts) (text : List ℕ) → task ≡ Ok (parts, text) → (Bad (Says said) parts text → ⊥) → said.status ≡ 0
@@ -250,8 +269,8 @@ module _ (texts : List (List ℕ)) (said : Said) where
   pub known : (reading : Reading) → AnswersReading reading texts said → IsAnswer said.status
   known (Refused fault) answers = inr (inr (inr (inr (inl answers.0))))
   known (Read (Solve solve)) answers = search_known solve answers
-  known (Read (Check check)) answers = verdict_known (check_task check texts) Accepts Rejects answers
-  known (Read (Journal journal)) answers = verdict_known (journal_task journal texts) AcceptsJournal RejectsJournal answers
+  known (Read (Check check)) answers = verdict_known (check_task check texts) Accepts Rejects (rewritten_outputs check) answers
+  known (Read (Journal journal)) answers = verdict_known (journal_task journal texts) AcceptsJournal RejectsJournal (λ parts text. []) answers
   known (Read (Make make)) answers = made_known make answers
 
   -- ---- the promises to whoever solves
@@ -308,17 +327,17 @@ module _ (texts : List (List ℕ)) (said : Said) where
   pub checked_text : (reading : Reading) → Answered reading → ChecksHold (Done reading)
   checked_text reading given = of_check Answered _ at reading given
     where
-      decided : (parts : TaskParts) (certificate : List ℕ) → IsChecked parts certificate said → IsOfVerdict (checked parts certificate) said.status
-      decided parts certificate (inl valid) = subst (λ v. IsOfVerdict v said.status) (sym valid.2.2) (inl valid.0)
-      decided parts certificate (inr faulty) = subst (λ v. IsOfVerdict v said.status) (sym faulty.2.2) (inl faulty.0)
+      decided : (check : CheckMeaning) (parts : TaskParts) (certificate : List ℕ) → IsChecked check parts certificate said → IsOfVerdict (checked parts certificate) said.status
+      decided check parts certificate (inl valid) = subst (λ v. IsOfVerdict v said.status) (sym valid.2.2) (inl valid.0)
+      decided check parts certificate (inr faulty) = subst (λ v. IsOfVerdict v said.status) (sym faulty.2.2) (inl faulty.0)
 
       at : (check : CheckMeaning) → Answered (Read (Check check)) → CheckHolds check (Done reading)
       at check answers = record {
-        accepted = accepted (check_task check texts) Accepts Rejects answers;
-        rejected = rejected (check_task check texts) Accepts Rejects answers;
-        exact = λ parts certificate is. decided parts certificate (of_task (check_task check texts) (λ t. IsChecked t.0 t.1) answers (parts, certificate) is);
-        rewritten = λ parts certificate is zero. verdict_saves_none (check_task check texts) Accepts Rejects answers;
-        statuses = verdict_statuses (check_task check texts) Accepts Rejects answers (Read (Check check));
+        accepted = accepted (check_task check texts) Accepts Rejects (rewritten_outputs check) answers;
+        rejected = rejected (check_task check texts) Accepts Rejects (rewritten_outputs check) answers;
+        exact = λ parts certificate is. decided check parts certificate (of_task (check_task check texts) (λ t. IsChecked check t.0 t.1) answers (parts, certificate) is);
+        rewritten = λ parts certificate is zero. verdict_saves (check_task check texts) Accepts Rejects (rewritten_outputs check) answers parts certificate is zero;
+        statuses = verdict_statuses (check_task check texts) Accepts Rejects (rewritten_outputs check) answers (Read (Check check));
       }
 
   pub judged_text : (reading : Reading) → Answered reading → JournalsHold (Done reading)
@@ -326,10 +345,10 @@ module _ (texts : List (List ℕ)) (said : Said) where
     where
       at : (journal : JournalMeaning) → Answered (Read (Journal journal)) → JournalHolds journal (Done reading)
       at journal answers = record {
-        accepted = accepted (journal_task journal texts) AcceptsJournal RejectsJournal answers;
-        rejected = rejected (journal_task journal texts) AcceptsJournal RejectsJournal answers;
-        exact = λ parts text events is legal. inl (verdict_answered (journal_task journal texts) AcceptsJournal RejectsJournal answers parts text is (λ bad. bad.4 events legal));
-        statuses = verdict_statuses (journal_task journal texts) AcceptsJournal RejectsJournal answers (Read (Journal journal));
+        accepted = accepted (journal_task journal texts) AcceptsJournal RejectsJournal (λ parts text. []) answers;
+        rejected = rejected (journal_task journal texts) AcceptsJournal RejectsJournal (λ parts text. []) answers;
+        exact = λ parts text events is legal. inl (verdict_answered (journal_task journal texts) AcceptsJournal RejectsJournal (λ parts text. []) answers parts text is (λ bad. bad.4 events legal));
+        statuses = verdict_statuses (journal_task journal texts) AcceptsJournal RejectsJournal (λ parts text. []) answers (Read (Journal journal));
       }
 
   pub made : (reading : Reading) → Answered reading → MakesHold (Done reading)
@@ -344,14 +363,14 @@ module _ (texts : List (List ℕ)) (said : Said) where
   input_refused : (reading : Reading) → Answered reading → said.status ≡ 65 → RefusesTexts reading texts said.report
   input_refused (Refused fault) answers = λ e. omega (arith, e, answers.0)
   input_refused (Read (Solve solve)) answers = solve_refused solve answers
-  input_refused (Read (Check check)) answers = verdict_refused (check_task check texts) Accepts Rejects answers
-  input_refused (Read (Journal journal)) answers = verdict_refused (journal_task journal texts) AcceptsJournal RejectsJournal answers
+  input_refused (Read (Check check)) answers = verdict_refused (check_task check texts) Accepts Rejects (rewritten_outputs check) answers
+  input_refused (Read (Journal journal)) answers = verdict_refused (journal_task journal texts) AcceptsJournal RejectsJournal (λ parts text. []) answers
   input_refused (Read (Make make)) answers = λ e. absurd (made_is_read make answers e)
 
   always_refused : (reading : Reading) → Answered reading → (report : List ℕ) → RefusesTexts reading texts report → said.status ≡ 65
   always_refused (Refused fault) answers report refused = absurd refused
   always_refused (Read (Solve solve)) answers report is = refuses (solve_task solve texts) (IsFound solve) answers report is
-  always_refused (Read (Check check)) answers report is = refuses (check_task check texts) (λ t. IsChecked t.0 t.1) answers report is
+  always_refused (Read (Check check)) answers report is = refuses (check_task check texts) (λ t. IsChecked check t.0 t.1) answers report is
   always_refused (Read (Journal journal)) answers report is = refuses (journal_task journal texts) (λ t. IsJudged t.0 t.1) answers report is
   always_refused (Read (Make make)) answers report refused = absurd refused
 
@@ -360,15 +379,16 @@ module _ (texts : List (List ℕ)) (said : Said) where
   pub outputs_are_named : (reading : Reading) → Answered reading → AreNamed reading
   outputs_are_named (Refused fault) answers = none_named (Refused fault) answers.2
   outputs_are_named (Read (Solve solve)) answers = solve_named solve answers
-  outputs_are_named (Read (Check check)) answers = none_named (Read (Check check)) (verdict_saves_none (check_task check texts) Accepts Rejects answers)
-  outputs_are_named (Read (Journal journal)) answers = none_named (Read (Journal journal)) (verdict_saves_none (journal_task journal texts) AcceptsJournal RejectsJournal answers)
+  outputs_are_named (Read (Check check)) answers =
+      verdict_named (check_task check texts) Accepts Rejects (rewritten_outputs check) answers (Read (Check check)) (λ parts text. text_named check.rewrite (rewritten_text parts text))
+  outputs_are_named (Read (Journal journal)) answers = verdict_named (journal_task journal texts) AcceptsJournal RejectsJournal (λ parts text. []) answers (Read (Journal journal)) (λ parts text. tt)
   outputs_are_named (Read (Make make)) answers = none_named (Read (Make make)) (made_saves_none make answers)
 
   refusal_saves_none : (reading : Reading) → Answered reading → said.status ≡ 65 → said.outputs ≡ []
   refusal_saves_none (Refused fault) answers e = answers.2
   refusal_saves_none (Read (Solve solve)) answers e = solve_saves_none solve answers (λ zero. omega (arith, e, zero)) (λ one. omega (arith, e, one)) (λ two. omega (arith, e, two))
-  refusal_saves_none (Read (Check check)) answers e = verdict_saves_none (check_task check texts) Accepts Rejects answers
-  refusal_saves_none (Read (Journal journal)) answers e = verdict_saves_none (journal_task journal texts) AcceptsJournal RejectsJournal answers
+  refusal_saves_none (Read (Check check)) answers e = refusal_saves (check_task check texts) Accepts Rejects (rewritten_outputs check) answers e
+  refusal_saves_none (Read (Journal journal)) answers e = refusal_saves (journal_task journal texts) AcceptsJournal RejectsJournal (λ parts text. []) answers e
   refusal_saves_none (Read (Make make)) answers e = made_saves_none make answers
 
   pub refused : ReadAsSpelled → ReadingsAreSpelled → (reading : Reading) → Answered reading → RefusalHolds (Done reading)
@@ -390,9 +410,9 @@ module _ (texts : List (List ℕ)) (said : Said) where
   answered (Refused fault) answers = inl answers.0
   answered (Read (Solve solve)) answers = solve_answered solve answers
   answered (Read (Check check)) answers = λ parts certificate verdict is valid.
-      inl (verdict_answered (check_task check texts) Accepts Rejects answers parts certificate is (λ bad. bad.3 verdict valid))
+      inl (verdict_answered (check_task check texts) Accepts Rejects (rewritten_outputs check) answers parts certificate is (λ bad. bad.3 verdict valid))
   answered (Read (Journal journal)) answers = λ parts text events is legal.
-      inl (verdict_answered (journal_task journal texts) AcceptsJournal RejectsJournal answers parts text is (λ bad. bad.4 events legal))
+      inl (verdict_answered (journal_task journal texts) AcceptsJournal RejectsJournal (λ parts text. []) answers parts text is (λ bad. bad.4 events legal))
   answered (Read (Make make)) answers = made_answered make answers
 
 -- want of memory is an answer to all

@@ -22,7 +22,7 @@ AnswersReading (Refused fault) texts said =
 AnswersReading (Read (Solve solve)) texts said =
     OrRefused (solve_task solve texts) (IsFound solve) said
 AnswersReading (Read (Check check)) texts said =
-    OrRefused (check_task check texts) (λ task. IsChecked task.0 task.1) said
+    OrRefused (check_task check texts) (λ task. IsChecked check task.0 task.1) said
 AnswersReading (Read (Journal journal)) texts said =
     OrRefused (journal_task journal texts) (λ task. IsJudged task.0 task.1) said
 AnswersReading (Read (Make make)) texts said = IsMade make said

@@ -36,7 +36,8 @@ IsOfVerdict (Err fault) status = (status ≡ 3) ⊎ IsBroken status
 -- - `accepted`: the certificate is a valid one of the task, and what it claims is true.
 -- - `rejected`: it isn't valid, and its first fault is printed.
 -- - `exact`: the text and the task alone decide between the two.
--- - `rewritten`: what is saved of an accepted certificate.
+-- - `rewritten`: an accepted certificate is saved in version 2 under the name of `--rewrite`, if
+--   that is given, and nothing else is saved.
 pub record CheckHolds (check : CheckMeaning) (it : Outcome) : Type 0 where
   pub accepted : it.said.status ≡ 0 → OfCheckedTexts check it.texts (Accepts (Says it.said))
   pub rejected : it.said.status ≡ 3 → OfCheckedTexts check it.texts (Rejects (Says it.said))

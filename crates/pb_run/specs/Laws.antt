@@ -8,7 +8,7 @@ use Rattle.pb_command.specs.declared.table.ValuedOption.{ValuedOption}
 use Rattle.pb_command.specs.declared.table.ValuedOption.TheVariants.{Row, Num, Den, Certificate, Journal as JournalOption}
 use Rattle.pb_command.specs.declared.table.FlagOption.{FlagOption}
 use Rattle.pb_command.specs.declared.table.FlagOption.TheVariants.{Swamp}
-use Rattle.pb_command.specs.Options.{Argument, words_of, placed_words, value_given, number_given, flag_given, AreDistinct, IsArgumentOf, is_of_check, is_of_journal, is_flag_of_check, no_flag, kind_word, file_words, AreOfSolve, HaveTwoNames}
+use Rattle.pb_command.specs.Options.{Argument, words_of, placed_words, value_given, number_given, flag_given, AreDistinct, IsArgumentOf, is_of_check, is_of_journal, is_flag_of_check, no_flag, kind_word, file_words, AreOfSolve, HaveTwoNames, HasNewName}
 use Rattle.pb_answer.specs.Outputs.{Output, output}
 use Rattle.pb_answer.specs.Answer.{Said}
 use Rattle.pb_run.specs.Outcome.{Outcome, IsAnswer, IsBroken}
@@ -85,13 +85,14 @@ AcceptsIt status =
 
 -- A call with the words `solve ..`, with `--cert NAME` among them, answered a plan or none and
 -- saved a certificate under that name. Another call has the words of the matching `check ..`, with
--- `--swamp` exactly if `solve` had it. It loads the text of that certificate whole and then the
--- same input, and accepts the certificate.
+-- `--swamp` exactly if `solve` had it, and a new name for `--rewrite`, if that is given. It loads
+-- the text of that certificate whole and then the same input, and accepts the certificate.
 abbrev pub CertificatesAreAcceptedByWords : Type 0
 CertificatesAreAcceptedByWords =
     (input : InputNames) (name file text : List ℕ) (arguments others : List Argument)
     (solved checked : Outcome) → AreMatching input is_of_check is_flag_of_check file arguments others
     → flag_given Swamp others ≡ flag_given Swamp arguments
+    → HasNewName input file others
     → value_given Certificate arguments ≡ Some name
     → Keeps (codes "solve" ∷ words_of arguments) solved
     → Keeps (codes "check" ∷ words_of others) checked

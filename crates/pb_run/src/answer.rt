@@ -33,11 +33,12 @@ pub fn answer_words<'a, R: Threads + Wait + Sync, G: Gate>(
     rt: &R,
     alloc: Global,
     words: &'a [String],
-    texts: &Texts,
+    texts: &'a Texts,
     gate: &G,
     kept: &'a mut Option<SearchedStore>,
 ) -> Result<Answer<'a>, AllocError>
-    ensures { IfOk result (λ a. Answers (map string_bytes words.entry.now) texts.now (said_of a)) }
+    ensures { IfOk result (λ a. Answers (map string_bytes words.entry.now) texts.entry.now
+        (said_of a)) }
 {
     match read_words(alloc, words) {
         Ok(CommandLine::Solve(solve)) => answer_solve(rt, alloc, solve, texts, gate, kept),

@@ -6,7 +6,7 @@ ghost use Rattle.pb_answer.specs.Answer.{certificates_of, journals_of, said_of};
 ghost use Rattle.pb_run.specs.Contents.{SavesIn, SavesPartIn, Saved, SavedPart, Hands, HandsTold};
 ghost use Rattle.pb_run.specs.declared.output.Ending.TheVariants.{Done, NotSaved, NotPrinted};
 
-use pb_answer::{Answer, SavedCertificate, SavedJournal};
+use pb_answer::{Answer, CertificateText, SavedCertificate, SavedJournal};
 use pb_journal::write_journal;
 use pb_outside::{Failed, Shelf, Sink};
 
@@ -41,7 +41,10 @@ fn save_certificate<H: Shelf>(
     ensures cause { HasCause (H.faults shelf.old) (H.faults shelf.new) result }
 {
     match saved {
-        Some(file) => file.certificate.write_to(shelf, file.name),
+        Some(file) => match &file.text {
+            CertificateText::Found(certificate) => certificate.write_to(shelf, file.name),
+            CertificateText::Accepted(rewriting) => rewriting.write_to(shelf, file.name),
+        },
         None => Ok(()),
     }
 }

@@ -155,14 +155,3 @@ one_replaced f words i x inside is done k less = which (cases_lt k i) where
 pub others_stay : (before words : List ℕ) (i x : ℕ) → ((k : ℕ) → i ≤ k → get_or words k 0 ≡ get_or before k 0)
     → (k : ℕ) → i + 1 ≤ k → get_or (slice_set words i x) k 0 ≡ get_or before k 0
 others_stay before words i x rest k past = let apart : k ≢ i = omega arith in get_or-set_other words i k x 0 apart ∙ rest k (omega arith)
-
--- ---- one atom
-
-pub word_tells : (words : List ℕ) (atom : ℕ) → AreWords (length words) words → has_atom (number_of words) atom ≡ has_atom (get_or words (atom / 64) 0) (atom % 64)
-word_tells words atom h =
-    let here : 64 * (atom / 64) + atom % 64 ≡ atom = omega arith in
-    let less : atom % 64 < 64 = omega arith in
-    ap (λ a. has_atom (number_of words) a) (sym here) ∙ word_has (length words) (atom / 64) (atom % 64) words h less
-
-pub past_tells : (words : List ℕ) (atom : ℕ) → AreWords (length words) words → length words ≤ atom / 64 → has_atom (number_of words) atom ≡ false
-past_tells words atom h past = word_tells words atom h ∙ nothing_at words (atom / 64) (atom % 64) past

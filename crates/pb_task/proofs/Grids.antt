@@ -110,7 +110,7 @@ has_few_bits : (test : Bool) (class : Class) → is_passable (if test then class
 has_few_bits true class e = refl
 has_few_bits false class e = e
 
-states_are_small : (grid : GridParts) (state : ℕ) → IsTrue ((grid_space grid).is_state state) → state < 2 ^ 22
+pub states_are_small : (grid : GridParts) (state : ℕ) → IsTrue ((grid_space grid).is_state state) → state < 2 ^ 22
 states_are_small grid state e = ltb-true state (2 ^ 22) (has_few_bits (nat_lt state (2 ^ 22)) (class_at grid (bits_of state 0 11) (bits_of state 11 11)) e)
 
 pub grids_are_proper : GridsAreProper

@@ -4,10 +4,12 @@ mod Sliding
 mod Exchanges
 mod Slides
 mod AtomSets
+mod NextAtoms
 mod FlatWords
 mod FlatActions
 mod Acting
 mod Grids
+mod Widths
 mod Successors
 mod Degrees
 mod Walks

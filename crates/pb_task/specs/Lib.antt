@@ -8,5 +8,6 @@ pub mod Actions
 pub mod Strips
 pub mod Parts
 pub mod Kinds
+pub mod Widths
 pub mod Faults
 pub mod Laws

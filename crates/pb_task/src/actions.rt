@@ -1,7 +1,7 @@
-ghost use Rattle.std.specs.Prelude.{◌≡◌, ◌<◌, ◌≤◌, ◌*◌, ◌++◌, ◌∷◌, ◌||◌, [], IfOk, length};
+ghost use Rattle.std.specs.Prelude.{◌≡◌, ◌<◌, ◌≤◌, ◌*◌, ◌++◌, ◌∷◌, [], IfOk, length};
 ghost use Rattle.pb_packed.specs.Sizes.{state_bits};
 ghost use Rattle.pb_packed.specs.Words.{number_of, AreWords};
-ghost use Rattle.pb_task.specs.Strips.{has_atom, action_at};
+ghost use Rattle.pb_task.specs.Strips.{action_at};
 
 use crate::atom_sets::AtomSets;
 use crate::parts::{ActionName, GroundAction};
@@ -138,15 +138,6 @@ impl Actions {
         ensures { result ≡ (action_at self.now at).deletes }
     {
         Packed::of_slice(self.words_of_deletes(at))
-    }
-
-    /// Whether the action of a number adds or deletes an atom.
-    pub fn changes(&self, at: usize, atom: u32) -> bool
-        requires { at < length self.now }
-        ensures { result ≡ (has_atom (action_at self.now at).adds atom
-            || has_atom (action_at self.now at).deletes atom) }
-    {
-        self.adds.has(at, atom) || self.deletes.has(at, atom)
     }
 
     // The words of what an action needs.

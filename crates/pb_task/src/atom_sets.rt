@@ -2,7 +2,6 @@
 ghost use Rattle.std.specs.Prelude.{◌≡◌, ◌*◌, ◌^◌, ◌<◌, ◌≤◌, ◌++◌, ◌∷◌, [], IfOk, OnOk, length, slice_index};
 ghost use Rattle.pb_packed.specs.Sizes.{state_bits};
 ghost use Rattle.pb_packed.specs.Words.{number_of, AreWords};
-ghost use Rattle.pb_task.specs.Strips.{has_atom};
 
 use pb_packed::Packed;
 use std::alloc::{AllocError, Global};
@@ -116,17 +115,6 @@ impl AtomSets {
         let words = self.words.as_slice();
         let first = i * self.width;
         &words[first..first + self.width]
-    }
-
-    /// Whether an atom is in the set at a place.
-    #[inline]
-    pub fn has(&self, i: usize, atom: u32) -> bool
-        requires { i < length self.now.sets }
-        ensures { result ≡ has_atom (slice_index self.now.sets i) atom }
-    {
-        let words = self.at(i);
-        let word = (atom / 64) as usize;
-        word < words.len() && (words[word] >> (atom % 64)) % 2 == 1
     }
 
     // The same sets in more words each.

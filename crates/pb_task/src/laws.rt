@@ -1,3 +1,4 @@
+ghost use Rattle.pb_task.specs.Widths.{StatesFitTheirWidth};
 ghost use Rattle.pb_task.specs.Laws.{GridsAreProper, TilesAreProper, BoardsArePacked, TilesSlide, StripsAreProper, StripsAct, SetsAreOfAtoms, TasksAreProper, DegreesAreBounded, FaultsAreUnique, FaultsKeepFromPlans};
 
 /// The steps of a grid are by four actions, lead from states to states and cost 1 or 2. Its states
@@ -44,6 +45,11 @@ pub fn sets_are_of_atoms()
 /// The state space of a task is proper.
 pub fn tasks_are_proper()
     ensures { TasksAreProper }
+{}
+
+/// A state of a task has no more hexadecimal digits than the task's width, which is 1 to 256.
+pub fn states_fit_their_width()
+    ensures { StatesFitTheirWidth }
 {}
 
 /// No state of a task has more successors than its greatest degree.

@@ -6,6 +6,7 @@
 
 mod actions;
 mod atom_sets;
+mod atoms;
 mod grid;
 mod kind;
 mod laws;
@@ -18,12 +19,13 @@ mod task;
 mod tiles;
 
 pub use actions::Actions;
+pub use atoms::next_atom;
 pub use grid::{are_connected, cell_beside};
 pub use kind::Kind;
 pub use laws::{
     boards_are_packed, degrees_are_bounded, faults_are_unique, faults_keep_from_plans,
-    grids_are_proper, sets_are_of_atoms, strips_act, strips_are_proper, tasks_are_proper,
-    tiles_are_proper, tiles_slide,
+    grids_are_proper, sets_are_of_atoms, states_fit_their_width, strips_act, strips_are_proper,
+    tasks_are_proper, tiles_are_proper, tiles_slide,
 };
 pub use parts::{
     ActionName, Board, Cells, Class, GridParts, GroundAction, StripsParts, Swamp, TaskParts,

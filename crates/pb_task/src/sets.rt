@@ -4,7 +4,7 @@ ghost use Rattle.pb_packed.specs.Sizes.{state_bits, most_atoms};
 ghost use Rattle.pb_packed.specs.Words.{number_of, AreWords};
 ghost use Rattle.pb_task.specs.Strips.{has_atom, is_atom_set};
 
-use pb_packed::Packed;
+use pb_packed::{BITS, Packed};
 
 /// How many words a state has at most.
 pub const WORDS: usize = 16;
@@ -14,6 +14,11 @@ pub fn is_atom_set(count: u32, set: &Packed) -> bool
     requires { count ≤ most_atoms }
     ensures { result ≡ is_atom_set count set.now }
 {
+    if count == BITS {
+        // there is no bit of this number, and no number with such a bit
+        let _ = set.words();
+        return true;
+    }
     *set < Packed::zero().with(count, true)
 }
 

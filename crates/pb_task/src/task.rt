@@ -3,7 +3,9 @@ ghost use Rattle.pb_model.specs.Space.{steps};
 ghost use Rattle.pb_task.specs.Grid.{IsGrid};
 ghost use Rattle.pb_task.specs.Tiles.{IsTiles};
 ghost use Rattle.pb_task.specs.Strips.{IsStrips};
+ghost use Rattle.pb_packed.specs.Sizes.{state_bits, most_digits};
 ghost use Rattle.pb_task.specs.Kinds.{kind_of};
+ghost use Rattle.pb_task.specs.Widths.{digits_for, width_of};
 ghost use Rattle.pb_task.specs.Parts.{space_of, IsTask, action_name, max_degree_of};
 ghost use Rattle.pb_task.specs.declared.parts.TaskParts.TheVariants.{Grid, Tiles, Strips};
 
@@ -31,6 +33,16 @@ impl Model for Task {
     ghost view = { λ t. t.parts };
 
     ghost invariant = { λ t. IsTask t.parts };
+}
+
+// How many hexadecimal digits spell so many bits, at least one.
+fn digits_for(bits: u32) -> u32
+    requires { bits ≤ state_bits }
+    ensures digits { result ≡ digits_for bits }
+    ensures some { 1 ≤ result }
+    ensures most { result ≤ most_digits }
+{
+    if bits == 0 { 1 } else { (bits + 3) / 4 }
 }
 
 impl Task {
@@ -71,6 +83,20 @@ impl Task {
         ensures lawful { IsTask self.now }
     {
         &self.parts
+    }
+
+    /// How many hexadecimal digits spell a state, four bits each: 6 on a grid, as many as there are
+    /// cells for sliding tiles, and a digit for four atoms for STRIPS, at least one.
+    pub fn width(&self) -> u32
+        ensures digits { result ≡ width_of self.now }
+        ensures some { 1 ≤ result }
+        ensures most { result ≤ most_digits }
+    {
+        match &self.parts {
+            TaskParts::Grid(_) => 6,
+            TaskParts::Tiles(parts) => parts.rows * parts.cols,
+            TaskParts::Strips(parts) => digits_for(parts.atoms),
+        }
     }
 
     /// The kind of the task.

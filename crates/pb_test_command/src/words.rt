@@ -37,8 +37,8 @@ fn solve_text(alloc: Global, command: &SolveCommand<'_>) -> Result<String, Alloc
 fn check_text(alloc: Global, command: &CheckCommand<'_>) -> Result<String, AllocError> {
     let input = input_text(alloc, &command.input)?;
     let (name, options) = (command.certificate, command.options);
-    let (row, swamp) = (options.row, options.swamp);
-    format!(in alloc; "check {name} {input}: {row} {swamp}\n")
+    let (row, swamp, anew) = (options.row, options.swamp, command.rewrite);
+    format!(in alloc; "check {name} {input}: {row} {swamp} {anew:?}\n")
 }
 
 fn journal_text(alloc: Global, command: &JournalCommand<'_>) -> Result<String, AllocError> {
@@ -114,17 +114,21 @@ const COMMANDS: &str = "\
 --workers 64 --swamp --num=1000 --plain --den 999 --trace=t
 solve grid m s: 1000000 64 1000/999 1099511627776 1048576 4096 true true Some(\"c\") Some(\"t\")
 > check grid c m s
-check c grid m s: 0 false
+check c grid m s: 0 false None
 > check grid --swamp c m s
-check c grid m s: 0 true
+check c grid m s: 0 true None
 > solve tiles --row 7 b --budget=1 --cert c
 solve tiles b: 7 1 1/1 1 256 256 false false Some(\"c\") None
 > check tiles c b
-check c tiles b: 0 false
+check c tiles b: 0 false None
+> check tiles --rewrite d c b
+check c tiles b: 0 false Some(\"d\")
+> check grid c m s --rewrite=d --row 1
+check c grid m s: 1 false Some(\"d\")
 > solve strips d --row 7 p --blocks=16 --lot 1 --cert c
 solve strips d p: 7 1 1/1 16777216 1 16 false false Some(\"c\") None
 > check strips c d p
-check c strips d p: 0 false
+check c strips d p: 0 false None
 > solve grid m s
 solve grid m s: 0 1 1/1 16777216 256 256 false false None None
 > solve grid m s --lot 1

@@ -4,7 +4,7 @@ use crate::moves::{add_applied, add_state, add_steps, add_walk};
 use crate::trees::trees_of;
 use pb_grid::{GridError, read_grid};
 use pb_outside::Memory;
-use pb_packed::{DIGITS, Packed};
+use pb_packed::Packed;
 use pb_report::Report;
 use pb_strips::{StripsError, ground};
 use pb_task::{Task, TaskParts};
@@ -156,14 +156,9 @@ fn add_actions(alloc: Global, lines: &mut Lines, task: &Task) -> Result<(), Memo
 }
 
 // The state that a word's hexadecimal digits spell.
-fn state_of(alloc: Global, words: &[String]) -> Result<Option<Packed>, Memory> {
-    let Some(word) = words.first() else {
-        return Ok(None);
-    };
-    let zeros = DIGITS.saturating_sub(word.len());
-    let mut digits = "0".repeat(alloc, zeros)?;
-    digits.push_str(word.as_str())?;
-    Ok(Packed::of_hex(digits.as_bytes()))
+fn state_of(words: &[String]) -> Option<Packed> {
+    let word = words.first()?;
+    Packed::of_hex(word.as_str().as_bytes())
 }
 
 /// What is printed of a task: its parts, its actions, a cell, or what is asked of a state.
@@ -180,7 +175,7 @@ pub(crate) fn task_line(
         "actions" => add_actions(alloc, &mut lines, task)?,
         "cell" => add_cell(alloc, &mut lines, task, numbers.as_slice())?,
         "walk" => add_walk(alloc, &mut lines, task, numbers.as_slice())?,
-        _ => match state_of(alloc, words)? {
+        _ => match state_of(words) {
             Some(state) => add_of_state(alloc, &mut lines, task, question, &state, words)?,
             None => return Ok(None),
         },

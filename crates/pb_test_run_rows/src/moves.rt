@@ -2,16 +2,15 @@
 use crate::lines::Lines;
 use pb_model::Succ;
 use pb_outside::Memory;
-use pb_packed::{DIGITS, MOST_DIGITS, Packed};
+use pb_packed::{MOST_DIGITS, Packed};
 use pb_task::Task;
 use std::alloc::Global;
 
 /// Adds a state's hexadecimal digits, without the zeros before them.
 pub(crate) fn add_state(lines: &mut Lines, state: &Packed) -> Result<(), Memory> {
     let mut digits = [0_u8; MOST_DIGITS];
-    state.hex(DIGITS as u32, &mut digits);
-    let (written, _rest) = digits.as_slice().split_at(DIGITS);
-    match std::str::from_utf8(written) {
+    state.hex(MOST_DIGITS as u32, &mut digits);
+    match std::str::from_utf8(digits.as_slice()) {
         Ok(text) => {
             lines.first("x")?;
             lines.first(text.trim_start_matches('0'))

@@ -95,7 +95,7 @@ module _ (start next cost action : ℕ) (other : next ≢ start) (empty one two 
   has_start : row_of two start ≡ Some start_row
   has_start = second.others start (λ e. other (sym e)) ∙ first.here ∙ ap (λ row. Some (offered_row 0 (Cost 0) None 0 row)) (none start)
 
-  has_next : row_of two next ≡ Some (next_row start cost action)
+  pub has_next : row_of two next ≡ Some (next_row start cost action)
   has_next = second.here ∙ ap (λ row. Some (offered_row cost (Cost 0) (Some start) action row)) (first.others next other ∙ none next)
 
   which : (state : ℕ) (row : Row) → row_of two state ≡ Some row → ((state ≡ start) × (row ≡ start_row)) ⊎ ((state ≡ next) × (row ≡ next_row start cost action))

@@ -30,6 +30,10 @@ fn are_refusals_printed(alloc: Global) -> bool {
         },
         CertificateFault::Low { line: most },
     );
+    let width = CertificateFault::Width {
+        said: 256,
+        wanted: 6,
+    };
     let (row, rows) = (most, most);
     let missing = SyntaxError::Expected {
         at: most,
@@ -41,6 +45,9 @@ fn are_refusals_printed(alloc: Global) -> bool {
     ) && is(
         Report::of_certificate_fault(alloc, &low),
         "refused Low 18446744073709551615\n",
+    ) && is(
+        Report::of_certificate_fault(alloc, &width),
+        "refused Width 256 6\n",
     ) && is(
         Report::of_grid_error(alloc, &GridError::NoRow { row, rows }),
         "input NoRow 18446744073709551615 18446744073709551615\n",

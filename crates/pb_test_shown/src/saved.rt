@@ -1,3 +1,5 @@
+ghost use Rattle.pb_estimate.specs.Spelling.{IsWidthOf};
+
 use crate::halves::Halves;
 use pb_cert::{Certificate, Plan, trace};
 use pb_estimate::{Choice, Spelling, Stated, Version};
@@ -11,9 +13,10 @@ use std::alloc::{AllocError, Global};
 use std::test::Fail;
 
 // What is saved of a search on a map of 3 by 3 free cells, from the upper left to the lower right
-// cell, whose estimates are 0.
-const OPEN_SQUARE: &str = "pbnf-certificate 1
+// cell, whose estimates are 0: in version 2, with six digits a state.
+const OPEN_SQUARE: &str = "pbnf-certificate 2
 kind grid
+width 6
 weight 1 1
 plan 4
 3
@@ -22,19 +25,19 @@ plan 4
 1
 cost 4
 rows 9
-0000000000000000000000000000000000000000000000000000000000000000 0 closed
-0000000000000000000000000000000000000000000000000000000000000001 1 closed
-0000000000000000000000000000000000000000000000000000000000000002 2 closed
-0000000000000000000000000000000000000000000000000000000000000800 1 closed
-0000000000000000000000000000000000000000000000000000000000000801 2 closed
-0000000000000000000000000000000000000000000000000000000000000802 3 closed
-0000000000000000000000000000000000000000000000000000000000001000 2 closed
-0000000000000000000000000000000000000000000000000000000000001001 3 closed
-0000000000000000000000000000000000000000000000000000000000001002 4 cut
+000000 0 closed
+000001 1 closed
+000002 2 closed
+000800 1 closed
+000801 2 closed
+000802 3 closed
+001000 2 closed
+001001 3 closed
+001002 4 cut
 end
 ";
 
-// The same if the middle row is blocked.
+// The same if the middle row is blocked: in version 1, with 64 digits a state.
 const WALL: &str = "pbnf-certificate 1
 kind grid
 weight 1 1
@@ -73,19 +76,22 @@ fn bundle_of(alloc: Global, rows: &[(u32, u64, Status)]) -> Result<Bundle, Alloc
     Ok(bundle)
 }
 
-// The certificate of a store. It has no clause that says what it is, so a caller's
-// proof stays short.
+// The certificate of a store, of this version and with so many digits a state. It has no clause
+// that says what it is, so a caller's proof stays short.
 fn certificate_of<'a, S: Store>(
     alloc: Global,
+    version: Version,
+    width: u32,
     plan: Option<Plan>,
     store: &'a S,
 ) -> Result<Certificate<'a>, AllocError>
     requires whole { S.is_whole store.now }
+    requires width { IsWidthOf version width }
 {
     let spelling = Spelling {
         kind: Kind::Grid,
-        version: Version::One,
-        width: 64,
+        version,
+        width,
         stated: Stated {
             choice: Choice::Plain,
         },
@@ -140,15 +146,19 @@ fn save(alloc: Global, certificate: &Certificate<'_>) -> Result<Saved, Memory> {
 // The certificate of one bundle, saved.
 fn save_one(
     alloc: Global,
+    version: Version,
+    width: u32,
     rows: &[(u32, u64, Status)],
     plan: Option<Plan>,
-) -> Result<Saved, Memory> {
+) -> Result<Saved, Memory>
+    requires { IsWidthOf version width }
+{
     let bundle = bundle_of(alloc, rows)?;
-    let certificate = certificate_of(alloc, plan, &bundle)?;
+    let certificate = certificate_of(alloc, version, width, plan, &bundle)?;
     save(alloc, &certificate)
 }
 
-// The certificate of two parts, saved.
+// The certificate of two parts, saved in version 2 with six digits a state.
 fn save_two(
     alloc: Global,
     first: &[(u32, u64, Status)],
@@ -160,7 +170,7 @@ fn save_two(
         first: bundle_of(alloc, first)?,
         second: bundle_of(alloc, second)?,
     };
-    let certificate = certificate_of(alloc, plan, &store)?;
+    let certificate = certificate_of(alloc, Version::Two, 6, plan, &store)?;
     save(alloc, &certificate)
 }
 
@@ -219,11 +229,11 @@ fn plan_of_four(alloc: Global) -> Result<Plan, AllocError> {
 #[test]
 fn certificates_are_saved(rt: HostRuntime) -> Result<(), Fail> {
     let alloc = rt.alloc();
-    let one = save_one(alloc, &ALL, Some(plan_of_four(alloc)?))?;
+    let one = save_one(alloc, Version::Two, 6, &ALL, Some(plan_of_four(alloc)?))?;
     assert!(rt; is_whole(&one, true, OPEN_SQUARE));
     let two = save_two(alloc, &FIRST, &SECOND, Some(plan_of_four(alloc)?))?;
     assert!(rt; is_whole(&two, true, OPEN_SQUARE));
-    let none = save_one(alloc, &ROW, None)?;
+    let none = save_one(alloc, Version::One, 64, &ROW, None)?;
     assert!(rt; is_whole(&none, false, WALL));
     Ok(())
 }

@@ -20,7 +20,10 @@ fn filled_piece() -> Piece {
     let mut piece = Piece::new();
     piece.push(b"gone");
     piece.clear();
-    piece.push_hex(&Packed::zero().with_bits(0, 16, 0x1002));
+    let cell = Packed::of_word(0x1002);
+    piece.push_hex(&cell, 6);
+    piece.push(b" ");
+    piece.push_hex(&cell, 64);
     piece.push(b" ");
     piece.push_number(10);
     piece
@@ -31,7 +34,7 @@ fn a_piece_takes_text_numbers_and_digits(rt: HostRuntime) {
     let piece = filled_piece();
     assert!(rt;
         piece.as_slice()
-            == b"0000000000000000000000000000000000000000000000000000000000001002 10".as_slice()
+            == b"001002 0000000000000000000000000000000000000000000000000000000000001002 10".as_slice()
     );
-    assert!(rt; piece.len() == 67);
+    assert!(rt; piece.len() == 74);
 }

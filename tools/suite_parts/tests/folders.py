@@ -60,7 +60,7 @@ class Folders(Case):
                                         "both=--swamp --lot 16").returncode, 0)
         record = self.records()["lake.scen:0"]
         text = gzip.decompress((self.out / record["certificate"]).read_bytes())
-        self.assertTrue(text.startswith(b"pbnf-certificate 1\nkind grid\n"))
+        self.assertTrue(text.startswith(b"pbnf-certificate 2\nkind grid\n"))
         self.assertEqual(record["certificate_sha256"], hashlib.sha256(text).hexdigest())
         self.assertEqual(record["program"]["sha256"],
                          hashlib.sha256(open(STAND_IN, "rb").read()).hexdigest())

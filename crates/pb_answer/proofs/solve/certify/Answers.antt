@@ -14,7 +14,7 @@ returns-in_ok-certificate-in-Some c = λ best.
     (output c.in-Some.name.now (text_of c.in_ok-certificate-in-Some.certificate) ∷ []) best
     (is_certificate c.args.task.now (solve_meant c.args.solve.now) c.args.graph.now c.requires.quiet
     c.max_degree-lawful.ensures.lawful c.requires.range c.in_ok-certificate-in-Some.certificate
-    c.args.plan c.in-Some.name.now (c.in_ok-certificate-in-Some.ensures.spelling ∙ c.of-spelling.ensures
+    c.args.plan c.in-Some.name.now (c.in_ok-certificate-in-Some.ensures.spelling ∙ c.of-spelling.ensures.spelling
     ∙ ap (λ (choice : Choice). spelling_of c.args.task.now choice)
     (c.in_ok-clone-in-Some.ensures.cases ∙ c.choice.ensures.choice ∙ c.requires.quiet.best.choice))
     c.in_ok-certificate-in-Some.ensures.weight c.in_ok-certificate-in-Some.ensures.plan

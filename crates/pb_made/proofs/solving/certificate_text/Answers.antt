@@ -17,7 +17,7 @@ returns c =
     c.max_degree-lawful.ensures.lawful
     (choice_of c.args.graph.now.table.settings) refl refl unweighted c.requires.weight (omega arith)
     (omega arith) c.in_ok-certificate.certificate c.args.plan _ c.in_ok-text.ensures
-    (c.in_ok-certificate.ensures.spelling ∙ c.of-spelling.ensures
+    (c.in_ok-certificate.ensures.spelling ∙ c.of-spelling.ensures.spelling
     ∙ ap (λ (choice : Choice). spelling_of c.args.task.now choice)
     (c.in_ok-clone.ensures.cases ∙ c.choice.ensures.choice ∙ c.requires.quiet.best.choice))
     c.in_ok-certificate.ensures.weight c.in_ok-certificate.ensures.plan

@@ -5,10 +5,11 @@ use Rattle.pb_print.proofs.saving.len_of_lines.Goals as goal
 
 pub lines-preserved : goal.lines-preserved
 lines-preserved g c =
-    let short : c.len.result ≤ longest_line = short_line c.new-line.result c.put_line.new.out (g.T.NumberedLines.lines_of c.args.text.now) c.lines.at c.len.result c.new-line.ensures c.put_line.ensures c.len.ensures.len in
+    let short : c.len.result ≤ longest_line = short_line c.new-line.result c.put_line.new.out (g.T.NumberedLines.lines_of c.args.text.now) c.lines.at c.len.result c.new-line.ensures c.put_line.ensures.line c.len.ensures.len in
     record {
       within = omega (arith, c.lines-test.true);
-      so_far = longer (g.T.NumberedLines.lines_of c.args.text.now) c.lines.at c.lines.len c.len.result c.new-line.result c.put_line.new.out c.new-line.ensures c.put_line.ensures c.lines.invariant.so_far c.len.ensures.len;
+      begins = c.put_line.ensures.next;
+      so_far = longer (g.T.NumberedLines.lines_of c.args.text.now) c.lines.at c.lines.len c.len.result c.new-line.result c.put_line.new.out c.new-line.ensures c.put_line.ensures.line c.lines.invariant.so_far c.len.ensures.len;
       small = omega (arith, short, c.lines.invariant.small);
     }
 

@@ -23,6 +23,7 @@ pub lines-preserved : goal.lines-preserved
 lines-preserved g c =
     record {
       within = omega (arith, c.lines-test.true);
+      begins = c.in_ok-add_line.ensures.next;
       whole = c.in_ok-add_line.ensures.lines;
       full = λ some. c.in_ok-add_line.ensures.full;
       written = told_then (g.H.Shelf.files c.args.shelf.now) (g.H.Shelf.files c.lines.shelf) (g.H.Shelf.files c.add_line.new.shelf)

@@ -9,6 +9,7 @@ use Rattle.pb_print.proofs.saving.save_lines.Given as goal
 abbrev pub invariant-lines : goal.invariant-lines
 invariant-lines g l = record {
   within : l.at ≤ l.count;
+  begins : g.T.NumberedLines.begins l.text l.at l.begin;
   whole : AreLines l.piece;
   full : 1 ≤ l.at → HasBytes l.piece;
   written : IfTold (g.H.Shelf.files l.fn.shelf) (g.H.Shelf.files l.shelf) (λ old new. IsWritten new l.name l.piece (lines (take l.at (g.T.NumberedLines.lines_of l.text))));

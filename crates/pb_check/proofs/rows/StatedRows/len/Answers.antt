@@ -4,5 +4,5 @@ use Rattle.pb_check.proofs.rows.StatedRows.len.Goals as goal
 
 pub returns : goal.returns
 returns c =
-    let all = length-rows_of c.self.inside.states.items c.self.inside.costs.items c.self.inside.closed.items c.self.invariant.0 c.self.invariant.1 in
+    let all = length-rows_of c.self.inside.states.numbers c.self.inside.costs.items c.self.inside.closed.items c.self.invariant.0 c.self.invariant.1 in
     omega (arith, all, ap length c.self.view_is)

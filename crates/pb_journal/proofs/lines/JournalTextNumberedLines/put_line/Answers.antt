@@ -6,8 +6,8 @@ use Rattle.pb_machine.specs.declared.settings.Settings.{Settings}
 use Rattle.pb_journal.proofs.Numbered.{lines_counted, event_line_put}
 use Rattle.pb_journal.proofs.lines.JournalTextNumberedLines.put_line.Goals as goal
 
-pub returns-else-at-lt6 : goal.returns-else-at-lt6
-returns-else-at-lt6 c =
+pub returns-else-at-lt6-clause-line : goal.returns-else-at-lt6-clause-line
+returns-else-at-lt6-clause-line c =
     let settings : Settings = c.args.self.now.settings.now in
     let journal : List Event = c.args.self.now.events.now in
     let count = lines_counted settings journal in

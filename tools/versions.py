@@ -1,0 +1,63 @@
+"""Writes a certificate in another version or with another width of its states, for tests.
+
+Nothing is judged: the lines are taken as docs/FORMATS.md has them, and another text is left alone.
+"""
+
+import itertools
+import re
+
+HEAD = re.compile(rb"pbnf-certificate (?:1\nkind \w+\n|2\nkind \w+\nwidth ([0-9]{1,4})\n)")
+
+ROW = re.compile(rb"0*([0-9a-f]+) ([0-9]+ (?:closed|cut)\n)")
+
+
+def digits_of(text):
+    """The version of a certificate, how many digits its states have, and where its weight begins;
+    or None if it doesn't begin as one."""
+    found = HEAD.match(text)
+    if found is None:
+        return None
+    return (2, int(found[1]), found.end()) if found[1] else (1, 64, found.end())
+
+
+def as_version(text, version, digits):
+    """The certificate in this version, its states with so many digits, which is 64 in version 1.
+
+    None if a state needs more digits; the text itself if it doesn't begin as a certificate."""
+    found = digits_of(text)
+    if found is None:
+        return text
+    kind = text.split(b"\n", 2)[1]
+    head = b"pbnf-certificate %d\n%s\n" % (version, kind)
+    head += b"width %d\n" % digits if version == 2 else b""
+    rest, rows = text[found[2]:], []
+    begin = rest.find(b"\nrows ")
+    if begin < 0:
+        return head + rest
+    before, *lines = rest[begin + 1:].split(b"\n")
+    for line in lines:
+        state, blank, after = line.partition(b" ")
+        if blank and re.fullmatch(rb"[0-9a-f]+", state):
+            state = state.lstrip(b"0").rjust(digits, b"0")
+            if len(state) > digits:
+                return None
+        rows.append(state + blank + after)
+    return head + rest[:begin + 1] + b"\n".join([before, *rows])
+
+
+def are_same(first, second):
+    """Whether two files have certificates that state the same, in whatever versions."""
+    with open(first, "rb") as one, open(second, "rb") as other:
+        heads = [[file.readline(), file.readline()] for file in (one, other)]
+        for file, (version, _) in zip((one, other), heads):
+            if version == b"pbnf-certificate 2\n":
+                file.readline()
+        pairs = itertools.zip_longest(one, other, fillvalue=b"")
+        return heads[0][1] == heads[1][1] and all(
+            line == beside or is_row_as(line, beside) for line, beside in pairs)
+
+
+def is_row_as(line, other):
+    """Whether two lines are rows of one state, with as many digits or not, and else the same."""
+    rows = [ROW.fullmatch(it) for it in (line, other)]
+    return all(rows) and rows[0].groups() == rows[1].groups()
