@@ -1,5 +1,5 @@
 -- What is claimed of a STRIPS task by names follows from what is claimed of its packed task.
-use Rattle.std.proofs.Common.{◌≡◌, ℕ, ◌+◌, ◌*◌, ◌≤◌, Bool, Option, None, Some, List, map, slice_get, Result, Ok, Err, refl, sym, ap, ◌∙◌, subst}
+use Rattle.std.proofs.Common.{◌≡◌, ℕ, ◌+◌, ◌*◌, ◌≤◌, Option, None, Some, List, map, slice_get, Result, Ok, Err, refl, sym, ap, ◌∙◌, subst}
 use Rattle.pb_model.specs.Plan.{Plan, IsPlan as IsPackedPlan, HasNoPlan, IsBound}
 use Rattle.pb_model.specs.Texts.{plan_report}
 use Rattle.pb_task.specs.declared.parts.TaskParts.{TaskParts}

@@ -1,5 +1,5 @@
 -- What a quiet search shows is an answer to the words.
-use Rattle.std.proofs.Common.{◌≡◌, ◌⊎◌, inl, inr, ℕ, ◌^◌, ◌<◌, ◌≤◌, Option, Some, List, [], ◌∷◌, length, Result, Ok, Err, IfOk, ◌++◌, refl, sym, subst, arith, le_trans, mul-le-mul_left}
+use Rattle.std.proofs.Common.{◌≡◌, ◌⊎◌, inl, inr, ℕ, true, ◌^◌, ◌<◌, ◌≤◌, Option, Some, List, [], ◌∷◌, length, Result, Ok, Err, IfOk, ◌++◌, refl, sym, subst, arith, le_trans, mul-le-mul_left}
 use Rattle.pb_model.specs.Weight.{Weight}
 use Rattle.pb_model.specs.Guide.{Guide}
 use Rattle.pb_model.specs.Store.{Store}
@@ -11,9 +11,11 @@ use Rattle.pb_machine.specs.Settings.{weight_of}
 use Rattle.pb_abstract.specs.Graph.{AbstractGraph}
 use Rattle.pb_lease.specs.GraphValue.{GraphValue}
 use Rattle.pb_estimate.specs.Spelling.{spelling_of}
+use Rattle.pb_estimate.specs.declared.choice.Choice.{Choice}
+use Rattle.pb_estimate.specs.Estimates.{suits}
 use Rattle.pb_lists.specs.Store.{IsQuietEnd}
 use Rattle.pb_workers.specs.Ends.{home_store}
-use Rattle.pb_search.specs.Ends.{choice_of, searched_guide}
+use Rattle.pb_search.specs.Ends.{IsBestOf, searched_guide}
 use Rattle.pb_search.specs.Searches.{LeavesQuiet}
 use Rattle.pb_search.proofs.Callers.{quiet_end, search_ends}
 use Rattle.pb_cert.specs.Stated.{SpelledCertificate, text_of}
@@ -21,7 +23,7 @@ use Rattle.pb_cert.specs.Found.{IsTracedIfAny, IsPlanOf, IsCertificateOf}
 use Rattle.pb_cert.proofs.Callers as quiet
 use Rattle.pb_command.specs.Meaning.{SolveMeaning, IsSolveInRange}
 use Rattle.pb_report.specs.Texts.{plan_text}
-use Rattle.pb_answer.specs.Searches.{settings_of, weight_asked}
+use Rattle.pb_answer.specs.Searches.{settings_of, choice_asked, weight_asked}
 use Rattle.pb_answer.specs.Named.{NamesTell}
 use Rattle.pb_answer.specs.Outputs.{Output, output}
 use Rattle.pb_answer.specs.Engines.{left_by_leases}
@@ -29,6 +31,14 @@ use Rattle.pb_answer.specs.Claims.{IsCertificate, journal_outputs, Certifies, So
 use Rattle.pb_answer.specs.declared.answer.Answer.{Answer}
 use Rattle.pb_answer.specs.Answer.{Said, Says, Saves, IsSolved, IsUnsolvable, IsStopped, IsFound, said_of}
 use Rattle.pb_answer.proofs.Groups.{prints_least_cost, saves_plan}
+
+-- the choice that the words ask for suits the task, as that of each graph suits its own
+pub suits_asked : (solve : SolveMeaning) (parts : TaskParts) (graph : GraphValue)
+    → IsBestOf parts (settings_of solve) graph → suits graph.task graph.choice ≡ true
+    → suits parts (choice_asked solve) ≡ true
+suits_asked solve parts graph best suited =
+    subst (λ (p : TaskParts). suits p (choice_asked solve) ≡ true) best.task
+    (subst (λ (choice : Choice). suits graph.task choice ≡ true) best.choice suited)
 
 -- ---- a search that came to a quiet end
 
@@ -60,23 +70,24 @@ module _ (parts : TaskParts) (solve : SolveMeaning) (graph : GraphValue)
       (subst (λ (g : AbstractGraph). P (searched_guide parts g (settings_of solve)) (home_store graph)) left.run.blocks is)
 
   -- what is saved of a certificate that was made of the rows
-  pub is_certificate : IsTask parts → IsSolveInRange solve → (c : SpelledCertificate)
+  pub is_certificate : IsTask parts → IsSolveInRange solve
+      → suits parts (choice_asked solve) ≡ true → (c : SpelledCertificate)
       (plan : Option Plan) (name : List ℕ) → c.spelling
-      ≡ spelling_of parts (choice_of (settings_of solve))
+      ≡ spelling_of parts (choice_asked solve)
       → c.certificate.weight ≡ weight_of graph.table.settings → c.certificate.plan ≡ plan
       → length c.certificate.lines < 2 ^ 63
       → quiet.HasLines parts guide (home_store graph) at_end c
       → quiet.IsValidFor parts guide (home_store graph) at_end plan c
       → IsPlanOfRows plan
-      → IsCertificate (Some name) parts (weight_asked solve) (searched_guide parts left.run.ends.graph (settings_of solve))
+      → IsCertificate (Some name) parts (choice_asked solve) (weight_asked solve) (searched_guide parts left.run.ends.graph (settings_of solve))
       left.run.ends.run.machine.store plan (output name (text_of c) ∷ [])
-  is_certificate lawful range c plan name spelling w p count lines valid best =
+  is_certificate lawful range suited c plan name spelling w p count lines valid best =
       let num : solve.settings.num ≤ 1000 = range.settings.weight.small in
       let den : solve.settings.den ≤ solve.settings.num = range.settings.weight.at_least_one in (
         text_of c,
         of_search
-            (λ guide store. IsCertificateOf parts (weight_asked solve) guide store plan (text_of c))
-            (quiet.is_certificate parts guide (home_store graph) at_end lawful (choice_of (settings_of solve)) refl refl
+            (λ guide store. IsCertificateOf parts (choice_asked solve) (weight_asked solve) guide store plan (text_of c))
+            (quiet.is_certificate parts guide (home_store graph) at_end lawful (choice_asked solve) refl suited
             (weight_asked solve) left.best.weight (omega (arith, num)) (omega (arith, num, den)) c plan
             (text_of c) refl spelling w p count lines valid best),
         refl,
@@ -85,7 +96,7 @@ module _ (parts : TaskParts) (solve : SolveMeaning) (graph : GraphValue)
   -- What is saved, with the journal behind it, is that of the search.
   pub certifies : (plan : Option Plan) (name : Option (List ℕ)) → solve.certificate ≡ name
       → (certificate : List Output) → IsPlanOfRows plan
-      → IsCertificate name parts (weight_asked solve) (searched_guide parts left.run.ends.graph (settings_of solve))
+      → IsCertificate name parts (choice_asked solve) (weight_asked solve) (searched_guide parts left.run.ends.graph (settings_of solve))
       left.run.ends.run.machine.store plan certificate
       → Certifies (λ outputs. ◌≡◌ {A = List Output}
       (certificate ++ journal_outputs solve.journal (settings_of solve) graph.table.journal) outputs)
@@ -99,7 +110,7 @@ module _ (parts : TaskParts) (solve : SolveMeaning) (graph : GraphValue)
           of_search (λ guide store. IsTracedIfAny (space_of parts) guide store plan) best.traced;
     },
     certificate,
-    subst (λ (n : Option (List ℕ)). IsCertificate n parts (weight_asked solve)
+    subst (λ (n : Option (List ℕ)). IsCertificate n parts (choice_asked solve) (weight_asked solve)
         (searched_guide parts left.run.ends.graph (settings_of solve)) left.run.ends.run.machine.store plan certificate)
         (sym named) is,
     refl,

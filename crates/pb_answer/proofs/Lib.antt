@@ -8,3 +8,4 @@ mod ByNames
 mod Spelled
 mod SameBlocks
 mod Long
+mod InputKinds

@@ -1,9 +1,9 @@
 -- A file that is too long is refused with the line of its own.
-use Rattle.std.proofs.Common.{◌≡◌, ℕ, None, Some, Err, List, [], ◌∷◌, ap}
+use Rattle.std.proofs.Common.{◌≡◌, ℕ, Some, Err, List, [], ◌∷◌, ap}
 use Rattle.pb_command.specs.declared.command.InputOptions.{InputOptions}
 use Rattle.pb_command.specs.Values.{InputNames, Grid, Tiles, Strips}
-use Rattle.pb_command.specs.Files.{input_files, loaded_files}
-use Rattle.pb_command.specs.Meaning.{Meaning, Read, Solve, Check, Journal, Make}
+use Rattle.pb_command.specs.Files.{input_files}
+use Rattle.pb_command.specs.Meaning.{Solve, Check, Journal, Make}
 use Rattle.pb_answer.specs.Loaded.{input_task, with_text}
 use Rattle.pb_answer.specs.Long.{fault_of, LongFilesAreRefused}
 

@@ -1,5 +1,5 @@
 -- A journal is judged without swamp: its blocks are those of the task that was searched, with swamp or without. `pb_run` cites this module.
-use Rattle.std.proofs.Common.{◌≡◌, ℕ, ◌+◌, Bool, true, false, Option, None, Some, Result, Ok, Err, List, slice_get, refl, sym, ap, ◌∙◌, subst}
+use Rattle.std.proofs.Common.{◌≡◌, ℕ, ◌+◌, Bool, false, Option, None, Some, Result, Ok, Err, List, slice_get, refl, ap, subst}
 use Rattle.pb_task.specs.declared.parts.TaskParts.{TaskParts}
 use Rattle.pb_task.specs.declared.parts.TaskParts.TheVariants as parts
 use Rattle.pb_task.specs.declared.parts.GridParts.{GridParts}

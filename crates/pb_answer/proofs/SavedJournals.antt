@@ -1,6 +1,6 @@
 -- The journal that is saved of a search is the text of a finished legal history of the task.
 -- `pb_run` cites this module.
-use Rattle.std.proofs.Common.{◌≡◌, ℕ, Option, None, Some, List, [], ◌++◌, length, refl, sym, subst}
+use Rattle.std.proofs.Common.{◌≤◌, Option, List, [], ◌++◌, length, refl, sym, subst}
 use Rattle.pb_model.specs.Plan.{Plan}
 use Rattle.pb_machine.specs.declared.event.End.{End}
 use Rattle.pb_machine.specs.declared.event.Event.{Event}
@@ -10,6 +10,7 @@ use Rattle.pb_task.specs.declared.parts.TaskParts.{TaskParts}
 use Rattle.pb_abstract.specs.Graph.{blocks_of}
 use Rattle.pb_journal.specs.Texts.{journal_text}
 use Rattle.pb_journal.specs.Shown.{one, WrittenJournalsAreAccepted}
+use Rattle.pb_journal.specs.Lengths.{most_bytes, JournalTextsAreShort}
 use Rattle.pb_search.specs.Searches.{SearchEnds}
 use Rattle.pb_command.specs.Meaning.{SolveMeaning}
 use Rattle.pb_answer.specs.Outputs.{Output}
@@ -19,15 +20,16 @@ use Rattle.pb_answer.specs.Claims.{journal_outputs, journal_outputs_if_any, Cert
 use Rattle.pb_answer.specs.Journals.{IsJournalOf}
 
 -- The last of what is saved is the journal with these events, if it has a name. Its text is that of
--- a finished legal history of the task.
+-- a finished legal history of the task, and is as long as that allows.
 pub record SavesJournal (saves : List Output → Type 0) (solve : SolveMeaning) (parts : TaskParts)
     : Type 0 where
   pub events : List Event
   pub first : List Output
   pub saved : saves (first ++ journal_outputs solve.journal (settings_of solve) events)
   pub legal : IsJournalOf parts (journal_text (settings_of solve) events) (length events)
+  pub short : length (journal_text (settings_of solve) events) ≤ most_bytes (length events)
 
-module _ (written : WrittenJournalsAreAccepted) (solve : SolveMeaning) (parts : TaskParts) where
+module _ (written : WrittenJournalsAreAccepted) (lengths : JournalTextsAreShort) (solve : SolveMeaning) (parts : TaskParts) where
   is_journal : (end : End) (events : List Event) → SearchEnds parts (settings_of solve) end events
       → IsJournalOf parts (journal_text (settings_of solve) events) (length events)
   is_journal end events run =
@@ -57,6 +59,15 @@ module _ (written : WrittenJournalsAreAccepted) (solve : SolveMeaning) (parts : 
         };
       }
 
+  is_short : (end : End) (events : List Event) → SearchEnds parts (settings_of solve) end events
+      → length (journal_text (settings_of solve) events) ≤ most_bytes (length events)
+  is_short end events run =
+      lengths (blocks_of run.ends.graph) (settings_of solve) events run.ends.run.machine.counts
+      run.ends.few
+      (subst (λ (j : List Event).
+      IsHistory (blocks_of run.ends.graph) (settings_of solve) 0 j run.ends.run.machine.counts)
+      (sym run.events) run.ends.run.legal)
+
   pub of_quiet : (saves : List Output → Type 0) (plan : Option Plan)
       → Certifies saves solve parts plan → SavesJournal saves solve parts
   of_quiet saves plan (left, (events, run, is), found, outputs, certificate, saved) = record {
@@ -64,6 +75,7 @@ module _ (written : WrittenJournalsAreAccepted) (solve : SolveMeaning) (parts : 
     first = outputs;
     saved = subst (λ (l : Left). saves (outputs ++ journal_outputs_if_any solve.journal (settings_of solve) l.journal)) is saved;
     legal = is_journal _ events run;
+    short = is_short _ events run;
   }
 
   pub of_stopped : (saves : List Output → Type 0) → Stops saves solve parts
@@ -73,4 +85,5 @@ module _ (written : WrittenJournalsAreAccepted) (solve : SolveMeaning) (parts : 
     first = [];
     saved = subst (λ (l : Left). saves (journal_outputs_if_any solve.journal (settings_of solve) l.journal)) is saved;
     legal = is_journal _ events run;
+    short = is_short _ events run;
   }

@@ -1,7 +1,7 @@
 -- Texts that spell a task by the rules of their format are not refused: a map and a scenario, a
 -- board, or a domain and a problem that are well typed and within the limits. The other way round, a
 -- task that texts of a map or of a board give is one that they spell.
-use Rattle.std.proofs.Common.{◌≡◌, ℕ, ◌+◌, Bool, false, Option, None, Some, List, slice_get, Result, Ok, Err, refl, sym, ap, subst, ◌∙◌}
+use Rattle.std.proofs.Common.{◌≡◌, ℕ, ◌+◌, Option, None, Some, List, slice_get, Result, Ok, Err, refl, sym, ap, subst, ◌∙◌}
 use Rattle.pb_task.specs.declared.parts.TaskParts.{TaskParts}
 use Rattle.pb_task.specs.declared.parts.TaskParts.TheVariants as parts
 use Rattle.pb_task.specs.declared.parts.GridParts.{GridParts}
@@ -18,7 +18,7 @@ use Rattle.pb_pddl.specs.Readings.{problem_reading}
 use Rattle.pb_pddl_laws.proofs.Callers.{domain_is_read, problem_is_read}
 use Rattle.pb_lifted.specs.Typing.{IsWellTyped}
 use Rattle.pb_strips.specs.Grounding.{strips_of}
-use Rattle.pb_strips.specs.Refusals.{first_fault, IsWithinLimits}
+use Rattle.pb_strips.specs.Refusals.{IsWithinLimits}
 use Rattle.pb_strips.proofs.Callers.{no_fault}
 use Rattle.pb_report.specs.Texts.{input_text, tiles_text}
 use Rattle.pb_command.specs.declared.command.InputOptions.{InputOptions}

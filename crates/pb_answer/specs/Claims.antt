@@ -11,6 +11,7 @@ use Rattle.pb_machine.specs.declared.event.Event.{Event}
 use Rattle.pb_machine.specs.declared.settings.Settings.{Settings}
 use Rattle.pb_task.specs.declared.parts.TaskParts.{TaskParts}
 use Rattle.pb_task.specs.Parts.{space_of}
+use Rattle.pb_estimate.specs.declared.choice.Choice.{Choice}
 use Rattle.pb_journal.specs.Texts.{journal_text}
 use Rattle.pb_check.specs.declared.fault.CertificateFault.{CertificateFault}
 use Rattle.pb_check.specs.declared.fault.Verdict.{Verdict}
@@ -21,19 +22,19 @@ use Rattle.pb_cert.specs.Rewritten.{rewritten_text}
 use Rattle.pb_report.specs.Texts.{plan_text, verdict_text, fault_text}
 use Rattle.pb_command.specs.Meaning.{SolveMeaning, CheckMeaning}
 use Rattle.pb_answer.specs.Outputs.{Output, output}
-use Rattle.pb_answer.specs.Searches.{settings_of, weight_asked}
+use Rattle.pb_answer.specs.Searches.{settings_of, choice_asked, weight_asked}
 use Rattle.pb_answer.specs.Engines.{engine_asked, Left, SearchLeaves, FindsIn}
 
 -- ---- of a search
 
 -- What is saved is the text of a certificate of the task, if it has a name, and else nothing. The
--- certificate has the lines of all rows of this store, and this plan, or none. It is valid and its
--- text is accepted.
-abbrev pub IsCertificate : (name : Option (List ℕ)) → TaskParts → Weight → Guide → Store
+-- certificate states this choice of an estimate. It has the lines of all rows of this store, and
+-- this plan, or none. It is valid by the stated estimate, and its text is accepted.
+abbrev pub IsCertificate : (name : Option (List ℕ)) → TaskParts → Choice → Weight → Guide → Store
     → Option Plan → List Output → Type 0
-IsCertificate None parts weight guide store plan outputs = outputs ≡ []
-IsCertificate (Some name) parts weight guide store plan outputs =
-    (text : List ℕ) × IsCertificateOf parts weight guide store plan text
+IsCertificate None parts choice weight guide store plan outputs = outputs ≡ []
+IsCertificate (Some name) parts choice weight guide store plan outputs =
+    (text : List ℕ) × IsCertificateOf parts choice weight guide store plan text
     × (outputs ≡ output name text ∷ [])
 
 -- the text of a journal of these settings and events, if it has a name
@@ -49,14 +50,15 @@ journal_outputs_if_any name settings (Some journal) = journal_outputs name setti
 
 -- A search of the task, as the words ask for it, came to a quiet end. It found this plan, which is
 -- the one that its rows lead to, or it found none. What is saved is its certificate and, after
--- that, its journal, each if it has a name.
+-- that, its journal, each if it has a name. The certificate states the estimate of the words.
 abbrev pub Certifies : (saves : List Output → Type 0) → SolveMeaning → TaskParts → Option Plan
     → Type 0
 Certifies saves solve parts plan =
     (left : Left) × SearchLeaves (engine_asked solve) parts (settings_of solve) Quiet left
     × FindsIn (space_of parts) left plan
     × (outputs : List Output)
-    × IsCertificate solve.certificate parts (weight_asked solve) left.guide left.store plan outputs
+    × IsCertificate solve.certificate parts (choice_asked solve) (weight_asked solve) left.guide
+    left.store plan outputs
     × saves (outputs ++ journal_outputs_if_any solve.journal (settings_of solve) left.journal)
 
 -- A search of the task, as the words ask for it, came to the end of its budget. What is saved is
@@ -106,8 +108,8 @@ abbrev pub text_outputs : (name : Option (List ℕ)) → (text : List ℕ) → L
 text_outputs None text = []
 text_outputs (Some name) text = output name text ∷ []
 
--- what is saved of an accepted certificate, if it is to be saved anew: the same certificate in
--- version 2
+-- what is saved of an accepted certificate, if it is to be saved anew: the same certificate, one of
+-- version 1 in version 2
 abbrev pub rewritten_outputs : CheckMeaning → TaskParts → (certificate : List ℕ) → List Output
 rewritten_outputs check parts certificate =
     text_outputs check.rewrite (rewritten_text parts certificate)

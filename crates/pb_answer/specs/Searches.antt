@@ -3,6 +3,8 @@
 use Rattle.pb_model.specs.Weight.{Weight}
 use Rattle.pb_machine.specs.declared.settings.Settings.{Settings}
 use Rattle.pb_machine.specs.Settings.{weight_of}
+use Rattle.pb_estimate.specs.declared.choice.Choice.{Choice}
+use Rattle.pb_search.specs.Ends.{choice_of}
 use Rattle.pb_command.specs.Meaning.{SolveMeaning}
 
 -- Each setting is as the words give it, or its default.
@@ -12,3 +14,8 @@ settings_of solve = solve.settings
 -- the weight at which the words ask to search
 abbrev pub weight_asked : SolveMeaning → Weight
 weight_asked solve = weight_of (settings_of solve)
+
+-- the choice of an estimate by which the words ask to search: the plain one, or that of the pattern
+-- database with the words' number
+abbrev pub choice_asked : SolveMeaning → Choice
+choice_asked solve = choice_of (settings_of solve)

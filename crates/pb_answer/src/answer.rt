@@ -26,7 +26,7 @@ use std::thread::Threads;
 pub enum CertificateText<'a> {
     /// The certificate of a search.
     Found(Certificate<'a>),
-    /// A certificate that was accepted, in version 2.
+    /// A certificate that was accepted, as it is saved anew.
     Accepted(Rewriting<'a>),
 }
 

@@ -15,7 +15,7 @@ use pb_report::Report;
 use pb_task::Task;
 use std::alloc::{AllocError, Global};
 
-// The accepted certificate in version 2, if it has a name.
+// The accepted certificate as it is saved anew, if it has a name.
 fn rewrite<'a>(
     task: &Task,
     command: &CheckCommand<'a>,

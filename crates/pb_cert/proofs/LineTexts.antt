@@ -11,8 +11,10 @@ use Rattle.pb_print.specs.Saved.{longest_line, PutsLine}
 use Rattle.pb_print.proofs.Callers.{lines-append, lines-last, puts_left, puts_right, short_enough}
 use Rattle.pb_estimate.specs.declared.spelling.Spelling.{Spelling}
 use Rattle.pb_estimate.specs.declared.spelling.Version.{Version}
-use Rattle.pb_estimate.specs.declared.spelling.Version.TheVariants.{One, Two}
-use Rattle.pb_estimate.specs.Spelling.{IsWidthOf, IsSpelling, version_line, kind_line, width_text, stated_text, head_of, head_lines}
+use Rattle.pb_estimate.specs.declared.spelling.Version.TheVariants.{One, Two, Three}
+use Rattle.pb_estimate.specs.declared.choice.Choice.{Choice}
+use Rattle.pb_estimate.specs.declared.choice.Choice.TheVariants.{Plain, Pattern}
+use Rattle.pb_estimate.specs.Spelling.{IsWidthOf, IsSpelling, version_line, kind_line, width_text, choice_text, stated_text, head_of, head_lines}
 use Rattle.pb_cert.specs.Stated.{SpelledCertificate, text_of, first_lines, plan_lines, rows_lines, weight_line, lines_of}
 
 -- ---- a first line, a line for each element of a list, and a last line
@@ -108,14 +110,35 @@ no_width_put old new Two width at is within = absurd (two_one is)
   where
     two_one : ◌≡◌ {A = Version} Two One → ⊥
     two_one e = cc
+no_width_put old new Three width at is within = absurd (three_one is)
+  where
+    three_one : ◌≡◌ {A = Version} Three One → ⊥
+    three_one e = cc
 
-pub one_width_put : (old new : List ℕ) (version : Version) (width at number : ℕ) → version ≡ Two → number ≡ width → at < length (width_text version width) → new ≡ old ++ line (spaced (codes "width") (decimal number)) → length new ≤ length old + longest_line
-    → PutsLine old new (width_text version width) at
-one_width_put old new One width at number is same within e short = absurd (omega (arith, within))
-one_width_put old new Two width at number is same within e short =
-    let text : List ℕ = spaced (codes "width") (decimal width) in
+-- the one line of a word and a number
+pub one_number_put : (old new word : List ℕ) (n at number : ℕ) → number ≡ n → at < 1 → new ≡ old ++ line (spaced word (decimal number)) → length new ≤ length old + longest_line
+    → PutsLine old new (spaced word (decimal n) ∷ []) at
+one_number_put old new word n at number same within e short =
+    let text : List ℕ = spaced word (decimal n) in
     let zeroth : at ≡ 0 = omega (arith, within) in
-    (text, subst (λ n. slice_get (text ∷ []) n ≡ Some text) (sym zeroth) refl, e ∙ ap (λ n. old ++ line (spaced (codes "width") (decimal n))) same, short)
+    (text, subst (λ n. slice_get (text ∷ []) n ≡ Some text) (sym zeroth) refl, e ∙ ap (λ n. old ++ line (spaced word (decimal n))) same, short)
+
+pub one_width_put : (old new : List ℕ) (version : Version) (width at number : ℕ) → number ≡ width → at < length (width_text version width) → new ≡ old ++ line (spaced (codes "width") (decimal number)) → length new ≤ length old + longest_line
+    → PutsLine old new (width_text version width) at
+one_width_put old new One width at number same within e short = absurd (omega (arith, within))
+one_width_put old new Two width at number same within e short = one_number_put old new (codes "width") width at number same within e short
+one_width_put old new Three width at number same within e short = one_number_put old new (codes "width") width at number same within e short
+
+-- the line that says the number of a pattern, if there is one
+pub no_pattern_put : (old new : List ℕ) (choice : Choice) (at : ℕ) → choice ≡ Plain → at < length (choice_text choice) → PutsLine old new (choice_text choice) at
+no_pattern_put old new choice at is within =
+    let none : at < 0 = subst (λ c. at < length (choice_text c)) is within in absurd (omega (arith, none))
+
+pub pattern_put : (old new : List ℕ) (choice : Choice) (number at : ℕ) → choice ≡ Pattern number → at < length (choice_text choice) → new ≡ old ++ line (spaced (codes "pattern") (decimal number)) → length new ≤ length old + longest_line
+    → PutsLine old new (choice_text choice) at
+pattern_put old new choice number at is within e short =
+    subst (λ c. PutsLine old new (choice_text c) at) (sym is)
+    (one_number_put old new (codes "pattern") number at number refl (subst (λ c. at < length (choice_text c)) is within) e short)
 
 module _ (old new : List ℕ) (spelled : SpelledCertificate) (at : ℕ) where
   first_counted : length (first_lines spelled) ≡ head_lines spelled.spelling + 1
@@ -203,9 +226,10 @@ module _ (old new : List ℕ) (digits : ℕ) (certificate : Certificate) (at : �
 width_of_version : (version : Version) (width : ℕ) → IsWidthOf version width → (1 ≤ width) × (width ≤ most_digits)
 width_of_version One width is = (omega (arith, is), omega (arith, is))
 width_of_version Two width is = is
+width_of_version Three width is = is
 
 pub width_of_spelling : (spelling : Spelling) → IsSpelling spelling → (1 ≤ spelling.width) × (spelling.width ≤ most_digits)
-width_of_spelling spelling is = width_of_version spelling.version spelling.width is
+width_of_spelling spelling is = width_of_version spelling.version spelling.width is.width
 
 module _ (old new : List ℕ) (spelled : SpelledCertificate) (at first : ℕ) (counted : first ≡ length (first_lines spelled)) where
   pub first_line_put : PutsLine old new (first_lines spelled) at → PutsLine old new (lines_of spelled) at

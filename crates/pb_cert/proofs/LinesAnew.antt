@@ -1,5 +1,5 @@
--- A certificate that was read, line by line in version 2.
-use Rattle.std.proofs.Common.{lit<, ◌≡◌, ℕ, zero, suc, ◌+◌, ◌-◌, ◌/◌, ◌%◌, ◌^◌, ◌<◌, ◌≤◌, Bool, true, false, Option, None, Some, List, [], ◌∷◌, ◌++◌, length, drop, take, map, codes, slice_get, get_or, Result, Ok, Err, refl, sym, ap, ◌∙◌, subst, arith}
+-- A certificate that was read, line by line as it is saved anew.
+use Rattle.std.proofs.Common.{lit<, ◌≡◌, ◌≢◌, ◌⊎◌, inl, inr, ℕ, zero, suc, ◌+◌, ◌-◌, ◌/◌, ◌%◌, ◌^◌, ◌<◌, ◌≤◌, Bool, true, false, Option, None, Some, List, [], ◌∷◌, ◌++◌, length, drop, take, map, codes, slice_get, get_or, Result, Ok, Err, refl, sym, ap, ◌∙◌, subst, arith}
 use Rattle.std.specs.Prelude.{if◌then◌else◌, option_map, All}
 use Rattle.std.specs.List.{AllByRecursion}
 use Rattle.std.specs.Fmt.{decimal}
@@ -21,12 +21,11 @@ use Rattle.pb_task.specs.declared.parts.TaskParts.{TaskParts}
 use Rattle.pb_task.specs.Parts.{IsTask}
 use Rattle.pb_task.specs.Widths.{width_of, StatesFitTheirWidth}
 use Rattle.pb_estimate.specs.declared.choice.Choice.{Choice}
-use Rattle.pb_estimate.specs.declared.choice.Choice.TheVariants.{Plain}
-use Rattle.pb_estimate.specs.declared.spelling.Stated.{Stated}
+use Rattle.pb_estimate.specs.declared.choice.Choice.TheVariants.{Plain, Pattern}
 use Rattle.pb_estimate.specs.declared.spelling.Spelling.{Spelling}
 use Rattle.pb_estimate.specs.declared.spelling.Version.{Version}
-use Rattle.pb_estimate.specs.declared.spelling.Version.TheVariants.{One, Two}
-use Rattle.pb_estimate.specs.Spelling.{IsWidthOf, IsSpelling, version_line, kind_line, width_text, choice_text, stated_text, head_of}
+use Rattle.pb_estimate.specs.declared.spelling.Version.TheVariants.{One, Two, Three}
+use Rattle.pb_estimate.specs.Spelling.{IsWidthOf, StatesChoice, IsSpelling, version_line, kind_line, width_text, choice_text, stated_text, head_of}
 use Rattle.pb_lines.specs.Words.{part, behind, has_none, line_feeds}
 use Rattle.pb_lines.proofs.Callers.{part_again, none_both, number_none, one_feed, behind_again}
 use Rattle.pb_print.specs.Saved.{longest_line, PutsLine}
@@ -40,7 +39,7 @@ use Rattle.pb_check.specs.declared.fault.CheckError.TheVariants as errors
 use Rattle.pb_check.specs.Judging.{checked}
 use Rattle.pb_check.proofs.Callers.{gives_accepted}
 use Rattle.pb_cert.specs.Stated.{SpelledCertificate, lines_of, weight_line, plan_lines, rows_lines}
-use Rattle.pb_cert.specs.Rewritten.{in_version_2, text_in_version_2, rewritten_text, respelled_line, lines_in_version_2, lines_read, Rewritten, CanBeRewritten, lines_before, Begins}
+use Rattle.pb_cert.specs.Rewritten.{version_anew, saved_anew, text_anew, rewritten_text, respelled_line, lines_anew, lines_read, Rewritten, CanBeRewritten, lines_before, Begins}
 use Rattle.pb_cert.proofs.LineTexts.{lines_are_text}
 use Rattle.pb_cert.proofs.Respelled.{RowFits, rest_lines, rest_respelled, kept, number_short, spaced_long, numbered_short, weight_short}
 
@@ -95,6 +94,7 @@ weight_good weight num den = (
 version_good : (version : Version) → IsGood (version_line version)
 version_good One = (refl, omega arith)
 version_good Two = (refl, omega arith)
+version_good Three = (refl, omega arith)
 
 kind_good : (kind : Kind) → IsGood (kind_line kind)
 kind_good Grid = (refl, omega arith)
@@ -104,12 +104,13 @@ kind_good Strips = (refl, omega arith)
 width_good : (version : Version) (width : ℕ) → width ≤ most_digits → AreGood (width_text version width)
 width_good One width most = tt
 width_good Two width most = (numbered_good (codes "width") width refl (omega arith) (omega (arith, most)), tt)
+width_good Three width most = (numbered_good (codes "width") width refl (omega arith) (omega (arith, most)), tt)
 
-stated_good : (stated : Stated) → AreGood (stated_text stated)
-stated_good stated = go stated.choice
-  where
-    go : (choice : Choice) → AreGood (choice_text choice)
-    go Plain = tt
+choice_good : (version : Version) (choice : Choice) → StatesChoice version choice → AreGood (choice_text choice)
+choice_good version Plain states = tt
+choice_good One (Pattern number) states = absurd states
+choice_good Two (Pattern number) states = absurd states
+choice_good Three (Pattern number) states = (numbered_good (codes "pattern") number refl (omega arith) states, tt)
 
 actions_good : (actions : List ℕ) → AllByRecursion IsNumber actions → AreGood (map decimal actions)
 actions_good [] all = tt
@@ -152,12 +153,12 @@ all_good : (width : ℕ) (rows : List Line) → width ≤ most_digits → AllByR
 all_good width [] most all = tt
 all_good width (row ∷ rows) most all = (row_good width row most all.0.1, all_good width rows most all.1)
 
-pub lines_good : (spelled : SpelledCertificate) → spelled.spelling.width ≤ most_digits → Fits spelled.spelling.width spelled.certificate → AreGood (lines_of spelled)
+pub lines_good : (spelled : SpelledCertificate) → spelled.spelling.width ≤ most_digits → StatesChoice spelled.spelling.version spelled.spelling.stated.choice → Fits spelled.spelling.width spelled.certificate → AreGood (lines_of spelled)
 unfolding lines_of
-lines_good spelled most fits =
+lines_good spelled most states fits =
     let c : Certificate = spelled.certificate in
     let s : Spelling = spelled.spelling in
-    let head : AreGood (head_of s) = (version_good s.version, (kind_good s.kind, both_good (width_text s.version s.width) (stated_text s.stated) (width_good s.version s.width most) (stated_good s.stated))) in
+    let head : AreGood (head_of s) = (version_good s.version, (kind_good s.kind, both_good (width_text s.version s.width) (stated_text s.stated) (width_good s.version s.width most) (choice_good s.version s.stated.choice states))) in
     let first : AreGood (head_of s ++ weight_line c.weight ∷ []) = both_good (head_of s) (weight_line c.weight ∷ []) head (weight_good c.weight fits.weight.0 fits.weight.1, tt) in
     let rows : AreGood (rows_lines s.width c) = (
       numbered_good (codes "rows") (length c.lines) refl (omega arith) fits.count,
@@ -207,7 +208,7 @@ later_begin bytes back begin next first rest is behind_it at =
       ap (drop next) whole ∙ drop_at front (lines rest) next (omega (arith, sum, same, at)),
     )
 
--- ---- the lines in version 2 by those that were read
+-- ---- the lines that are saved by those that were read
 
 abbrev pub spelled_of : Text → SpelledCertificate
 spelled_of text = record { spelling = text.spelling; certificate = text.certificate }
@@ -215,15 +216,34 @@ spelled_of text = record { spelling = text.spelling; certificate = text.certific
 abbrev pub width_line : ℕ → List ℕ
 width_line width = spaced (codes "width") (decimal width)
 
-pub first_saved : (width : ℕ) (text : Text) → slice_get (lines_of (in_version_2 width text)) 0 ≡ Some (version_line Two)
-unfolding lines_of
-first_saved width text = refl
+-- a text of version 1 in version 2
+abbrev in_version_2 : (width : ℕ) → Text → SpelledCertificate
+in_version_2 width text = record {
+  spelling = record text.spelling { version = Two; width = width };
+  certificate = text.certificate;
+}
 
-pub third_saved : (width : ℕ) (text : Text) → slice_get (lines_of (in_version_2 width text)) 2 ≡ Some (width_line width)
-unfolding lines_of
-third_saved width text = refl
+saved_in_2 : (width : ℕ) (text : Text) → text.spelling.version ≡ One → saved_anew width text ≡ in_version_2 width text
+saved_in_2 width text version = λ i. record {
+  spelling = record text.spelling { version = version_anew (version i); width = width };
+  certificate = text.certificate;
+}
 
-at_least : (width : ℕ) (text : Text) → 1 ≤ length (lines_of (in_version_2 width text))
+first_in_2 : (width : ℕ) (text : Text) → slice_get (lines_of (in_version_2 width text)) 0 ≡ Some (version_line Two)
+unfolding lines_of
+first_in_2 width text = refl
+
+third_in_2 : (width : ℕ) (text : Text) → slice_get (lines_of (in_version_2 width text)) 2 ≡ Some (width_line width)
+unfolding lines_of
+third_in_2 width text = refl
+
+pub first_saved : (width : ℕ) (text : Text) → text.spelling.version ≡ One → slice_get (lines_of (saved_anew width text)) 0 ≡ Some (version_line Two)
+first_saved width text version = ap (λ (c : SpelledCertificate). slice_get (lines_of c) 0) (saved_in_2 width text version) ∙ first_in_2 width text
+
+pub third_saved : (width : ℕ) (text : Text) → text.spelling.version ≡ One → slice_get (lines_of (saved_anew width text)) 2 ≡ Some (width_line width)
+third_saved width text version = ap (λ (c : SpelledCertificate). slice_get (lines_of c) 2) (saved_in_2 width text version) ∙ third_in_2 width text
+
+at_least : (width : ℕ) (text : Text) → 1 ≤ length (lines_of (saved_anew width text))
 unfolding lines_of
 at_least width text = omega arith
 
@@ -234,7 +254,10 @@ two_read text = refl
 module _ (width : ℕ) (text : Text) (version : text.spelling.version ≡ One) (known : IsSpelling text.spelling) (fits : Fits text.spelling.width text.certificate)
     (states : All (λ row. row.state < 16 ^ width) text.certificate.lines) where
   digits : text.spelling.width ≡ 64
-  digits = subst (λ v. IsWidthOf v text.spelling.width) version known
+  digits = subst (λ v. IsWidthOf v text.spelling.width) version known.width
+
+  states_none : StatesChoice One text.spelling.stated.choice
+  states_none = subst (λ v. StatesChoice v text.spelling.stated.choice) version known.choice
 
   fit : Fits 64 text.certificate
   fit = subst (λ w. Fits w text.certificate) digits fits
@@ -251,11 +274,11 @@ module _ (width : ℕ) (text : Text) (version : text.spelling.version ≡ One) (
   unfolding lines_of
   rest_saved = refl
 
-  pub respelled : lines_of (in_version_2 width text) ≡ version_line Two ∷ kind_line text.spelling.kind ∷ width_line width ∷ map (respelled_line width) (drop 2 (lines_of (spelled_of text)))
-  respelled = rest_saved ∙ ap (λ t. version_line Two ∷ kind_line text.spelling.kind ∷ width_line width ∷ t)
-      (sym (rest_respelled width text.spelling.stated text.certificate fit rows_fit) ∙ ap (map (respelled_line width)) (sym rest_read))
+  pub respelled : lines_of (saved_anew width text) ≡ version_line Two ∷ kind_line text.spelling.kind ∷ width_line width ∷ map (respelled_line width) (drop 2 (lines_of (spelled_of text)))
+  respelled = ap lines_of (saved_in_2 width text version) ∙ rest_saved ∙ ap (λ t. version_line Two ∷ kind_line text.spelling.kind ∷ width_line width ∷ t)
+      (sym (rest_respelled width text.spelling.stated text.certificate states_none fit rows_fit) ∙ ap (map (respelled_line width)) (sym rest_read))
 
-  pub one_line_more : length (lines_of (in_version_2 width text)) ≡ length (lines_of (spelled_of text)) + 1
+  pub one_line_more : length (lines_of (saved_anew width text)) ≡ length (lines_of (spelled_of text)) + 1
   one_line_more =
       let more = ap length respelled in
       let same = length-map (drop 2 (lines_of (spelled_of text))) (respelled_line width) in
@@ -263,7 +286,7 @@ module _ (width : ℕ) (text : Text) (version : text.spelling.version ≡ One) (
       omega (arith, more, same, read)
 
   -- a later line is one that was read, with the digits of its state
-  pub later_saved : (at : ℕ) (first : List ℕ) → 3 ≤ at → slice_get (lines_of (spelled_of text)) (at - 1) ≡ Some first → slice_get (lines_of (in_version_2 width text)) at ≡ Some (respelled_line width first)
+  pub later_saved : (at : ℕ) (first : List ℕ) → 3 ≤ at → slice_get (lines_of (spelled_of text)) (at - 1) ≡ Some first → slice_get (lines_of (saved_anew width text)) at ≡ Some (respelled_line width first)
   later_saved zero first past found = absurd (omega (arith, past))
   later_saved (suc zero) first past found = absurd (omega (arith, past))
   later_saved (suc (suc zero)) first past found = absurd (omega (arith, past))
@@ -274,7 +297,7 @@ module _ (width : ℕ) (text : Text) (version : text.spelling.version ≡ One) (
       ap (λ t. slice_get t (suc (suc (suc at)))) respelled ∙ slice_get-map (respelled_line width) rest at ∙ ap (option_map (respelled_line width)) there
 
   -- the line of the kind is the one that was read
-  pub second_saved : (first : List ℕ) → slice_get (lines_of (spelled_of text)) 1 ≡ Some first → slice_get (lines_of (in_version_2 width text)) 1 ≡ Some (respelled_line width first)
+  pub second_saved : (first : List ℕ) → slice_get (lines_of (spelled_of text)) 1 ≡ Some first → slice_get (lines_of (saved_anew width text)) 1 ≡ Some (respelled_line width first)
   second_saved first found =
       let is : kind_line text.spelling.kind ≡ first = some_line (kind_line text.spelling.kind) first (sym (ap (λ t. slice_get t 1) (two_read text)) ∙ found) in
       let short : length first ≤ 64 = subst (λ t. length t ≤ 64) is (kind_short text.spelling.kind) in
@@ -300,9 +323,32 @@ is_next bytes texts before begin are within is =
     let found : slice_get texts before ≡ Some (line_at texts before) = slice_get-get_or texts before [] within in
     record { found = found; good = good_at texts before (line_at texts before) are found; here = is ∙ ap lines (drop_more texts before [] within) }
 
+-- a version is 1, or stays
+one_or_later : (v : Version) → (v ≡ One) ⊎ (v ≢ One)
+one_or_later One = inl refl
+one_or_later Two = inr (λ e. cc)
+one_or_later Three = inr (λ e. cc)
+
+stays : (v : Version) → v ≢ One → version_anew v ≡ v
+stays One later = absurd (later refl)
+stays Two later = refl
+stays Three later = refl
+
+-- and states what it stated
+states_anew : (v : Version) (choice : Choice) → StatesChoice v choice → StatesChoice (version_anew v) choice
+states_anew One Plain states = tt
+states_anew One (Pattern number) states = absurd states
+states_anew Two choice states = states
+states_anew Three choice states = states
+
 -- the lines before the next one
 before_first : lines_before One 0 ≡ 0
 before_first = refl
+
+before_same : (v : Version) → v ≢ One → (at : ℕ) → lines_before v at ≡ at
+before_same One later at = absurd (later refl)
+before_same Two later at = refl
+before_same Three later at = refl
 
 before_later : (at : ℕ) → 3 ≤ at → lines_before One at ≡ at - 1
 before_later at past = grind (arith, nat_tests, past)
@@ -313,24 +359,25 @@ before_next at other = grind (arith, nat_tests, other)
 -- ---- what a certificate that is saved anew is known by
 
 module _ (bytes : List ℕ) (from : Version) (width : ℕ) (can : CanBeRewritten bytes from width) where
-  saved_are : lines_in_version_2 width (reading.text_of bytes) ≡ lines_of (in_version_2 width can.text)
-  saved_are = ap (lines_in_version_2 width) can.read
+  saved_are : lines_anew width (reading.text_of bytes) ≡ lines_of (saved_anew width can.text)
+  saved_are = ap (lines_anew width) can.read
 
   read_are : lines_read (reading.text_of bytes) ≡ lines_of (spelled_of can.text)
   read_are = ap lines_read can.read
 
   few_digits : can.text.spelling.width ≤ most_digits
-  few_digits = by can.text.spelling.version can.text.spelling.width can.spelled.known
+  few_digits = by can.text.spelling.version can.text.spelling.width can.spelled.known.width
     where
       by : (version : Version) (digits : ℕ) → IsWidthOf version digits → digits ≤ most_digits
       by One digits is = omega (arith, is)
       by Two digits is = is.1
+      by Three digits is = is.1
 
   read_good : AreGood (lines_of (spelled_of can.text))
-  read_good = lines_good (spelled_of can.text) few_digits can.spelled.fits
+  read_good = lines_good (spelled_of can.text) few_digits can.spelled.known.choice can.spelled.fits
 
-  saved_good : AreGood (lines_of (in_version_2 width can.text))
-  saved_good = lines_good (in_version_2 width can.text) can.most (record {
+  saved_good : AreGood (lines_of (saved_anew width can.text))
+  saved_good = lines_good (saved_anew width can.text) can.most (states_anew can.text.spelling.version can.text.spelling.stated.choice can.spelled.known.choice) (record {
     weight = can.spelled.fits.weight;
     plan = can.spelled.fits.plan;
     count = can.spelled.fits.count;
@@ -346,17 +393,18 @@ module _ (bytes : List ℕ) (from : Version) (width : ℕ) (can : CanBeRewritten
       by : (v : Version) → from ≡ v → bytes ≡ lines (drop (lines_before v 0) (lines_read (reading.text_of bytes)))
       by One is = bytes_are ∙ ap lines (sym read_are)
       by Two is = bytes_are ∙ ap lines (sym read_are)
+      by Three is = bytes_are ∙ ap lines (sym read_are)
 
   -- the lines are those of the text
-  pub saved_text : lines (lines_in_version_2 width (reading.text_of bytes)) ≡ text_in_version_2 width (reading.text_of bytes)
-  saved_text = ap lines saved_are ∙ lines_are_text (in_version_2 width can.text) ∙ sym (ap (text_in_version_2 width) can.read)
+  pub saved_text : lines (lines_anew width (reading.text_of bytes)) ≡ text_anew width (reading.text_of bytes)
+  saved_text = ap lines saved_are ∙ lines_are_text (saved_anew width can.text) ∙ sym (ap (text_anew width) can.read)
 
-  pub some_lines : 1 ≤ length (lines_in_version_2 width (reading.text_of bytes))
+  pub some_lines : 1 ≤ length (lines_anew width (reading.text_of bytes))
   some_lines = subst (λ n. 1 ≤ n) (sym (ap length saved_are)) (at_least width can.text)
 
   -- a line of this number was put
-  puts : (old new : List ℕ) (at : ℕ) (text : List ℕ) → slice_get (lines_of (in_version_2 width can.text)) at ≡ Some text → new ≡ old ++ line text → length new ≤ length old + longest_line
-      → PutsLine old new (lines_in_version_2 width (reading.text_of bytes)) at
+  puts : (old new : List ℕ) (at : ℕ) (text : List ℕ) → slice_get (lines_of (saved_anew width can.text)) at ≡ Some text → new ≡ old ++ line text → length new ≤ length old + longest_line
+      → PutsLine old new (lines_anew width (reading.text_of bytes)) at
   puts old new at text found is short = (text, ap (λ t. slice_get t at) saved_are ∙ found, is, short)
 
 -- ---- of version 1
@@ -365,16 +413,16 @@ module _ (bytes : List ℕ) (width : ℕ) (can : CanBeRewritten bytes One width)
   abbrev read_lines : List (List ℕ)
   read_lines = lines_of (spelled_of can.text)
 
-  more : length (lines_of (in_version_2 width can.text)) ≡ length read_lines + 1
+  more : length (lines_of (saved_anew width can.text)) ≡ length read_lines + 1
   more = one_line_more width can.text can.version can.spelled.known can.spelled.fits can.states
 
-  pub counted_one : (feeds count : ℕ) → feeds ≡ line_feeds bytes → count ≡ feeds + 1 → count ≡ length (lines_in_version_2 width (reading.text_of bytes))
+  pub counted_one : (feeds count : ℕ) → feeds ≡ line_feeds bytes → count ≡ feeds + 1 → count ≡ length (lines_anew width (reading.text_of bytes))
   counted_one feeds count is sum =
       let all = ap line_feeds (bytes_are bytes One width can) ∙ feeds_are read_lines (read_good bytes One width can) in
       let saved = ap length (saved_are bytes One width can) in
       omega (arith, all, saved, more, is, sum)
 
-  module _ (at begin : ℕ) (other : at ≡ 2 → ⊥) (within : at < length (lines_in_version_2 width (reading.text_of bytes)))
+  module _ (at begin : ℕ) (other : at ≡ 2 → ⊥) (within : at < length (lines_anew width (reading.text_of bytes)))
       (begins : Begins (record { bytes = bytes; from = One; width = width }) at begin) where
     inside : lines_before One at < length read_lines
     inside =
@@ -392,13 +440,13 @@ module _ (bytes : List ℕ) (width : ℕ) (can : CanBeRewritten bytes One width)
     )
 
     -- the line of this number is the one that was read, with the digits of its state
-    line_is : (at ≡ 0 → ⊥) → slice_get (lines_of (in_version_2 width can.text)) at ≡ Some (respelled_line width (line_at read_lines (lines_before One at)))
+    line_is : (at ≡ 0 → ⊥) → slice_get (lines_of (saved_anew width can.text)) at ≡ Some (respelled_line width (line_at read_lines (lines_before One at)))
     line_is positive = there at refl
       where
-        there : (n : ℕ) → n ≡ at → slice_get (lines_of (in_version_2 width can.text)) at ≡ Some (respelled_line width (line_at read_lines (lines_before One at)))
+        there : (n : ℕ) → n ≡ at → slice_get (lines_of (saved_anew width can.text)) at ≡ Some (respelled_line width (line_at read_lines (lines_before One at)))
         there zero e = absurd (positive (sym e))
         there (suc zero) e =
-            subst (λ k. slice_get (lines_of (in_version_2 width can.text)) k ≡ Some (respelled_line width (line_at read_lines (lines_before One k)))) e
+            subst (λ k. slice_get (lines_of (saved_anew width can.text)) k ≡ Some (respelled_line width (line_at read_lines (lines_before One k)))) e
             (second_saved width can.text can.version can.spelled.known can.spelled.fits can.states (line_at read_lines 1)
             (subst (λ k. slice_get read_lines (lines_before One k) ≡ Some (line_at read_lines (lines_before One k))) (sym e) next_one.found))
         there (suc (suc zero)) e = absurd (other (sym e))
@@ -407,18 +455,18 @@ module _ (bytes : List ℕ) (width : ℕ) (can : CanBeRewritten bytes One width)
             (subst (λ k. slice_get read_lines k ≡ Some (line_at read_lines (lines_before One at))) (before_later at (omega (arith, e))) next_one.found)
 
     pub later_puts : (old new : List ℕ) → (at ≡ 0 → ⊥) → new ≡ old ++ line (respelled_line width (line_at read_lines (lines_before One at))) → length new ≤ length old + longest_line
-        → PutsLine old new (lines_in_version_2 width (reading.text_of bytes)) at
+        → PutsLine old new (lines_anew width (reading.text_of bytes)) at
     later_puts old new positive is short = puts bytes One width can old new at (respelled_line width (line_at read_lines (lines_before One at))) (line_is positive) is short
 
     -- a line that is put is short enough for a piece
     pub later_short : (at ≡ 0 → ⊥) → length (respelled_line width (line_at read_lines (lines_before One at))) + 1 ≤ longest_line
-    later_short positive = (good_at (lines_of (in_version_2 width can.text)) at (respelled_line width (line_at read_lines (lines_before One at))) (saved_good bytes One width can) (line_is positive)).1
+    later_short positive = (good_at (lines_of (saved_anew width can.text)) at (respelled_line width (line_at read_lines (lines_before One at))) (saved_good bytes One width can) (line_is positive)).1
 
-  pub width_puts : (old new : List ℕ) (at : ℕ) → at ≡ 2 → new ≡ old ++ line (width_line width) → length new ≤ length old + longest_line → PutsLine old new (lines_in_version_2 width (reading.text_of bytes)) at
-  width_puts old new at is put short = puts bytes One width can old new at (width_line width) (subst (λ k. slice_get (lines_of (in_version_2 width can.text)) k ≡ Some (width_line width)) (sym is) (third_saved width can.text)) put short
+  pub width_puts : (old new : List ℕ) (at : ℕ) → at ≡ 2 → new ≡ old ++ line (width_line width) → length new ≤ length old + longest_line → PutsLine old new (lines_anew width (reading.text_of bytes)) at
+  width_puts old new at is put short = puts bytes One width can old new at (width_line width) (subst (λ k. slice_get (lines_of (saved_anew width can.text)) k ≡ Some (width_line width)) (sym is) (third_saved width can.text can.version)) put short
 
-  pub first_puts : (old new : List ℕ) (at : ℕ) → at ≡ 0 → new ≡ old ++ line (version_line Two) → length new ≤ length old + longest_line → PutsLine old new (lines_in_version_2 width (reading.text_of bytes)) at
-  first_puts old new at is put short = puts bytes One width can old new at (version_line Two) (subst (λ k. slice_get (lines_of (in_version_2 width can.text)) k ≡ Some (version_line Two)) (sym is) (first_saved width can.text)) put short
+  pub first_puts : (old new : List ℕ) (at : ℕ) → at ≡ 0 → new ≡ old ++ line (version_line Two) → length new ≤ length old + longest_line → PutsLine old new (lines_anew width (reading.text_of bytes)) at
+  first_puts old new at is put short = puts bytes One width can old new at (version_line Two) (subst (λ k. slice_get (lines_of (saved_anew width can.text)) k ≡ Some (version_line Two)) (sym is) (first_saved width can.text can.version)) put short
 
   -- the line of the width is in none that was read
   pub same_begin : (at begin : ℕ) → at ≡ 2 → Begins (record { bytes = bytes; from = One; width = width }) at begin → Begins (record { bytes = bytes; from = One; width = width }) (at + 1) begin
@@ -427,46 +475,57 @@ module _ (bytes : List ℕ) (width : ℕ) (can : CanBeRewritten bytes One width)
       same : (at : ℕ) → at ≡ 2 → lines_before One at ≡ lines_before One (at + 1)
       same at is = grind (arith, nat_tests, is)
 
--- ---- of version 2
+-- ---- of a later version
 
-module _ (bytes : List ℕ) (width : ℕ) (can : CanBeRewritten bytes Two width) where
+module _ (bytes : List ℕ) (from : Version) (width : ℕ) (can : CanBeRewritten bytes from width) (later : from ≢ One) where
+  same_version : version_anew can.text.spelling.version ≡ can.text.spelling.version
+  same_version = stays can.text.spelling.version (λ one. later (sym can.version ∙ one))
+
   -- the lines are those that were read
-  same_lines : lines_of (in_version_2 width can.text) ≡ lines_of (spelled_of can.text)
+  same_lines : lines_of (saved_anew width can.text) ≡ lines_of (spelled_of can.text)
   same_lines = λ i. lines_of (record {
-    spelling = record can.text.spelling { version = sym can.version i; width = sym (can.same refl) i };
+    spelling = record can.text.spelling { version = same_version i; width = sym (can.same later) i };
     certificate = can.text.certificate;
   })
 
-  pub same_text : text_in_version_2 width (reading.text_of bytes) ≡ bytes
-  same_text = sym (saved_text bytes Two width can) ∙ ap lines (saved_are bytes Two width can ∙ same_lines) ∙ sym (bytes_are bytes Two width can)
+  pub same_text : text_anew width (reading.text_of bytes) ≡ bytes
+  same_text = sym (saved_text bytes from width can) ∙ ap lines (saved_are bytes from width can ∙ same_lines) ∙ sym (bytes_are bytes from width can)
 
-  pub counted_two : (feeds : ℕ) → feeds ≡ line_feeds bytes → feeds ≡ length (lines_in_version_2 width (reading.text_of bytes))
-  counted_two feeds is =
-      is ∙ ap line_feeds (bytes_are bytes Two width can) ∙ feeds_are (lines_of (spelled_of can.text)) (read_good bytes Two width can)
-      ∙ ap length (sym same_lines ∙ sym (saved_are bytes Two width can))
+  pub counted_same : (feeds : ℕ) → feeds ≡ line_feeds bytes → feeds ≡ length (lines_anew width (reading.text_of bytes))
+  counted_same feeds is =
+      is ∙ ap line_feeds (bytes_are bytes from width can) ∙ feeds_are (lines_of (spelled_of can.text)) (read_good bytes from width can)
+      ∙ ap length (sym same_lines ∙ sym (saved_are bytes from width can))
 
-  module _ (at begin : ℕ) (within : at < length (lines_in_version_2 width (reading.text_of bytes)))
-      (begins : Begins (record { bytes = bytes; from = Two; width = width }) at begin) where
-    pub next_two : IsNext bytes (lines_of (spelled_of can.text)) at begin
-    next_two =
-        is_next bytes (lines_of (spelled_of can.text)) at begin (read_good bytes Two width can) (subst (λ (t : List (List ℕ)). at < length t) (saved_are bytes Two width can ∙ same_lines) within)
-        (begins.1 ∙ ap (λ t. lines (drop at t)) (read_are bytes Two width can))
+  module _ (at begin : ℕ) (within : at < length (lines_anew width (reading.text_of bytes)))
+      (begins : Begins (record { bytes = bytes; from = from; width = width }) at begin) where
+    pub next_same : IsNext bytes (lines_of (spelled_of can.text)) at begin
+    next_same =
+        is_next bytes (lines_of (spelled_of can.text)) at begin (read_good bytes from width can) (subst (λ (t : List (List ℕ)). at < length t) (saved_are bytes from width can ∙ same_lines) within)
+        (begins.1 ∙ ap (λ n. lines (drop n (lines_read (reading.text_of bytes)))) (before_same from later at) ∙ ap (λ t. lines (drop at t)) (read_are bytes from width can))
 
-    pub then_two : (next : ℕ) → (next ≤ length bytes) × (drop next bytes ≡ lines (drop (at + 1) (lines_of (spelled_of can.text)))) → Begins (record { bytes = bytes; from = Two; width = width }) (at + 1) next
-    then_two next is = (is.0, is.1 ∙ ap (λ t. lines (drop (at + 1) t)) (sym (read_are bytes Two width can)))
+    pub then_same : (next : ℕ) → (next ≤ length bytes) × (drop next bytes ≡ lines (drop (at + 1) (lines_of (spelled_of can.text)))) → Begins (record { bytes = bytes; from = from; width = width }) (at + 1) next
+    then_same next is = (
+      is.0,
+      is.1 ∙ ap (λ t. lines (drop (at + 1) t)) (sym (read_are bytes from width can)) ∙ ap (λ n. lines (drop n (lines_read (reading.text_of bytes)))) (sym (before_same from later (at + 1))),
+    )
 
-    pub puts_two : (old new : List ℕ) → new ≡ old ++ line (line_at (lines_of (spelled_of can.text)) at) → length new ≤ length old + longest_line
-        → PutsLine old new (lines_in_version_2 width (reading.text_of bytes)) at
-    puts_two old new is short = puts bytes Two width can old new at (line_at (lines_of (spelled_of can.text)) at) (ap (λ t. slice_get t at) same_lines ∙ next_two.found) is short
+    pub puts_same : (old new : List ℕ) → new ≡ old ++ line (line_at (lines_of (spelled_of can.text)) at) → length new ≤ length old + longest_line
+        → PutsLine old new (lines_anew width (reading.text_of bytes)) at
+    puts_same old new is short = puts bytes from width can old new at (line_at (lines_of (spelled_of can.text)) at) (ap (λ t. slice_get t at) same_lines ∙ next_same.found) is short
 
--- how many lines there are in version 2
-pub counted : (bytes : List ℕ) (from : Version) (width : ℕ) → CanBeRewritten bytes from width → (feeds more count : ℕ) → feeds ≡ line_feeds bytes → (from ≡ One → more ≡ 1) → (from ≡ Two → more ≡ 0)
-    → count ≡ feeds + more → count ≡ length (lines_in_version_2 width (reading.text_of bytes))
-counted bytes One width can feeds more count is one none sum = (let same = one refl in counted_one bytes width can feeds count is (omega (arith, sum, same)))
-counted bytes Two width can feeds more count is one none sum =
-    let same = none refl in
-    let all : count ≡ feeds = omega (arith, sum, same) in
-    counted_two bytes width can count (all ∙ is)
+-- how many lines there are
+pub counted : (bytes : List ℕ) (from : Version) (width : ℕ) → CanBeRewritten bytes from width → (feeds more count : ℕ) → feeds ≡ line_feeds bytes → (from ≡ One → more ≡ 1) → (from ≢ One → more ≡ 0)
+    → count ≡ feeds + more → count ≡ length (lines_anew width (reading.text_of bytes))
+counted bytes from width can feeds more count is one none sum = go (one_or_later from)
+  where
+    go : (from ≡ One) ⊎ (from ≢ One) → count ≡ length (lines_anew width (reading.text_of bytes))
+    go (inl first) =
+        let same = one first in
+        counted_one bytes width (subst (λ v. CanBeRewritten bytes v width) first can) feeds count is (omega (arith, sum, same))
+    go (inr later) =
+        let same = none later in
+        let all : count ≡ feeds = omega (arith, sum, same) in
+        counted_same bytes from width can later count (all ∙ is)
 
 -- ---- a line that was read, and then put
 
@@ -478,7 +537,7 @@ module _ (bytes : List ℕ) (begin : ℕ) (result : List ℕ) (next : ℕ) where
   abbrev pub FindsNext : Type 0
   FindsNext = (first : List ℕ) (rest : List (List ℕ)) → drop begin bytes ≡ lines (first ∷ rest) → has_none 10 first ≡ true → (next ≤ length bytes) × (drop next bytes ≡ lines rest)
 
-module _ (bytes : List ℕ) (width : ℕ) (can : CanBeRewritten bytes One width) (at begin : ℕ) (other : at ≡ 2 → ⊥) (within : at < length (lines_in_version_2 width (reading.text_of bytes)))
+module _ (bytes : List ℕ) (width : ℕ) (can : CanBeRewritten bytes One width) (at begin : ℕ) (other : at ≡ 2 → ⊥) (within : at < length (lines_anew width (reading.text_of bytes)))
     (begins : Begins (record { bytes = bytes; from = One; width = width }) at begin) (result : List ℕ) (next : ℕ) (reads : ReadsLine bytes begin result next) (finds : FindsNext bytes begin result next) where
   it : IsNext bytes (lines_of (spelled_of can.text)) (lines_before One at) begin
   it = next_one bytes width can at begin other within begins
@@ -493,25 +552,25 @@ module _ (bytes : List ℕ) (width : ℕ) (can : CanBeRewritten bytes One width)
   pub short_one : (at ≡ 0 → ⊥) → length (respelled_line width result) + 1 ≤ longest_line
   short_one positive = subst (λ t. length (respelled_line width t) + 1 ≤ longest_line) (sym result_is) (later_short bytes width can at begin other within begins positive)
 
-  pub put_one : (old new : List ℕ) → (at ≡ 0 → ⊥) → new ≡ old ++ line (respelled_line width result) → length new ≤ length old + longest_line → PutsLine old new (lines_in_version_2 width (reading.text_of bytes)) at
+  pub put_one : (old new : List ℕ) → (at ≡ 0 → ⊥) → new ≡ old ++ line (respelled_line width result) → length new ≤ length old + longest_line → PutsLine old new (lines_anew width (reading.text_of bytes)) at
   put_one old new positive is short = later_puts bytes width can at begin other within begins old new positive (is ∙ ap (λ t. old ++ line (respelled_line width t)) result_is) short
 
-module _ (bytes : List ℕ) (width : ℕ) (can : CanBeRewritten bytes Two width) (at begin : ℕ) (within : at < length (lines_in_version_2 width (reading.text_of bytes)))
-    (begins : Begins (record { bytes = bytes; from = Two; width = width }) at begin) (result : List ℕ) (next : ℕ) (reads : ReadsLine bytes begin result next) (finds : FindsNext bytes begin result next) where
+module _ (bytes : List ℕ) (from : Version) (width : ℕ) (can : CanBeRewritten bytes from width) (later : from ≢ One) (at begin : ℕ) (within : at < length (lines_anew width (reading.text_of bytes)))
+    (begins : Begins (record { bytes = bytes; from = from; width = width }) at begin) (result : List ℕ) (next : ℕ) (reads : ReadsLine bytes begin result next) (finds : FindsNext bytes begin result next) where
   that : IsNext bytes (lines_of (spelled_of can.text)) at begin
-  that = next_two bytes width can at begin within begins
+  that = next_same bytes from width can later at begin within begins
 
   read_is : result ≡ line_at (lines_of (spelled_of can.text)) at
   read_is = reads (line_at (lines_of (spelled_of can.text)) at) (drop (at + 1) (lines_of (spelled_of can.text))) that.here that.good.0
 
-  pub stepped_two : Begins (record { bytes = bytes; from = Two; width = width }) (at + 1) next
-  stepped_two = then_two bytes width can at begin within begins next (finds (line_at (lines_of (spelled_of can.text)) at) (drop (at + 1) (lines_of (spelled_of can.text))) that.here that.good.0)
+  pub stepped_same : Begins (record { bytes = bytes; from = from; width = width }) (at + 1) next
+  stepped_same = then_same bytes from width can later at begin within begins next (finds (line_at (lines_of (spelled_of can.text)) at) (drop (at + 1) (lines_of (spelled_of can.text))) that.here that.good.0)
 
-  pub short_two : length result + 1 ≤ longest_line
-  short_two = subst (λ t. length t + 1 ≤ longest_line) (sym read_is) that.good.1
+  pub short_same : length result + 1 ≤ longest_line
+  short_same = subst (λ t. length t + 1 ≤ longest_line) (sym read_is) that.good.1
 
-  pub put_two : (old new : List ℕ) → new ≡ old ++ line result → length new ≤ length old + longest_line → PutsLine old new (lines_in_version_2 width (reading.text_of bytes)) at
-  put_two old new is short = puts_two bytes width can at begin within begins old new (is ∙ ap (λ t. old ++ line t) read_is) short
+  pub put_same : (old new : List ℕ) → new ≡ old ++ line result → length new ≤ length old + longest_line → PutsLine old new (lines_anew width (reading.text_of bytes)) at
+  put_same old new is short = puts_same bytes from width can later at begin within begins old new (is ∙ ap (λ t. old ++ line t) read_is) short
 
 -- the version, where it is known
 module _ (it : Rewritten) (version : Version) (is : it.from ≡ version) where
@@ -526,41 +585,60 @@ module _ (it : Rewritten) (version : Version) (is : it.from ≡ version) where
 
 -- ---- what is accepted can be rewritten
 
--- the version that a text says is that of its first line
-pub says_two : (bytes : List ℕ) (spelling : Spelling) (certificate : Certificate) → IsSpelled bytes spelling certificate → spelling.version ≡ Two
-    → (rest : List ℕ) × (behind (codes "pbnf-certificate 2\n") bytes ≡ Some rest)
+-- the first line of a text says its version
+first_line_is : (bytes : List ℕ) (spelling : Spelling) (certificate : Certificate) → IsSpelled bytes spelling certificate
+    → bytes ≡ line (version_line spelling.version) ++ lines (drop 1 (lines_of (record { spelling = spelling; certificate = certificate })))
 unfolding lines_of
-says_two bytes spelling certificate spelled is =
-    let rest : List ℕ = lines (drop 1 (lines_of (record { spelling = spelling; certificate = certificate }))) in (
-      rest,
-      ap (behind (codes "pbnf-certificate 2\n")) (spelled.text ∙ sym (lines_are_text (record { spelling = spelling; certificate = certificate })) ∙ ap (λ v. line (version_line v) ++ rest) is)
-          ∙ behind_again (codes "pbnf-certificate 2\n") rest,
-    )
+first_line_is bytes spelling certificate spelled = spelled.text ∙ sym (lines_are_text (record { spelling = spelling; certificate = certificate }))
 
-pub says_one : (bytes : List ℕ) (spelling : Spelling) (certificate : Certificate) → IsSpelled bytes spelling certificate → spelling.version ≡ One
-    → behind (codes "pbnf-certificate 2\n") bytes ≡ None
-unfolding lines_of behind
-says_one bytes spelling certificate spelled is =
-    let rest : List ℕ = lines (drop 1 (lines_of (record { spelling = spelling; certificate = certificate }))) in
-    ap (behind (codes "pbnf-certificate 2\n")) (spelled.text ∙ sym (lines_are_text (record { spelling = spelling; certificate = certificate })) ∙ ap (λ v. line (version_line v) ++ rest) is)
+-- a text of one version doesn't begin with the line of another
+other_line : (v w : Version) (rest : List ℕ) → (v ≡ w → ⊥) → behind (line (version_line v)) (line (version_line w) ++ rest) ≡ None
+unfolding behind
+other_line One One rest other = absurd (other refl)
+other_line One Two rest other = refl
+other_line One Three rest other = refl
+other_line Two One rest other = refl
+other_line Two Two rest other = absurd (other refl)
+other_line Two Three rest other = refl
+other_line Three One rest other = refl
+other_line Three Two rest other = refl
+other_line Three Three rest other = absurd (other refl)
+
+same_or_other : (v w : Version) → (v ≡ w) ⊎ (v ≡ w → ⊥)
+same_or_other One One = inl refl
+same_or_other Two Two = inl refl
+same_or_other Three Three = inl refl
+same_or_other One Two = inr (λ e. cc)
+same_or_other One Three = inr (λ e. cc)
+same_or_other Two One = inr (λ e. cc)
+same_or_other Two Three = inr (λ e. cc)
+same_or_other Three One = inr (λ e. cc)
+same_or_other Three Two = inr (λ e. cc)
 
 not_both : (rest : List ℕ) (found : Option (List ℕ)) → found ≡ Some rest → found ≡ None → ⊥
 not_both rest found x y = cc
 
--- which version the first line says
-pub said_two : (bytes rest : List ℕ) → behind (codes "pbnf-certificate 2\n") bytes ≡ Some rest → (spelling : Spelling) (certificate : Certificate) → IsSpelled bytes spelling certificate → spelling.version ≡ Two
-said_two bytes rest found spelling certificate spelled = by spelling.version refl
+-- a text that begins with the line of a version is of that version, and no other text is
+pub said : (v : Version) (bytes rest : List ℕ) → behind (line (version_line v)) bytes ≡ Some rest → (spelling : Spelling) (certificate : Certificate) → IsSpelled bytes spelling certificate → spelling.version ≡ v
+said v bytes rest found spelling certificate spelled = go (same_or_other v spelling.version)
   where
-    by : (v : Version) → spelling.version ≡ v → spelling.version ≡ Two
-    by One is = absurd (not_both rest (behind (codes "pbnf-certificate 2\n") bytes) found (says_one bytes spelling certificate spelled is))
-    by Two is = is
+    go : (v ≡ spelling.version) ⊎ (v ≡ spelling.version → ⊥) → spelling.version ≡ v
+    go (inl same) = sym same
+    go (inr other) =
+        absurd (not_both rest (behind (line (version_line v)) bytes) found
+        (ap (behind (line (version_line v))) (first_line_is bytes spelling certificate spelled)
+        ∙ other_line v spelling.version (lines (drop 1 (lines_of (record { spelling = spelling; certificate = certificate })))) other))
 
-pub said_one : (bytes : List ℕ) → behind (codes "pbnf-certificate 2\n") bytes ≡ None → (spelling : Spelling) (certificate : Certificate) → IsSpelled bytes spelling certificate → spelling.version ≡ One
-said_one bytes found spelling certificate spelled = by spelling.version refl
-  where
-    by : (v : Version) → spelling.version ≡ v → spelling.version ≡ One
-    by One is = is
-    by Two is = (let two = says_two bytes spelling certificate spelled is in absurd (not_both two.0 (behind (codes "pbnf-certificate 2\n") bytes) two.1 found))
+pub unsaid : (v : Version) (bytes : List ℕ) → behind (line (version_line v)) bytes ≡ None → (spelling : Spelling) (certificate : Certificate) → IsSpelled bytes spelling certificate → spelling.version ≢ v
+unsaid v bytes none spelling certificate spelled is =
+    let rest : List ℕ = lines (drop 1 (lines_of (record { spelling = spelling; certificate = certificate }))) in
+    not_both rest (behind (line (version_line v)) bytes)
+    (ap (behind (line (version_line v))) (first_line_is bytes spelling certificate spelled ∙ ap (λ w. line (version_line w) ++ rest) is) ∙ behind_again (line (version_line v)) rest) none
+
+pub only_one : (v : Version) → v ≢ Two → v ≢ Three → v ≡ One
+only_one One two three = refl
+only_one Two two three = absurd (two refl)
+only_one Three two three = absurd (three refl)
 
 module _ (reads : ReadAsSpelled) (fitting : StatesFitTheirWidth) (parts : TaskParts) (lawful : IsTask parts) (bytes : List ℕ) (verdict : Verdict) (accepted : IsAccepted parts bytes verdict) where
   abbrev accepted_text : Text
@@ -568,6 +646,12 @@ module _ (reads : ReadAsSpelled) (fitting : StatesFitTheirWidth) (parts : TaskPa
 
   is_read : reading.text_of bytes ≡ Ok accepted_text
   is_read = (reads bytes accepted_text).1 accepted.spelled refl
+
+  -- the digits that are stated are those of the task's states
+  width_stays : (v : Version) → v ≢ One → HasWidthOf parts v accepted.spelling.width → accepted.spelling.width ≡ width_of parts
+  width_stays One later wide = absurd (later refl)
+  width_stays Two later wide = wide
+  width_stays Three later wide = wide
 
   pub can_be_rewritten : (from : Version) → accepted.spelling.version ≡ from → CanBeRewritten bytes from (width_of parts)
   can_be_rewritten from is = record {
@@ -578,17 +662,30 @@ module _ (reads : ReadAsSpelled) (fitting : StatesFitTheirWidth) (parts : TaskPa
     some = (fitting parts lawful).0;
     most = (fitting parts lawful).1;
     states = λ k d less. (fitting parts lawful).2 _ (accepted.valid.states k d less);
-    same = λ two. subst (λ v. HasWidthOf parts v accepted.spelling.width) (is ∙ two) accepted.width;
+    same = λ later. width_stays accepted.spelling.version (λ one. later (sym is ∙ one)) accepted.width;
   }
 
-  -- the certificate in version 2
+  -- how the certificate that is saved is spelled
   abbrev anew : Spelling
-  anew = record accepted.spelling { version = Two; width = width_of parts }
+  anew = record accepted.spelling { version = version_anew accepted.spelling.version; width = width_of parts }
+
+  width_anew : (v : Version) → IsWidthOf (version_anew v) (width_of parts)
+  width_anew One = ((fitting parts lawful).0, (fitting parts lawful).1)
+  width_anew Two = ((fitting parts lawful).0, (fitting parts lawful).1)
+  width_anew Three = ((fitting parts lawful).0, (fitting parts lawful).1)
+
+  task_width : (v : Version) → HasWidthOf parts (version_anew v) (width_of parts)
+  task_width One = refl
+  task_width Two = refl
+  task_width Three = refl
 
   pub spelled_anew : IsSpelled (rewritten_text parts bytes) anew accepted.certificate
   spelled_anew = record {
-    known = ((fitting parts lawful).0, (fitting parts lawful).1);
-    text = ap (text_in_version_2 (width_of parts)) is_read;
+    known = record {
+      width = width_anew accepted.spelling.version;
+      choice = states_anew accepted.spelling.version accepted.spelling.stated.choice accepted.spelled.known.choice;
+    };
+    text = ap (text_anew (width_of parts)) is_read;
     fits = record {
       weight = accepted.spelled.fits.weight;
       plan = accepted.spelled.fits.plan;
@@ -603,7 +700,7 @@ module _ (reads : ReadAsSpelled) (fitting : StatesFitTheirWidth) (parts : TaskPa
     certificate = accepted.certificate;
     spelled = spelled_anew;
     kind = accepted.kind;
-    width = refl;
+    width = task_width accepted.spelling.version;
     stated = accepted.stated;
     valid = accepted.valid;
     verdict_is = accepted.verdict_is;
@@ -618,5 +715,5 @@ module _ (reads : ReadAsSpelled) (fitting : StatesFitTheirWidth) (parts : TaskPa
           let bad : ◌≡◌ {A = Result Verdict CertificateFault} (Ok verdict) (Err fault) = gives_accepted parts (rewritten_text parts bytes) (Err (errors.Fault fault)) e verdict accepted_anew in
           cc
 
-  pub same_bytes : accepted.spelling.version ≡ Two → rewritten_text parts bytes ≡ bytes
-  same_bytes two = same_text bytes (width_of parts) (can_be_rewritten Two two)
+  pub same_bytes : accepted.spelling.version ≢ One → rewritten_text parts bytes ≡ bytes
+  same_bytes later = same_text bytes accepted.spelling.version (width_of parts) (can_be_rewritten accepted.spelling.version refl) later

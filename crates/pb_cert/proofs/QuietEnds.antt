@@ -1,7 +1,8 @@
 -- What a store shows of a search that came to a quiet end: its plan and its certificate. Other crates
 -- cite this module too.
-use Rattle.std.proofs.Common.{◌≡◌, ℕ, ◌^◌, ◌<◌, ◌≤◌, IsTrue, Option, None, Some, List, [], ◌∷◌, length, Result, Ok, Err, refl, ap, sym, ◌∙◌, subst, arith}
+use Rattle.std.proofs.Common.{◌≡◌, ℕ, ◌^◌, ◌<◌, ◌≤◌, IsTrue, true, leb, Option, None, Some, List, [], ◌∷◌, length, Result, Ok, Err, refl, ap, sym, ◌∙◌, subst, arith}
 use Rattle.std.specs.List.{AllByRecursion}
+use Rattle.std.proofs.lemmas.Bool.{leb-true, and_parts}
 use Rattle.std.proofs.lemmas.List.Elements.{All-from_recursion}
 use Rattle.pb_packed.specs.Sizes.{most_digits}
 use Rattle.pb_model.specs.declared.row.Estimate.{Estimate}
@@ -20,16 +21,17 @@ use Rattle.pb_task.specs.Parts.{space_of, IsTask, greatest_cost}
 use Rattle.pb_task.specs.Widths.{width_of}
 use Rattle.pb_task.proofs.Callers.{states_fit_their_width, tasks_are_proper}
 use Rattle.pb_estimate.specs.declared.choice.Choice.{Choice}
+use Rattle.pb_estimate.specs.declared.choice.Choice.TheVariants.{Plain, Pattern}
 use Rattle.pb_estimate.specs.declared.spelling.Spelling.{Spelling}
-use Rattle.pb_estimate.specs.Estimates.{estimate_by}
-use Rattle.pb_estimate.specs.Spelling.{spelling_of, spelled_text}
+use Rattle.pb_estimate.specs.Estimates.{estimate_by, suits}
+use Rattle.pb_estimate.specs.Spelling.{IsWidthOf, StatesChoice, version_of, spelling_of, spelled_text}
 use Rattle.pb_lists.specs.Store.{store_with, guide_to, IsPlaced, IsSoundAt, IsQuietEnd}
 use Rattle.pb_check.specs.declared.fault.CertificateFault.{CertificateFault}
 use Rattle.pb_check.specs.declared.fault.Verdict.{Verdict}
 use Rattle.pb_check.specs.declared.fault.CheckError.TheVariants as errors
-use Rattle.pb_check.specs.Judging.{stated_fault, checked, verdict_of}
+use Rattle.pb_check.specs.Judging.{checked, verdict_of}
 use Rattle.pb_check.specs.Shown.{IsAccepted}
-use Rattle.pb_check.specs.Spelling.{PlanFits, PlanFitsIfAny, Fits}
+use Rattle.pb_check.specs.Spelling.{PlanFits, PlanFitsIfAny, Fits, HasWidthOf}
 use Rattle.pb_check.proofs.Callers.{gives_accepted}
 use Rattle.pb_cert.specs.Traced.{HasGoal, IsTrace}
 use Rattle.pb_cert.specs.Stated.{SpelledCertificate, text_of}
@@ -61,9 +63,19 @@ module _ (space : Space) (most : ℕ) (proper : IsProper space most) where
       let first = proper.positive from action walk.0 walk.1 walk.3 in
       omega (arith, rest, first, walk.5)
 
--- the text of a valid certificate whose numbers can be stated is accepted, if what it states is
+-- a choice that suits is stated in the version in which it is written
+states_choice : (parts : TaskParts) (choice : Choice) → suits parts choice ≡ true
+    → StatesChoice (version_of choice) choice
+states_choice parts Plain fine = tt
+states_choice parts (Pattern number) fine =
+    let both = and_parts (leb 1 number) (leb number 12) fine in
+    let most = leb-true number 12 both.1 in
+    omega (arith, most)
+
+-- the text of a valid certificate whose numbers can be stated is accepted, if the choice that it
+-- states suits
 text_is_accepted : (parts : TaskParts) (choice : Choice) (certificate : Certificate)
-    → IsTask parts → stated_fault parts (record { choice = choice }) ≡ None
+    → IsTask parts → suits parts choice ≡ true
     → IsValid (space_of parts) (estimate_by parts choice) certificate
     → Fits (width_of parts) certificate
     → checked parts (spelled_text (spelling_of parts choice) certificate)
@@ -74,6 +86,14 @@ text_is_accepted parts choice certificate lawful stated valid fits =
     widths : (1 ≤ width_of parts) × (width_of parts ≤ most_digits)
     widths = let fit = states_fit_their_width parts lawful in (fit.0, fit.1)
 
+    known_width : (choice : Choice) → IsWidthOf (version_of choice) (width_of parts)
+    known_width Plain = widths
+    known_width (Pattern number) = widths
+
+    same_width : (choice : Choice) → HasWidthOf parts (version_of choice) (width_of parts)
+    same_width Plain = refl
+    same_width (Pattern number) = refl
+
     bytes : List ℕ
     bytes = spelled_text (spelling_of parts choice) certificate
 
@@ -81,9 +101,13 @@ text_is_accepted parts choice certificate lawful stated valid fits =
     accepted = record {
       spelling = spelling_of parts choice;
       certificate = certificate;
-      spelled = record { known = widths; text = refl; fits = fits };
+      spelled = record {
+        known = record { width = known_width choice; choice = states_choice parts choice stated };
+        text = refl;
+        fits = fits;
+      };
       kind = refl;
-      width = refl;
+      width = same_width choice;
       stated = stated;
       valid = valid;
       verdict_is = refl;
@@ -244,14 +268,14 @@ module _ (parts : TaskParts) (guide : Guide) (store : Store)
 
   -- the text of a certificate that was made of the rows, at this weight and by this choice
   pub is_certificate : IsTask parts → (choice : Choice) → guide.estimate ≡ estimate_by parts choice
-      → stated_fault parts (record { choice = choice }) ≡ None
+      → suits parts choice ≡ true
       → (weight : Weight) → store.weight ≡ weight → weight.num < 2 ^ 63 → weight.den < 2 ^ 63
       → (c : SpelledCertificate) (plan : Option Plan) (text : List ℕ) → text ≡ text_of c
       → c.spelling ≡ spelling_of parts choice
       → c.certificate.weight ≡ store.weight → c.certificate.plan ≡ plan
       → length c.certificate.lines < 2 ^ 63 → HasLines c → IsValidFor plan c
       → IsPlanOf parts guide store plan
-      → IsCertificateOf parts weight guide store plan text
+      → IsCertificateOf parts choice weight guide store plan text
   is_certificate lawful choice estimates stated weight weighs num den c plan text said spelling w p
       count lines valid best =
       let made : Certificate = certificate_of weight plan c.certificate.lines in
@@ -267,7 +291,6 @@ module _ (parts : TaskParts) (guide : Guide) (store : Store)
       record {
         lines = c.certificate.lines;
         are_lines = home_lines c lines;
-        choice = choice;
         estimates = estimates;
         valid = here;
         text_is = is;

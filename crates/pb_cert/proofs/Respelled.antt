@@ -16,9 +16,11 @@ use Rattle.pb_model.specs.Plan.{Plan}
 use Rattle.pb_model.specs.Weight.{Weight}
 use Rattle.pb_model.specs.Certificate.{Line, Certificate}
 use Rattle.pb_model.specs.Texts.{spaced, line_text}
-use Rattle.pb_estimate.specs.declared.choice.Choice.TheVariants.{Plain}
+use Rattle.pb_estimate.specs.declared.choice.Choice.{Choice}
+use Rattle.pb_estimate.specs.declared.choice.Choice.TheVariants.{Plain, Pattern}
 use Rattle.pb_estimate.specs.declared.spelling.Stated.{Stated}
-use Rattle.pb_estimate.specs.Spelling.{stated_text}
+use Rattle.pb_estimate.specs.declared.spelling.Version.TheVariants.{One}
+use Rattle.pb_estimate.specs.Spelling.{StatesChoice, choice_text, stated_text}
 use Rattle.pb_check.specs.Spelling.{Fits, IsNumber, PlanFitsIfAny}
 use Rattle.pb_cert.specs.Stated.{weight_line, plan_lines, rows_lines}
 use Rattle.pb_cert.specs.Rewritten.{zeros, with_digits, respelled_line}
@@ -167,12 +169,13 @@ rows_respelled width certificate count all =
     ∙ (λ i. all_respelled width certificate.lines all i ++ codes "end" ∷ []) in
     λ i. first_kept i ∷ middle i
 
--- what is stated besides is said in no line
-stated_kept : (width : ℕ) (stated : Stated) → map (respelled_line width) (stated_text stated) ≡ stated_text stated
-stated_kept width stated = go stated.choice
-  where
-    go : (choice : Rattle.pb_estimate.specs.declared.choice.Choice.Choice) → map (respelled_line width) (Rattle.pb_estimate.specs.Spelling.choice_text choice) ≡ Rattle.pb_estimate.specs.Spelling.choice_text choice
-    go Plain = refl
+-- what version 1 states besides is said in no line
+choice_kept : (width : ℕ) (choice : Choice) → StatesChoice One choice → map (respelled_line width) (choice_text choice) ≡ choice_text choice
+choice_kept width Plain states = refl
+choice_kept width (Pattern number) states = absurd states
+
+stated_kept : (width : ℕ) (stated : Stated) → StatesChoice One stated.choice → map (respelled_line width) (stated_text stated) ≡ stated_text stated
+stated_kept width stated states = choice_kept width stated.choice states
 
 -- ---- all lines behind the kind, and behind the width in version 2
 
@@ -180,15 +183,15 @@ abbrev pub rest_lines : (width : ℕ) → Stated → Certificate → List (List 
 rest_lines width stated certificate =
     (stated_text stated ++ weight_line certificate.weight ∷ []) ++ plan_lines certificate.plan ++ rows_lines width certificate
 
-pub rest_respelled : (width : ℕ) (stated : Stated) (certificate : Certificate) → Fits 64 certificate → AllByRecursion (RowFits width) certificate.lines
+pub rest_respelled : (width : ℕ) (stated : Stated) (certificate : Certificate) → StatesChoice One stated.choice → Fits 64 certificate → AllByRecursion (RowFits width) certificate.lines
     → map (respelled_line width) (rest_lines 64 stated certificate) ≡ rest_lines width stated certificate
-rest_respelled width stated certificate fits all =
+rest_respelled width stated certificate states fits all =
     let f : List ℕ → List ℕ = respelled_line width in
     let front : List (List ℕ) = stated_text stated ++ weight_line certificate.weight ∷ [] in
     let weight_long = weight_short certificate.weight fits.weight.0 fits.weight.1 in
     let weight_kept : f (weight_line certificate.weight) ≡ weight_line certificate.weight = kept width (weight_line certificate.weight) (omega (arith, weight_long)) in
     let front_kept : map f front ≡ front =
-    map-append f (stated_text stated) (weight_line certificate.weight ∷ []) ∙ (λ i. stated_kept width stated i ++ weight_kept i ∷ []) in
+    map-append f (stated_text stated) (weight_line certificate.weight ∷ []) ∙ (λ i. stated_kept width stated states i ++ weight_kept i ∷ []) in
     map-append f (front ++ plan_lines certificate.plan) (rows_lines 64 certificate)
     ∙ ap (λ t. t ++ map f (rows_lines 64 certificate)) (map-append f front (plan_lines certificate.plan))
     ∙ (λ i. front_kept i ++ plan_kept width certificate.plan fits.plan i ++ rows_respelled width certificate fits.count all i)

@@ -40,13 +40,12 @@ abbrev pub certificate_of : Weight → Option Plan → List Line → Certificate
 certificate_of weight plan lines = record { weight = weight; plan = plan; lines = lines }
 
 -- The text is that of a certificate of the task, at this weight and with this plan, or with none.
--- Its lines are those of all rows of this store. It states the choice of the estimates that the
--- search looked up. By these it is valid, and its text is accepted, with the plan's cost and bound.
-pub record IsCertificateOf (parts : TaskParts) (weight : Weight) (guide : Guide) (store : Store)
-    (plan : Option Plan) (text : List ℕ) : Type 0 where
+-- Its lines are those of all rows of this store. It states this choice, by which the search looked
+-- up its estimates. By these it is valid, and its text is accepted, with the plan's cost and bound.
+pub record IsCertificateOf (parts : TaskParts) (choice : Choice) (weight : Weight) (guide : Guide)
+    (store : Store) (plan : Option Plan) (text : List ℕ) : Type 0 where
   pub lines : List Line
   pub are_lines : AreLinesOf guide store.rows lines
-  pub choice : Choice
   pub estimates : guide.estimate ≡ estimate_by parts choice
   pub valid : IsValid (space_of parts) (estimate_by parts choice)
       (certificate_of weight plan lines)

@@ -1,5 +1,5 @@
 -- The laws of this crate. Each is proved, as the contract of the public function that has its name.
-use Rattle.std.specs.Prelude.{◌≡◌, ℕ, Option, Some, List, Ok}
+use Rattle.std.specs.Prelude.{◌≡◌, ◌≢◌, ℕ, Option, Some, List, Ok}
 use Rattle.pb_model.specs.Space.{Space}
 use Rattle.pb_model.specs.Weight.{Weight}
 use Rattle.pb_model.specs.Guide.{Guide}
@@ -10,13 +10,13 @@ use Rattle.pb_lists.specs.Store.{store_with, IsPlaced, IsSoundAt}
 use Rattle.pb_task.specs.declared.parts.TaskParts.{TaskParts}
 use Rattle.pb_task.specs.Parts.{IsTask}
 use Rattle.pb_task.specs.Widths.{width_of}
-use Rattle.pb_estimate.specs.declared.spelling.Version.TheVariants.{Two}
+use Rattle.pb_estimate.specs.declared.spelling.Version.TheVariants.{One}
 use Rattle.pb_check.specs.declared.fault.Verdict.{Verdict}
 use Rattle.pb_check.specs.Judging.{checked}
 use Rattle.pb_check.specs.Spelling.{IsSpelled}
 use Rattle.pb_check.specs.Shown.{IsAccepted}
 use Rattle.pb_cert.specs.Traced.{HasGoal}
-use Rattle.pb_cert.specs.Rewritten.{rewritten_text}
+use Rattle.pb_cert.specs.Rewritten.{version_anew, rewritten_text}
 
 -- If a sound store has an incumbent that is shown, a goal has a row. The rows are those of a sound
 -- store: what a trace asks for.
@@ -40,14 +40,17 @@ LinesAreUnique =
     (guide : Guide) (rows : Rows) (lines others : List Line) → AreLinesOf guide rows lines
     → AreLinesOf guide rows others → lines ≡ others
 
--- What is saved anew of an accepted certificate is the text of the same certificate, in version 2
--- and with the width of the task. It is accepted with the same verdict. A text of version 2 stays
--- as it is.
+-- What is saved anew of an accepted certificate is the text of the same certificate, with the width
+-- of the task, and in version 2 if it was in version 1. It is accepted with the same verdict. A text
+-- of version 2 or 3 stays as it is.
 abbrev pub RewrittenTextsAreAccepted : Type 0
 RewrittenTextsAreAccepted =
     (parts : TaskParts) (bytes : List ℕ) (verdict : Verdict) → IsTask parts
     → (accepted : IsAccepted parts bytes verdict)
     → IsSpelled (rewritten_text parts bytes)
-    (record accepted.spelling { version = Two; width = width_of parts }) accepted.certificate
+    (record accepted.spelling {
+      version = version_anew accepted.spelling.version;
+      width = width_of parts;
+    }) accepted.certificate
     × (checked parts (rewritten_text parts bytes) ≡ Ok verdict)
-    × (accepted.spelling.version ≡ Two → rewritten_text parts bytes ≡ bytes)
+    × (accepted.spelling.version ≢ One → rewritten_text parts bytes ≡ bytes)

@@ -80,6 +80,7 @@ fn put_version(version: Version, out: &mut Piece)
     match version {
         Version::One => out.push(b"pbnf-certificate 1\n"),
         Version::Two => out.push(b"pbnf-certificate 2\n"),
+        Version::Three => out.push(b"pbnf-certificate 3\n"),
     }
 }
 
@@ -103,19 +104,20 @@ fn put_width(spelling: &Spelling, _at: u128, out: &mut Piece)
 {
     match spelling.version {
         Version::One => {}
-        Version::Two => put_numbered(b"width", u64::from(spelling.width), out),
+        Version::Two | Version::Three => put_numbered(b"width", u64::from(spelling.width), out),
     }
 }
 
-// Puts a line of what is stated besides at the piece's end, if it is one of them. The plain choice
-// is said in no line.
-fn put_stated(stated: &Stated, _at: u128, _out: &mut Piece)
-    requires room { length _out.old + longest_line ≤ 4096 }
+// Puts a line of what is stated besides at the piece's end, if it is one of them. A pattern is said
+// in one line, and the plain choice in none.
+fn put_stated(stated: &Stated, _at: u128, out: &mut Piece)
+    requires room { length out.old + longest_line ≤ 4096 }
     ensures { _at < length (stated_text stated.now)
-        → PutsLine _out.old _out.new (stated_text stated.now) _at }
+        → PutsLine out.old out.new (stated_text stated.now) _at }
 {
     match &stated.choice {
         Choice::Plain => {}
+        Choice::Pattern(number) => put_numbered(b"pattern", *number, out),
     }
 }
 

@@ -1,5 +1,6 @@
-//! A certificate that was accepted is saved anew, in version 2. No call takes memory.
-ghost use Rattle.std.specs.Prelude.{◌≡◌, ◌+◌, ◌<◌, ◌≤◌, ◌++◌, ℕ, List, ◌∷◌, true, Some, IsOk, IsSome, OnOk, OnErr, length, drop, codes};
+//! A certificate that was accepted is saved anew: one of version 1 in version 2, and one of a later
+//! version as it is. No call takes memory.
+ghost use Rattle.std.specs.Prelude.{◌≡◌, ◌≢◌, ◌+◌, ◌<◌, ◌≤◌, ◌++◌, ℕ, List, ◌∷◌, true, Some, IsOk, IsSome, OnOk, OnErr, length, drop, codes};
 ghost use Rattle.std.specs.Fmt.{decimal};
 ghost use Rattle.pb_packed.specs.Sizes.{most_digits};
 ghost use Rattle.pb_model.specs.Texts.{line, lines, spaced};
@@ -8,7 +9,7 @@ ghost use Rattle.pb_outside.specs.Calls.{KeepsLoads};
 ghost use Rattle.pb_outside.specs.Saves.{IsPartSaved, Saves, SavesPart};
 ghost use Rattle.pb_model.specs.Certificate.{Certificate};
 ghost use Rattle.pb_estimate.specs.declared.spelling.Spelling.{Spelling};
-ghost use Rattle.pb_estimate.specs.declared.spelling.Version.TheVariants.{One, Two};
+ghost use Rattle.pb_estimate.specs.declared.spelling.Version.TheVariants.{One, Three};
 ghost use Rattle.pb_lines.specs.Words.{has_none, line_feeds};
 ghost use Rattle.pb_print.specs.Saved.{longest_line, PutsLine};
 ghost use Rattle.pb_check.specs.declared.fault.Verdict.{Verdict};
@@ -25,9 +26,10 @@ use pb_print::{NumberedLines, Piece, len_of_lines, save_lines};
 use pb_task::{Task, states_fit_their_width};
 use std::marker::Model;
 
-/// A certificate that was accepted, in version 2: the same weight, plan, cost and rows, with as
-/// many digits a state as its task needs. It borrows the bytes that it was read from, which are
-/// read again line by line as it is saved. If they are of version 2, the same bytes are saved.
+/// A certificate that was accepted, as it is saved anew: the same weight, plan, cost and rows, with
+/// as many digits a state as its task needs. It borrows the bytes that it was read from, which are
+/// read again line by line as it is saved. If they are of version 1, version 2 is saved, and else
+/// the same bytes.
 #[derive(Drop)]
 pub struct Rewriting<'a> {
     bytes: &'a [u8],
@@ -71,22 +73,34 @@ fn version_of(bytes: &[u8]) -> Version
     ensures { (spelling : Spelling) (certificate : Certificate)
         → IsSpelled bytes.now spelling certificate → spelling.version ≡ result }
 {
+    match behind(bytes, b"pbnf-certificate 3\n") {
+        Some(_) => Version::Three,
+        None => one_or_two(bytes),
+    }
+}
+
+// Version 2 if the text says it, and else version 1.
+fn one_or_two(bytes: &[u8]) -> Version
+    ensures { (spelling : Spelling) (certificate : Certificate)
+        → IsSpelled bytes.now spelling certificate → spelling.version ≢ Three
+        → spelling.version ≡ result }
+{
     match behind(bytes, b"pbnf-certificate 2\n") {
         Some(_) => Version::Two,
         None => Version::One,
     }
 }
 
-// How many lines a certificate of this version gets in version 2: one for the digits of a state, if
-// it has none.
+// How many lines more a certificate of this version gets: one for the digits of a state, if it has
+// none.
 fn lines_more(from: Version) -> usize
     ensures one { from ≡ One → result ≡ 1 }
-    ensures none { from ≡ Two → result ≡ 0 }
+    ensures none { from ≢ One → result ≡ 0 }
     ensures few { result ≤ 1 }
 {
     match from {
         Version::One => 1,
-        Version::Two => 0,
+        Version::Two | Version::Three => 0,
     }
 }
 
@@ -164,8 +178,8 @@ fn put_width(width: u32, out: &mut Piece)
 }
 
 impl<'a> Rewriting<'a> {
-    /// The certificate that these bytes spell, in version 2. They must have been accepted for this
-    /// task.
+    /// The certificate that these bytes spell, as it is saved anew. They must have been accepted for
+    /// this task.
     pub fn of(task: &Task, bytes: &'a [u8]) -> Rewriting<'a>
         requires { (verdict : Verdict) × IsAccepted task.now bytes.now verdict }
         ensures { text_saved result ≡ rewritten_text task.now bytes.now }
@@ -204,9 +218,9 @@ impl<'a> Rewriting<'a> {
         }
     }
 
-    // Puts the line of a number of a certificate that was read in version 2.
-    fn put_from_2(&self, at: u128, begin: &mut usize, out: &mut Piece)
-        requires version { self.now.from ≡ Two }
+    // Puts the line of a number of a certificate that was read in version 2 or 3: the same line.
+    fn put_same(&self, at: u128, begin: &mut usize, out: &mut Piece)
+        requires version { self.now.from ≢ One }
         requires within { at < length (lines_saved self.now) }
         requires room { length out.old + longest_line ≤ 4096 }
         requires begins { Begins self.now at begin.old }
@@ -216,15 +230,15 @@ impl<'a> Rewriting<'a> {
         put_text(next_line(self.bytes, begin), out);
     }
 
-    /// How many bytes the text in version 2 has. It takes no memory.
+    /// How many bytes the text that is saved has. It takes no memory.
     pub fn len(&self) -> u128
         ensures { result ≡ length (text_saved self.now) }
     {
         len_of_lines(self)
     }
 
-    /// Saves the text in version 2 as the file of this name, in pieces of whole lines, each of at
-    /// most 4,096 bytes. It takes no memory. An error is a fault of the shelf.
+    /// Saves the text as the file of this name, in pieces of whole lines, each of at most 4,096
+    /// bytes. It takes no memory. An error is a fault of the shelf.
     pub fn write_to<H: Shelf>(&self, shelf: &mut H, name: &str) -> Result<(), Failed>
         ensures ok { OnOk result (IfTold (H.files shelf.old) (H.files shelf.new)
             (λ old new. new name.now ≡ Some (text_saved self.now))) }
@@ -246,7 +260,7 @@ impl<'a> Rewriting<'a> {
     }
 }
 
-/// The lines of the text in version 2.
+/// The lines of the text that is saved.
 impl NumberedLines for Rewriting<'_> {
     ghost text = { text_saved };
 
@@ -261,13 +275,14 @@ impl NumberedLines for Rewriting<'_> {
     fn put_line(&self, at: u128, begin: &mut usize, out: &mut Piece) {
         match self.from {
             Version::One => self.put_from_1(at, begin, out),
-            Version::Two => self.put_from_2(at, begin, out),
+            Version::Two | Version::Three => self.put_same(at, begin, out),
         }
     }
 }
 
-/// Saves the certificate that these bytes spell in version 2 as the file of this name. They must
-/// have been accepted for this task. It takes no memory. An error is a fault of the shelf.
+/// Saves the certificate that these bytes spell anew, as the file of this name: in version 2 if they
+/// are of version 1, and else the same bytes. They must have been accepted for this task. It takes
+/// no memory. An error is a fault of the shelf.
 pub fn rewrite_to<H: Shelf>(
     task: &Task,
     bytes: &[u8],

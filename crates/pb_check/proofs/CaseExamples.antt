@@ -1,5 +1,5 @@
 -- Which fault comes first, for a few texts and for rows of a corridor of three cells.
-use Rattle.std.proofs.Common.{◌≡◌, ℕ, ◌+◌, ◌-◌, true, false, if◌then◌else◌, nat_lt, ◌==◌, Option, None, Some, List, [], ◌∷◌, ◌++◌, codes, Err, refl}
+use Rattle.std.proofs.Common.{◌≡◌, ℕ, ◌+◌, ◌-◌, true, false, if◌then◌else◌, nat_lt, ◌==◌, Option, None, Some, List, [], ◌∷◌, ◌++◌, codes, Ok, Err, refl}
 use Rattle.pb_model.specs.declared.row.Estimate.TheVariants.{Cost}
 use Rattle.pb_model.specs.Space.{Space}
 use Rattle.pb_model.specs.Plan.{Plan}
@@ -7,12 +7,14 @@ use Rattle.pb_model.specs.Certificate.{Line}
 use Rattle.pb_task.specs.declared.parts.TaskParts.{TaskParts}
 use Rattle.pb_task.specs.declared.parts.TaskParts.TheVariants as parts
 use Rattle.pb_task.specs.declared.parts.GridParts.{GridParts}
-use Rattle.pb_estimate.specs.declared.spelling.Version.TheVariants.{One, Two}
+use Rattle.pb_task.specs.declared.kind.Kind.TheVariants.{Grid}
+use Rattle.pb_estimate.specs.declared.choice.Choice.TheVariants.{Plain, Pattern}
+use Rattle.pb_estimate.specs.declared.spelling.Version.TheVariants.{One, Two, Three}
 use Rattle.pb_check.specs.declared.fault.CertificateFault.{CertificateFault}
 use Rattle.pb_check.specs.declared.fault.CertificateFault.TheVariants as faults
 use Rattle.pb_lines.specs.Words.{place_of, behind, number_after}
-use Rattle.pb_check.specs.Reading.{version_at, version_in, kind_at, kind_in, width_at, width_in, stated_at, head_at, weight_at, weight_in, row_in, text_of}
-use Rattle.pb_check.specs.Judging.{width_fault, walk, plan_fault, order_fault, rows_order_fault, first_fault_by, state_fault, g_of, steps_fault, row_fault, checked}
+use Rattle.pb_check.specs.Reading.{version_at, version_in, kind_at, kind_in, width_at, width_line_at, width_in, number_at, stated_at, suiting, stated_choice, head_at, weight_at, weight_in, row_in, text_of}
+use Rattle.pb_check.specs.Judging.{width_fault, stated_fault, walk, plan_fault, order_fault, rows_order_fault, first_fault_by, state_fault, g_of, steps_fault, row_fault, checked}
 use Rattle.pb_check.specs.Cases.{IsStepFault, EndsElsewhere, IsCostFault}
 
 -- ---- texts
@@ -37,32 +39,32 @@ another_kind : (parts : TaskParts)
 unfolding checked text_of head_at version_at version_in kind_at kind_in place_of behind
 another_kind parts = refl
 
-third_version : (parts : TaskParts)
-    → checked parts (codes "pbnf-certificate 3" ++ 10 ∷ codes "kind grid" ++ 10 ∷ [])
+fourth_version : (parts : TaskParts)
+    → checked parts (codes "pbnf-certificate 4" ++ 10 ∷ codes "kind grid" ++ 10 ∷ [])
     ≡ Err (faults.Syntax 1)
 unfolding checked text_of head_at version_at version_in place_of behind
-third_version parts = refl
+fourth_version parts = refl
 
 -- version 2 says how many digits a state has, before the weight
 no_width : (parts : TaskParts)
     → checked parts (codes "pbnf-certificate 2" ++ 10 ∷ codes "kind grid" ++ 10 ∷ codes "weight 1 1"
     ++ 10 ∷ [])
     ≡ Err (faults.Syntax 3)
-unfolding checked text_of head_at version_at version_in kind_at kind_in width_at width_in place_of behind
+unfolding checked text_of head_at version_at version_in kind_at kind_in width_at width_line_at width_in place_of behind
 no_width parts = refl
 
 width_of_nought : (parts : TaskParts)
     → checked parts (codes "pbnf-certificate 2" ++ 10 ∷ codes "kind grid" ++ 10 ∷ codes "width 0"
     ++ 10 ∷ [])
     ≡ Err (faults.Syntax 3)
-unfolding checked text_of head_at version_at version_in kind_at kind_in width_at width_in place_of behind number_after
+unfolding checked text_of head_at version_at version_in kind_at kind_in width_at width_line_at width_in place_of behind number_after
 width_of_nought parts = refl
 
 width_above_all : (parts : TaskParts)
     → checked parts (codes "pbnf-certificate 2" ++ 10 ∷ codes "kind grid" ++ 10 ∷ codes "width 257"
     ++ 10 ∷ [])
     ≡ Err (faults.Syntax 3)
-unfolding checked text_of head_at version_at version_in kind_at kind_in width_at width_in place_of behind number_after
+unfolding checked text_of head_at version_at version_in kind_at kind_in width_at width_line_at width_in place_of behind number_after
 width_above_all parts = refl
 
 -- a text of version 1 says nothing of the digits
@@ -73,6 +75,74 @@ width_in_version_1 : (parts : TaskParts)
 unfolding checked text_of head_at version_at version_in kind_at kind_in width_at stated_at weight_at weight_in place_of behind
 width_in_version_1 parts = refl
 
+-- version 3 says the digits too, and then the number of a pattern
+third_version : (parts : TaskParts)
+    → checked parts (codes "pbnf-certificate 3" ++ 10 ∷ codes "kind grid" ++ 10 ∷ [])
+    ≡ Err (faults.Syntax 3)
+unfolding checked text_of head_at version_at version_in kind_at kind_in width_at width_line_at place_of behind
+third_version parts = refl
+
+width_of_nought_in_version_3 : (parts : TaskParts)
+    → checked parts (codes "pbnf-certificate 3" ++ 10 ∷ codes "kind grid" ++ 10 ∷ codes "width 0"
+    ++ 10 ∷ [])
+    ≡ Err (faults.Syntax 3)
+unfolding checked text_of head_at version_at version_in kind_at kind_in width_at width_line_at width_in place_of behind number_after
+width_of_nought_in_version_3 parts = refl
+
+no_pattern : (parts : TaskParts)
+    → checked parts (codes "pbnf-certificate 3" ++ 10 ∷ codes "kind grid" ++ 10 ∷ codes "width 6"
+    ++ 10 ∷ codes "weight 1 1" ++ 10 ∷ [])
+    ≡ Err (faults.Syntax 4)
+unfolding checked text_of head_at version_at version_in kind_at kind_in width_at width_line_at width_in stated_at number_at place_of behind number_after
+no_pattern parts = refl
+
+-- the head of a certificate of a map, of a search by the pattern of number 3
+abbrev pub head_3 : List ℕ
+head_3 =
+    codes "pbnf-certificate 3" ++ 10 ∷ codes "kind grid" ++ 10 ∷ codes "width 6"
+    ++ 10 ∷ codes "pattern 3" ++ 10 ∷ []
+
+third_head : head_at (head_3 ++ codes "weight 1 1" ++ 10 ∷ [])
+    ≡ Ok (
+      record { kind = Grid; version = Three; width = 6; stated = record { choice = Pattern 3 } },
+      codes "weight 1 1" ++ 10 ∷ [],
+    )
+unfolding head_at version_at version_in kind_at kind_in width_at width_line_at width_in stated_at number_at place_of behind number_after
+third_head = refl
+
+stated_pattern : stated_choice head_3 ≡ Pattern 3
+unfolding head_at version_at version_in kind_at kind_in width_at width_line_at width_in stated_at number_at place_of behind number_after
+stated_pattern = refl
+
+-- the line of the weight is line 5
+no_weight : (parts : TaskParts) → checked parts head_3 ≡ Err (faults.Syntax 5)
+unfolding checked text_of head_at version_at version_in kind_at kind_in width_at width_line_at width_in stated_at number_at weight_at place_of behind number_after
+no_weight parts = refl
+
+-- ---- the number of a pattern
+
+first_pattern : (parts : TaskParts) → stated_fault parts (record { choice = Pattern 1 }) ≡ None
+first_pattern parts = refl
+
+last_pattern : (parts : TaskParts) → stated_fault parts (record { choice = Pattern 12 }) ≡ None
+last_pattern parts = refl
+
+pattern_of_nought : (parts : TaskParts)
+    → stated_fault parts (record { choice = Pattern 0 }) ≡ Some faults.Pattern
+pattern_of_nought parts = refl
+
+pattern_above_all : (parts : TaskParts)
+    → stated_fault parts (record { choice = Pattern 13 }) ≡ Some faults.Pattern
+pattern_above_all parts = refl
+
+great_pattern : (parts : TaskParts)
+    → stated_fault parts (record { choice = Pattern 4611686018427387904 }) ≡ Some faults.Pattern
+great_pattern parts = refl
+
+-- an estimator is made by no such number
+unsuited : suiting (Pattern 13) ≡ Plain
+unsuited = refl
+
 -- ---- the digits of a state
 
 as_the_task : (parts : TaskParts) (width : ℕ) → width_fault parts One width ≡ None
@@ -81,6 +151,10 @@ as_the_task parts width = refl
 six_on_a_grid : (grid : GridParts)
     → width_fault (parts.Grid grid) Two 7 ≡ Some (faults.Width 7 6)
 six_on_a_grid grid = refl
+
+as_in_version_2 : (grid : GridParts)
+    → width_fault (parts.Grid grid) Three 7 ≡ Some (faults.Width 7 6)
+as_in_version_2 grid = refl
 
 -- a state has no fewer digits than the text says
 no_fewer_digits : row_in 7 9 (codes "000802 3 closed") ≡ Err (faults.Syntax 9)

@@ -1,6 +1,7 @@
 -- A fault is reported only in its case.
-use Rattle.std.proofs.Common.{◌≡◌, ◌⊎◌, inl, inr, ℕ, zero, suc, ◌+◌, ◌<◌, ◌≤◌, Bool, true, false, cond, eqb, ltb, leb, Option, None, Some, List, [], ◌∷◌, ◌++◌, length, All, Contains, Result, Ok, Err, refl, sym, ap, ◌∙◌, subst, arith, IsTrue, IsFalse}
+use Rattle.std.proofs.Common.{◌≡◌, ◌≢◌, ◌⊎◌, ◌&&◌, inl, inr, ℕ, zero, suc, ◌+◌, ◌<◌, ◌≤◌, Bool, true, false, cond, eqb, ltb, leb, Option, None, Some, List, [], ◌∷◌, ◌++◌, length, All, Contains, Result, Ok, Err, refl, sym, ap, ◌∙◌, subst, arith, IsTrue, IsFalse}
 use Rattle.std.proofs.lemmas.Option.{same_Some}
+use Rattle.std.proofs.lemmas.Bool.{and_from, le-leb}
 use Rattle.std.proofs.lemmas.Bool.Decides.{nat_tests}
 use Rattle.std.proofs.lemmas.List.Elements.{All-nil, All-cons}
 use Rattle.pb_model.specs.declared.row.Estimate.{Estimate}
@@ -14,19 +15,19 @@ use Rattle.pb_task.specs.Kinds.{kind_of}
 use Rattle.pb_task.specs.Widths.{width_of}
 use Rattle.pb_task.proofs.Callers.{tasks_are_proper}
 use Rattle.pb_estimate.specs.declared.choice.Choice.{Choice}
-use Rattle.pb_estimate.specs.declared.choice.Choice.TheVariants.{Plain}
+use Rattle.pb_estimate.specs.declared.choice.Choice.TheVariants.{Plain, Pattern}
 use Rattle.pb_estimate.specs.declared.spelling.Spelling.{Spelling}
 use Rattle.pb_estimate.specs.declared.spelling.Version.{Version}
-use Rattle.pb_estimate.specs.declared.spelling.Version.TheVariants.{One, Two}
-use Rattle.pb_estimate.specs.Estimates.{estimate_by}
+use Rattle.pb_estimate.specs.declared.spelling.Version.TheVariants.{One, Two, Three}
+use Rattle.pb_estimate.specs.Estimates.{estimate_by, suits}
 use Rattle.pb_check.specs.declared.fault.CertificateFault.{CertificateFault}
 use Rattle.pb_check.specs.declared.fault.CertificateFault.TheVariants as faults
 use Rattle.pb_check.specs.declared.fault.Verdict.{Verdict}
 use Rattle.pb_check.specs.Faults.{◌>>=◌}
 use Rattle.pb_check.specs.Reading.{Text, first_line, text_of}
 use Rattle.pb_check.specs.Spelling.{IsSpelled, HasWidthOf}
-use Rattle.pb_check.specs.Judging.{passes, or_then, unless, same_kind, width_fault, choice_fault, stated_fault, is_weight, after_step, walk, plan_fault, plan_fault_if_any, AreAbove, order_fault, rows_order_fault, first_fault_by, state_fault, g_of, is_zero, target_fault, step_fault, steps_fault, may_be_cut, row_fault, verdict_of, judged, checked}
-use Rattle.pb_check.specs.Cases.{IsSaid, IsForTask, HasWeight, HasPlan, HasOrder, HasStates, HasStart, IsStepFault, EndsElsewhere, IsCostFault, HasFault, IsOutOfOrder, IsNoState, MayBeCutRow, IsSoundRow, IsFirstUnsound, IsSuccessorFault, HasNoRow, HasRowAbove, IsCaseOf, RefusalsHaveTheirCase}
+use Rattle.pb_check.specs.Judging.{passes, or_then, unless, same_kind, width_fault, stated_fault, is_weight, after_step, walk, plan_fault, plan_fault_if_any, AreAbove, order_fault, rows_order_fault, first_fault_by, state_fault, g_of, is_zero, target_fault, step_fault, steps_fault, may_be_cut, row_fault, verdict_of, judged, checked}
+use Rattle.pb_check.specs.Cases.{IsSaid, HasFormOf, IsForTask, HasWeight, HasPlan, HasOrder, HasStates, HasStart, IsStepFault, EndsElsewhere, IsCostFault, HasFault, IsOutOfOrder, IsNoState, MayBeCutRow, IsSoundRow, IsFirstUnsound, IsSuccessorFault, HasNoRow, HasRowAbove, IsCaseOf, RefusalsHaveTheirCase}
 use Rattle.pb_check.proofs.Finding.{order_rises}
 use Rattle.pb_check.proofs.Validity.{holds, kinds_same, width_suits, weighs, walks, planned_if_any, ascends, each, has_row, starts, on_target, step_passes, closed_row, cut_row}
 use Rattle.pb_check.proofs.Completeness.{kind_same, same_number, weight_ok, rises, found, zero_ok, may_ok}
@@ -279,6 +280,26 @@ no_row (first ∷ rows) state none row at same =
         (let equal : eqb first.state state ≡ true = grind (arith, is_first, same, nat_tests) in
         never (eqb first.state state) equal is)
     go rest (suc i, lt, there) false is none = rest none (i, omega (arith, lt), there)
+
+-- ---- what is stated besides
+
+two_not_one : ◌≡◌ {A = Version} Two One → ⊥
+two_not_one e = cc
+
+three_not_one : ◌≡◌ {A = Version} Three One → ⊥
+three_not_one e = cc
+
+-- a choice that doesn't suit a task is a pattern whose number is not from 1 to 12
+unsuited : (parts : TaskParts) (choice : Choice) → suits parts choice ≡ false
+    → (number : ℕ) × (choice ≡ Pattern number) × ((1 ≤ number) × (number ≤ 12) → ⊥)
+unsuited parts Plain unfit = absurd (never true refl unfit)
+unsuited parts (Pattern number) unfit = (
+  number,
+  refl,
+  λ both.
+      never (leb 1 number && leb number 12)
+      (and_from (leb 1 number) (leb number 12) (le-leb _ _ both.0) (le-leb _ _ both.1)) unfit,
+)
 
 -- ---- all together
 
@@ -708,19 +729,23 @@ module _ (parts : TaskParts) (lawful : IsTask parts) (bytes : List ℕ) (text : 
       go (inr (none, e)) =
           from_weight (has, weighs weight (holds (is_weight weight) faults.Weight none)) e
 
-  -- nothing that a text states besides is a fault
-  stated_none : stated_fault parts text.spelling.stated ≡ None
-  stated_none = go text.spelling.stated.choice
-    where
-      go : (choice : Choice) → choice_fault parts choice ≡ None
-      go Plain = refl
+  -- the number of a pattern is stated, and is not from 1 to 12
+  pattern_case : HasFormOf parts text.spelling
+      → stated_fault parts text.spelling.stated ≡ Some fault → Case fault
+  pattern_case has e =
+      let two = unmet (suits parts text.spelling.stated.choice) faults.Pattern fault e in
+      subst Case two.1 (
+        text.spelling,
+        text.certificate,
+        spelled,
+        (has, unsuited parts text.spelling.stated.choice two.0),
+      )
 
-  -- the digits that version 2 states are not those of the task's states
-  width_case : text.spelling.kind ≡ kind_of parts → (version : Version)
-      → text.spelling.version ≡ version
-      → width_fault parts version text.spelling.width ≡ Some fault → Case fault
-  width_case is One version_is e = absurd (none_some None fault refl e)
-  width_case is Two version_is e =
+  -- the digits that a text states are not those of the task's states
+  said_width_case : text.spelling.kind ≡ kind_of parts → text.spelling.version ≢ One
+      → unless (eqb text.spelling.width (width_of parts))
+      (faults.Width text.spelling.width (width_of parts)) ≡ Some fault → Case fault
+  said_width_case is states e =
       let two = unmet (eqb text.spelling.width (width_of parts))
       (faults.Width text.spelling.width (width_of parts)) fault e in
       subst Case two.1 (
@@ -729,7 +754,7 @@ module _ (parts : TaskParts) (lawful : IsTask parts) (bytes : List ℕ) (text : 
         spelled,
         (
           is,
-          version_is,
+          states,
           refl,
           refl,
           λ same.
@@ -737,6 +762,15 @@ module _ (parts : TaskParts) (lawful : IsTask parts) (bytes : List ℕ) (text : 
               (ap (λ (w : ℕ). eqb w (width_of parts)) same ∙ same_number (width_of parts)) two.0,
         ),
       )
+
+  width_case : text.spelling.kind ≡ kind_of parts → (version : Version)
+      → text.spelling.version ≡ version
+      → width_fault parts version text.spelling.width ≡ Some fault → Case fault
+  width_case is One version_is e = absurd (none_some None fault refl e)
+  width_case is Two version_is e =
+      said_width_case is (λ one. two_not_one (sym version_is ∙ one)) e
+  width_case is Three version_is e =
+      said_width_case is (λ one. three_not_one (sym version_is ∙ one)) e
 
   judged_case : judged parts text ≡ Err fault → Case fault
   unfolding judged
@@ -749,9 +783,9 @@ module _ (parts : TaskParts) (lawful : IsTask parts) (bytes : List ℕ) (text : 
           → (stated_fault parts text.spelling.stated ≡ Some fault)
           ⊎ ((stated_fault parts text.spelling.stated ≡ None) × (after_stated ≡ Err fault))
           → Case fault
-      stated is wide (inl e) =
-          absurd (none_some (stated_fault parts text.spelling.stated) fault stated_none e)
-      stated is wide (inr (none, e)) = from_stated (is, wide, none) e
+      stated is wide (inl e) = pattern_case (is, wide) e
+      stated is wide (inr (none, e)) =
+          from_stated ((is, wide), holds (suits parts text.spelling.stated.choice) faults.Pattern none) e
 
       width : text.spelling.kind ≡ kind_of parts
           → (width_fault parts text.spelling.version text.spelling.width ≡ Some fault)

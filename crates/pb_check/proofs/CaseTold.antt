@@ -1,6 +1,6 @@
 -- In its case a fault is reported.
-use Rattle.std.proofs.Common.{◌≡◌, ◌≢◌, ℕ, zero, suc, ◌+◌, ◌<◌, Bool, true, false, cond, eqb, ltb, leb, Option, None, Some, List, [], ◌∷◌, ◌++◌, length, All, Result, Ok, Err, refl, sym, ap, ◌∙◌, arith, IsTrue, IsFalse}
-use Rattle.std.proofs.lemmas.Bool.{eqb-true}
+use Rattle.std.proofs.Common.{◌≡◌, ◌≢◌, ◌&&◌, ℕ, zero, suc, ◌+◌, ◌<◌, Bool, true, false, cond, eqb, ltb, leb, Option, None, Some, List, [], ◌∷◌, ◌++◌, length, All, Result, Ok, Err, refl, sym, ap, ◌∙◌, arith, IsTrue, IsFalse}
+use Rattle.std.proofs.lemmas.Bool.{eqb-true, leb-true, and_parts}
 use Rattle.std.proofs.lemmas.Bool.Decides.{nat_tests}
 use Rattle.std.proofs.lemmas.List.Elements.{All-head, All-tail}
 use Rattle.pb_model.specs.declared.row.Estimate.{Estimate}
@@ -12,10 +12,12 @@ use Rattle.pb_task.specs.declared.parts.TaskParts.{TaskParts}
 use Rattle.pb_task.specs.Parts.{space_of, IsTask, greatest_cost}
 use Rattle.pb_task.specs.Kinds.{kind_of}
 use Rattle.pb_task.specs.Widths.{width_of}
-use Rattle.pb_estimate.specs.declared.spelling.Version.TheVariants.{Two}
+use Rattle.pb_estimate.specs.declared.choice.Choice.TheVariants.{Pattern}
+use Rattle.pb_estimate.specs.declared.spelling.Version.{Version}
+use Rattle.pb_estimate.specs.declared.spelling.Version.TheVariants.{One, Two, Three}
 use Rattle.pb_task.proofs.Callers.{tasks_are_proper}
 use Rattle.pb_estimate.specs.declared.spelling.Spelling.{Spelling}
-use Rattle.pb_estimate.specs.Estimates.{estimate_by}
+use Rattle.pb_estimate.specs.Estimates.{estimate_by, suits}
 use Rattle.pb_check.specs.declared.fault.CertificateFault.{CertificateFault}
 use Rattle.pb_check.specs.declared.fault.CertificateFault.TheVariants as faults
 use Rattle.pb_check.specs.declared.fault.Verdict.{Verdict}
@@ -23,7 +25,7 @@ use Rattle.pb_check.specs.Faults.{◌>>=◌}
 use Rattle.pb_check.specs.Reading.{Text, first_line}
 use Rattle.pb_check.specs.Spelling.{IsSpelled}
 use Rattle.pb_check.specs.Judging.{passes, or_then, unless, same_kind, width_fault, stated_fault, is_weight, after_step, walk, plan_fault, plan_fault_if_any, AreAbove, Rise, order_fault, rows_order_fault, first_fault_by, state_fault, g_of, is_zero, target_fault, step_fault, steps_fault, may_be_cut, row_fault, verdict_of, judged, checked}
-use Rattle.pb_check.specs.Cases.{IsForTask, HasWeight, HasPlan, HasOrder, HasStates, HasStart, IsStepFault, EndsElsewhere, IsCostFault, HasFault, IsOutOfOrder, IsNoState, MayBeCutRow, IsSoundRow, IsSuccessorFault, HasNoRow, HasRowAbove, IsCaseOf, CasesAreRefused}
+use Rattle.pb_check.specs.Cases.{HasFormOf, IsForTask, IsPatternFault, HasWeight, HasPlan, HasOrder, HasStates, HasStart, IsStepFault, EndsElsewhere, IsCostFault, HasFault, IsOutOfOrder, IsNoState, MayBeCutRow, IsSoundRow, IsSuccessorFault, HasNoRow, HasRowAbove, IsCaseOf, CasesAreRefused}
 use Rattle.pb_check.proofs.Finding.{equal_at}
 use Rattle.pb_check.proofs.Passes.{steps_end}
 use Rattle.pb_check.proofs.Validity.{kinds_same, weighs, ascends, has_row, starts, cuts}
@@ -206,11 +208,14 @@ module _ (parts : TaskParts) (lawful : IsTask parts) (bytes : List ℕ) (spellin
       ∙ ap (λ b. next (unless b faults.Kind) after_kind)
       (ap (same_kind (kind_of parts)) is ∙ kind_same (kind_of parts))
 
-  to_stated : IsForTask parts spelling → checked parts bytes ≡ after_stated
-  to_stated has =
+  to_width : HasFormOf parts spelling → checked parts bytes ≡ after_width
+  to_width has =
       to_kind has.0
       ∙ ap (λ o. next o after_width) (width_ok parts spelling.version spelling.width has.1)
-      ∙ ap (λ o. next o after_stated) has.2
+
+  to_stated : IsForTask parts spelling → checked parts bytes ≡ after_stated
+  to_stated has =
+      to_width has.0 ∙ ap (λ b. next (unless b faults.Pattern) after_stated) has.1
 
   to_weight : HasWeight parts spelling certificate → checked parts bytes ≡ after_weight
   to_weight has =
@@ -252,17 +257,35 @@ module _ (parts : TaskParts) (lawful : IsTask parts) (bytes : List ℕ) (spellin
       (not_yes (same_kind (kind_of parts) spelling.kind)
       (λ met. refuted (kinds_same (kind_of parts) spelling.kind met)))
 
-  width_told : (said wanted : ℕ) → spelling.kind ≡ kind_of parts → spelling.version ≡ Two
+  -- from version 2 on the digits that are stated are compared
+  width_fault_is : (version : Version) → version ≢ One → width_fault parts version spelling.width
+      ≡ unless (eqb spelling.width (width_of parts))
+      (faults.Width spelling.width (width_of parts))
+  width_fault_is One states = absurd (states refl)
+  width_fault_is Two states = refl
+  width_fault_is Three states = refl
+
+  width_told : (said wanted : ℕ) → spelling.kind ≡ kind_of parts → spelling.version ≢ One
       → said ≡ spelling.width → wanted ≡ width_of parts → said ≢ wanted
       → checked parts bytes ≡ Err (faults.Width said wanted)
-  width_told said wanted is version said_is wanted_is differ =
+  width_told said wanted is states said_is wanted_is differ =
       to_kind is
-      ∙ ap (λ v. next (width_fault parts v spelling.width) after_width) version
+      ∙ ap (λ o. next o after_width) (width_fault_is spelling.version states)
       ∙ ap (λ b. next (unless b (faults.Width spelling.width (width_of parts))) after_width)
       (not_yes (eqb spelling.width (width_of parts))
       (λ same. differ (said_is ∙ eqb-true _ _ same ∙ sym wanted_is)))
       ∙ ap (λ (w : ℕ). Err (faults.Width w (width_of parts))) (sym said_is)
       ∙ ap (λ (w : ℕ). Err (faults.Width said w)) (sym wanted_is)
+
+  pattern_told : HasFormOf parts spelling → IsPatternFault spelling
+      → checked parts bytes ≡ Err faults.Pattern
+  pattern_told has (number, choice_is, outside) =
+      to_width has
+      ∙ ap (λ b. next (unless b faults.Pattern) after_stated)
+      (ap (suits parts) choice_is
+      ∙ not_yes (leb 1 number && leb number 12) (λ met.
+      let both = and_parts (leb 1 number) (leb number 12) met in
+      outside (leb-true _ _ both.0, leb-true _ _ both.1)))
 
   weight_told : IsForTask parts spelling → (IsWeight weight → ⊥)
       → checked parts bytes ≡ Err faults.Weight
@@ -442,6 +465,8 @@ cases_are_refused parts bytes fault lawful is = go fault is
     go (faults.Width said wanted) (spelling, certificate, spelled, (is, version, said_is, wanted_is, differ)) =
         width_told parts lawful bytes spelling certificate spelled said wanted is version said_is
         wanted_is differ
+    go faults.Pattern (spelling, certificate, spelled, (has, bad)) =
+        pattern_told parts lawful bytes spelling certificate spelled has bad
     go faults.Weight (spelling, certificate, spelled, (has, refuted)) =
         weight_told parts lawful bytes spelling certificate spelled has refuted
     go (faults.PlanStep i) (spelling, certificate, spelled, (has, one, is, bad)) =

@@ -1,5 +1,5 @@
 -- What a verdict on a valid certificate says of the space.
-use Rattle.std.proofs.Common.{mul_comm, ◌≡◌, ℕ, ◌+◌, ◌-◌, ◌*◌, ◌/◌, ◌<◌, ◌≤◌, true, Option, None, Some, List, Result, Ok, Err, refl, sym, subst, arith}
+use Rattle.std.proofs.Common.{mul_comm, cond, ap, ◌≡◌, ℕ, ◌+◌, ◌-◌, ◌*◌, ◌/◌, ◌<◌, ◌≤◌, true, Option, None, Some, List, Result, Ok, Err, refl, sym, subst, arith}
 use Rattle.std.specs.Prelude.{IfOk}
 use Rattle.std.proofs.Math.Nat.{div-lt_iff_lt-mul, lt-div-mul-add}
 use Rattle.pb_model.specs.Space.{Space}
@@ -10,12 +10,15 @@ use Rattle.pb_model.proofs.Callers.{valid_certificates_hold}
 use Rattle.pb_task.specs.declared.parts.TaskParts.{TaskParts}
 use Rattle.pb_task.specs.Parts.{space_of, IsTask}
 use Rattle.pb_estimate.specs.declared.choice.Choice.{Choice}
-use Rattle.pb_estimate.specs.declared.choice.Choice.TheVariants.{Plain}
+use Rattle.pb_estimate.specs.declared.choice.Choice.TheVariants.{Plain, Pattern}
 use Rattle.pb_estimate.specs.Estimates.{estimate_by, suits}
 use Rattle.pb_estimate.proofs.Callers.{estimates_are_admissible}
 use Rattle.pb_check.specs.declared.fault.Verdict.{Verdict}
 use Rattle.pb_check.specs.declared.fault.CheckError.{CheckError}
-use Rattle.pb_check.specs.Judging.{choice_fault, StatedChoicesSuit, verdict_of, bound_of}
+use Rattle.pb_check.specs.declared.fault.CertificateFault.TheVariants as faults
+use Rattle.pb_check.specs.Reading.{suiting}
+use Rattle.pb_check.specs.Judging.{StatedChoicesSuit, unless, verdict_of, bound_of}
+use Rattle.pb_check.proofs.Validity.{holds as passes_if}
 use Rattle.pb_check.specs.Shown.{IsAccepted, ShowsClaim, VerdictHolds, BoundsAreLeast}
 
 bounded : (weight : Weight) (cost other : ℕ) → IsWeight weight → weight.den * cost ≤ weight.num * other → bound_of weight cost ≤ other
@@ -30,17 +33,25 @@ holds : (space : Space) (weight : Weight) (plan : Option Plan) → IsWeight weig
 holds space weight None is claim = claim
 holds space weight (Some plan) is claim = ((plan, claim.0, refl), λ other also. bounded weight plan.cost other.cost is (claim.1 other also))
 
--- what is stated without a fault suits the task
+-- a choice that suits a task suits each
+pub suiting_is : (parts : TaskParts) (choice : Choice) → suits parts choice ≡ true → suiting choice ≡ choice
+suiting_is parts Plain fine = refl
+suiting_is parts (Pattern number) fine = ap (λ b. cond b (Pattern number) Plain) fine
+
+-- what is stated is no fault if and only if it suits the task
 pub stated_choices_suit : StatedChoicesSuit
-stated_choices_suit parts stated none = go stated.choice none
-  where
-    go : (choice : Choice) → choice_fault parts choice ≡ None → suits parts choice ≡ true
-    go Plain none = refl
+stated_choices_suit parts stated = (
+  (
+    passes_if (suits parts stated.choice) faults.Pattern,
+    λ fine. ap (λ b. unless b faults.Pattern) fine,
+  ),
+  suiting_is parts stated.choice,
+)
 
 shown : (parts : TaskParts) (bytes : List ℕ) (verdict : Verdict) → IsTask parts → IsAccepted parts bytes verdict → ShowsClaim parts bytes verdict
 shown parts bytes verdict lawful is =
     let choice = is.spelling.stated.choice in
-    let admissible = estimates_are_admissible parts choice lawful (stated_choices_suit parts is.spelling.stated is.stated) in
+    let admissible = estimates_are_admissible parts choice lawful is.stated in
     record {
       spelling = is.spelling;
       certificate = is.certificate;

@@ -20,8 +20,8 @@ use Rattle.pb_task.specs.Parts.{space_of}
 use Rattle.pb_task.specs.Kinds.{kind_of}
 use Rattle.pb_task.specs.Widths.{width_of}
 use Rattle.pb_estimate.specs.declared.spelling.Version.{Version}
-use Rattle.pb_estimate.specs.declared.spelling.Version.TheVariants.{One, Two}
-use Rattle.pb_estimate.specs.Estimates.{estimate_by}
+use Rattle.pb_estimate.specs.declared.spelling.Version.TheVariants.{One, Two, Three}
+use Rattle.pb_estimate.specs.Estimates.{estimate_by, suits}
 use Rattle.pb_check.specs.declared.fault.CertificateFault.{CertificateFault}
 use Rattle.pb_check.specs.declared.fault.CertificateFault.TheVariants as faults
 use Rattle.pb_check.specs.declared.fault.Verdict.{Verdict}
@@ -42,11 +42,15 @@ kind_same Strips = refl
 pub same_number : (n : ℕ) → eqb n n ≡ true
 same_number n = grind (arith, nat_tests)
 
+same_width_ok : (width wanted : ℕ) → width ≡ wanted → unless (eqb width wanted) (faults.Width width wanted) ≡ None
+same_width_ok width wanted is =
+    ap (λ (w : ℕ). unless (eqb w wanted) (faults.Width w wanted)) is
+    ∙ ap (λ b. unless b (faults.Width wanted wanted)) (same_number wanted)
+
 pub width_ok : (parts : TaskParts) (version : Version) (width : ℕ) → HasWidthOf parts version width → width_fault parts version width ≡ None
 width_ok parts One width is = refl
-width_ok parts Two width is =
-    ap (λ (w : ℕ). unless (eqb w (width_of parts)) (faults.Width w (width_of parts))) is
-    ∙ ap (λ b. unless b (faults.Width (width_of parts) (width_of parts))) (same_number (width_of parts))
+width_ok parts Two width is = same_width_ok width (width_of parts) is
+width_ok parts Three width is = same_width_ok width (width_of parts) is
 
 pub weight_ok : (weight : Weight) → IsWeight weight → is_weight weight ≡ true
 weight_ok weight w = and_from (leb 1 weight.den) (leb weight.den weight.num && leb weight.num 1000) (le-leb _ _ w.positive) (and_from (leb weight.den weight.num) (leb weight.num 1000) (le-leb _ _ w.at_least_one) (le-leb _ _ w.small))
@@ -147,7 +151,7 @@ module _ (space : Space) (estimate : ℕ → Estimate) (weight : Weight) (best :
 
 -- ---- all together
 
-judged_ok : (parts : TaskParts) (text : Text) → text.spelling.kind ≡ kind_of parts → HasWidthOf parts text.spelling.version text.spelling.width → stated_fault parts text.spelling.stated ≡ None → IsValid (space_of parts) (estimate_by parts text.spelling.stated.choice) text.certificate
+judged_ok : (parts : TaskParts) (text : Text) → text.spelling.kind ≡ kind_of parts → HasWidthOf parts text.spelling.version text.spelling.width → suits parts text.spelling.stated.choice ≡ true → IsValid (space_of parts) (estimate_by parts text.spelling.stated.choice) text.certificate
     → judged parts text ≡ Ok (verdict_of text.certificate.weight text.certificate.plan)
 unfolding judged
 judged_ok parts text is wide stated valid =
@@ -160,7 +164,7 @@ judged_ok parts text is wide stated valid =
     let s = found lines rise space.start 0 valid.start in
     let e1 : same_kind (kind_of parts) text.spelling.kind ≡ true = ap (same_kind (kind_of parts)) is ∙ kind_same (kind_of parts) in
     let ew : passes (width_fault parts text.spelling.version text.spelling.width) ≡ Ok true = ap passes (width_ok parts text.spelling.version text.spelling.width wide) in
-    let e0 : passes (stated_fault parts text.spelling.stated) ≡ Ok true = ap passes stated in
+    let e0 : passes (stated_fault parts text.spelling.stated) ≡ Ok true = ap (λ b. passes (unless b faults.Pattern)) stated in
     let e2 : is_weight weight ≡ true = weight_ok weight valid.weight in
     let e3 : plan_fault_if_any space text.certificate.plan ≡ Ok true = plan_ok_if_any space text.certificate.plan valid.plan in
     let e4 : rows_order_fault text.first lines ≡ None = rows_order_ok text.first lines rise in

@@ -9,11 +9,11 @@ use Rattle.pb_model.specs.Plan.{Plan}
 use Rattle.pb_model.specs.Certificate.{Line}
 use Rattle.pb_task.specs.declared.kind.Kind.{Kind}
 use Rattle.pb_task.specs.declared.parts.TaskParts.{TaskParts}
-use Rattle.pb_estimate.specs.declared.choice.Choice.TheVariants.{Plain}
+use Rattle.pb_estimate.specs.declared.choice.Choice.TheVariants.{Plain, Pattern}
 use Rattle.pb_estimate.specs.declared.spelling.Stated.{Stated}
 use Rattle.pb_estimate.specs.declared.spelling.Spelling.{Spelling}
 use Rattle.pb_estimate.specs.declared.spelling.Version.{Version}
-use Rattle.pb_estimate.specs.declared.spelling.Version.TheVariants.{One, Two}
+use Rattle.pb_estimate.specs.declared.spelling.Version.TheVariants.{One, Two, Three}
 use Rattle.pb_estimate.specs.Spelling.{width_text, stated_text, head_lines}
 use Rattle.pb_check.specs.declared.fault.CertificateFault.{CertificateFault}
 use Rattle.pb_check.specs.declared.fault.CertificateFault.TheVariants.{Syntax}
@@ -21,7 +21,7 @@ use Rattle.pb_check.specs.declared.fault.CheckError.{CheckError}
 use Rattle.pb_check.specs.declared.fault.Verdict.{Verdict}
 use Rattle.pb_lines.specs.Words.{part, is_text, has_none, line_feeds}
 use Rattle.pb_check.specs.Faults.{◌>>=◌, wanted, Gives}
-use Rattle.pb_check.specs.Reading.{line_at, number_behind, version_in, kind_in, width_in, weight_in, row_in, fixed_at, number_at, version_at, kind_at, width_at, stated_at, head_at, weight_at, row_at, actions_at, rows_at, steps_at, plan_at, plan_lines, weight_line, first_line, Text, end_at, body_at, text_of}
+use Rattle.pb_check.specs.Reading.{line_at, number_behind, version_in, kind_in, width_in, weight_in, row_in, fixed_at, number_at, version_at, kind_at, width_line_at, width_at, stated_at, head_at, weight_at, row_at, actions_at, rows_at, steps_at, plan_at, plan_lines, weight_line, first_line, Text, end_at, body_at, text_of}
 use Rattle.pb_check.specs.Judging.{judged, checked}
 use Rattle.pb_check.specs.Shown.{IsCutOff, CutCertificatesAreRefused}
 use Rattle.pb_lines.proofs.Callers.{part_is, part_none, part_again, one_feed, no_feed}
@@ -328,22 +328,32 @@ kind_step line = line_step (λ kind. 1) (λ kind. 0) line
     (λ first. kind_in line first.0 >>= λ kind. Ok (kind, first.1)) (λ kind. refl)
     (λ first. word_step (line + 1) (kind_in line first))
 
+width_line_step : (line : ℕ) → IsStep (λ width. 1) line (width_line_at line)
+unfolding width_line_at
+width_line_step line = line_step (λ width. 1) (λ width. 0) line
+    (λ first. width_in line first.0 >>= λ width. Ok (width, first.1)) (λ width. refl)
+    (λ first. word_step (line + 1) (width_in line first))
+
 -- the digits of a state are read in as many lines as they are said in
 width_step : (version : Version) (line : ℕ)
     → IsStep (λ width. length (width_text version width)) line (width_at version line)
 unfolding width_at
 width_step One line = given_step (λ width. length (width_text One width)) line version_1_digits refl
-width_step Two line =
-    line_step (λ width. length (width_text Two width)) (λ width. 0) line
-    (λ first. width_in line first.0 >>= λ width. Ok (width, first.1)) (λ width. refl)
-    (λ first. word_step (line + 1) (width_in line first))
+width_step Two line = width_line_step line
+width_step Three line = width_line_step line
 
 -- what is stated is read in as many lines as it is said in
-stated_step : (line : ℕ)
-    → IsStep (λ (stated : Stated). length (stated_text stated)) line (stated_at line)
+stated_step : (version : Version) (line : ℕ)
+    → IsStep (λ (stated : Stated). length (stated_text stated)) line (stated_at version line)
 unfolding stated_at
-stated_step line = given_step (λ (stated : Stated). length (stated_text stated)) line
+stated_step One line = given_step (λ (stated : Stated). length (stated_text stated)) line
     (record { choice = Plain }) refl
+stated_step Two line = given_step (λ (stated : Stated). length (stated_text stated)) line
+    (record { choice = Plain }) refl
+stated_step Three line =
+    named_step (λ n. 1) (λ (stated : Stated). length (stated_text stated))
+    (λ n. record { choice = Pattern n }) (λ n. refl) line (number_at line (codes "pattern "))
+    (number_step line (codes "pattern "))
 
 -- how many lines say the digits of a state and what is stated besides
 abbrev pub stated_lines : Spelling → ℕ
@@ -353,7 +363,7 @@ stated_lines spelling =
 abbrev pub width_then : Version → Kind → List ℕ → Result (Spelling × List ℕ) CertificateFault
 width_then version kind text =
     width_at version 3 text
-    >>= λ width. stated_at (3 + length (width_text version width.0)) width.1
+    >>= λ width. stated_at version (3 + length (width_text version width.0)) width.1
     >>= λ stated. Ok (spelling_with version kind width.0 stated.0, stated.1)
 
 abbrev pub kind_then : Version → List ℕ → Result (Spelling × List ℕ) CertificateFault
@@ -366,8 +376,8 @@ width_then_step version kind =
     (λ (stated : Stated). length (stated_text stated)) stated_lines (spelling_with version kind)
     (λ width stated. length-append (width_text version width) (stated_text stated)) 3
     (width_at version 3)
-    (λ width text. stated_at (3 + length (width_text version width)) text) (width_step version 3)
-    (λ width. stated_step (3 + length (width_text version width)))
+    (λ width text. stated_at version (3 + length (width_text version width)) text)
+    (width_step version 3) (λ width. stated_step version (3 + length (width_text version width)))
 
 kind_then_step : (version : Version)
     → IsStep (λ (spelling : Spelling). 1 + stated_lines spelling) 2 (kind_then version)

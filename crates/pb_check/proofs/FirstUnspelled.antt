@@ -13,11 +13,11 @@ use Rattle.pb_model.specs.Certificate.{Line}
 use Rattle.pb_model.specs.Texts as texts
 use Rattle.pb_task.specs.declared.kind.Kind.{Kind}
 use Rattle.pb_task.specs.declared.kind.Kind.TheVariants.{Grid, Tiles, Strips}
-use Rattle.pb_estimate.specs.declared.choice.Choice.TheVariants.{Plain}
+use Rattle.pb_estimate.specs.declared.choice.Choice.TheVariants.{Plain, Pattern}
 use Rattle.pb_estimate.specs.declared.spelling.Stated.{Stated}
 use Rattle.pb_estimate.specs.declared.spelling.Spelling.{Spelling}
 use Rattle.pb_estimate.specs.declared.spelling.Version.{Version}
-use Rattle.pb_estimate.specs.declared.spelling.Version.TheVariants.{One, Two}
+use Rattle.pb_estimate.specs.declared.spelling.Version.TheVariants.{One, Two, Three}
 use Rattle.pb_estimate.specs.Spelling.{version_line, kind_line, width_text, stated_text, head_lines}
 use Rattle.pb_lines.specs.Words.{part, behind, is_text, number_of, has_none, line_feeds}
 use Rattle.pb_lines.proofs.Callers.{part_is, part_none, no_feed, none_both, number_word, number_none, text_again}
@@ -25,7 +25,7 @@ use Rattle.pb_check.specs.declared.fault.CertificateFault.{CertificateFault}
 use Rattle.pb_check.specs.declared.fault.CertificateFault.TheVariants.{Syntax}
 use Rattle.pb_check.specs.Faults.{◌>>=◌, wanted}
 use Rattle.pb_check.specs.Words.{state_of}
-use Rattle.pb_check.specs.Reading.{line_at, number_behind, version_in, kind_in, width_in, weight_in, closed_in, row_in, fixed_at, number_at, version_at, kind_at, width_at, stated_at, head_at, weight_at, row_at, actions_at, rows_at, steps_at, plan_at, plan_lines, weight_line, Text, end_at, body_at, text_of}
+use Rattle.pb_check.specs.Reading.{line_at, number_behind, version_in, kind_in, width_in, weight_in, closed_in, row_in, fixed_at, number_at, version_at, kind_at, width_line_at, width_at, stated_at, head_at, weight_at, row_at, actions_at, rows_at, steps_at, plan_at, plan_lines, weight_line, Text, end_at, body_at, text_of}
 use Rattle.pb_check.specs.Spelling.{IsSpelled}
 use Rattle.pb_check.specs.Cases.{IsSyntaxFault}
 use Rattle.pb_check.proofs.Cuts.{after_unnamed, stated_lines, width_then, kind_then, lines_of, later_lines, text_with, one_more}
@@ -52,8 +52,11 @@ at_version : (line : ℕ) (text : List ℕ) → IsAt line (version_in line text)
 unfolding version_in
 at_version line text =
     at_either line (is_text (version_line One) text) (Ok One)
-    (cond (is_text (version_line Two) text) (Ok Two) (Err (Syntax line))) (at_ok line One)
-    (at_test line (is_text (version_line Two) text) Two)
+    (cond (is_text (version_line Two) text) (Ok Two)
+    (cond (is_text (version_line Three) text) (Ok Three) (Err (Syntax line)))) (at_ok line One)
+    (at_either line (is_text (version_line Two) text) (Ok Two)
+    (cond (is_text (version_line Three) text) (Ok Three) (Err (Syntax line))) (at_ok line Two)
+    (at_test line (is_text (version_line Three) text) Three))
 
 at_width : (line : ℕ) (text : List ℕ) → IsAt line (width_in line text)
 unfolding width_in
@@ -131,14 +134,19 @@ version_reader line =
     word_reader line (version_in line) (at_version line) (version_line One) One (version_none One)
     (version_again line One)
 
+width_line_reader : (line : ℕ) → IsReader (λ width. 1) line (width_line_at line)
+unfolding width_line_at
+width_line_reader line =
+    word_reader line (width_in line) (at_width line) (width_words 1) 1
+    (width_none 1 (omega arith, omega arith)) (width_again line 1 (omega arith, omega arith))
+
 width_reader : (version : Version) (line : ℕ)
     → IsReader (λ width. length (width_text version width)) line (width_at version line)
 unfolding width_at
 width_reader One line =
     given (λ width. length (width_text One width)) line version_1_digits refl
-width_reader Two line =
-    word_reader line (width_in line) (at_width line) (width_words 1) 1
-    (width_none 1 (omega arith, omega arith)) (width_again line 1 (omega arith, omega arith))
+width_reader Two line = width_line_reader line
+width_reader Three line = width_line_reader line
 
 kind_reader : (line : ℕ) → IsReader (λ kind. 1) line (kind_at line)
 unfolding kind_at
@@ -146,11 +154,17 @@ kind_reader line =
     word_reader line (kind_in line) (at_kind line) (kind_line Grid) Grid (kind_none Grid)
     (kind_again line Grid)
 
-stated_reader : (line : ℕ)
-    → IsReader (λ (stated : Stated). length (stated_text stated)) line (stated_at line)
+stated_reader : (version : Version) (line : ℕ)
+    → IsReader (λ (stated : Stated). length (stated_text stated)) line (stated_at version line)
 unfolding stated_at
-stated_reader line = given (λ (stated : Stated). length (stated_text stated)) line
+stated_reader One line = given (λ (stated : Stated). length (stated_text stated)) line
     (record { choice = Plain }) refl
+stated_reader Two line = given (λ (stated : Stated). length (stated_text stated)) line
+    (record { choice = Plain }) refl
+stated_reader Three line =
+    named_reader (λ n. 1) (λ (stated : Stated). length (stated_text stated))
+    (λ n. record { choice = Pattern n }) (λ n. refl) line (number_at line (codes "pattern "))
+    (number_reader line (codes "pattern ") refl)
 
 weight_reader : (line : ℕ) → IsReader (λ weight. 1) line (weight_at line)
 unfolding weight_at
@@ -243,8 +257,9 @@ width_then_reader version kind =
     (λ (stated : Stated). length (stated_text stated)) stated_lines (spelling_with version kind)
     (λ width stated. length-append (width_text version width) (stated_text stated)) 3
     (width_at version 3)
-    (λ width text. stated_at (3 + length (width_text version width)) text)
-    (width_reader version 3) (λ width. stated_reader (3 + length (width_text version width)))
+    (λ width text. stated_at version (3 + length (width_text version width)) text)
+    (width_reader version 3)
+    (λ width. stated_reader version (3 + length (width_text version width)))
 
 kind_then_reader : (version : Version)
     → IsReader (λ (spelling : Spelling). 1 + stated_lines spelling) 2 (kind_then version)

@@ -13,19 +13,19 @@ use Rattle.pb_model.specs.Texts as texts
 use Rattle.pb_task.specs.declared.kind.Kind.{Kind}
 use Rattle.pb_task.specs.declared.kind.Kind.TheVariants.{Grid, Tiles, Strips}
 use Rattle.pb_estimate.specs.declared.choice.Choice.{Choice}
-use Rattle.pb_estimate.specs.declared.choice.Choice.TheVariants.{Plain}
+use Rattle.pb_estimate.specs.declared.choice.Choice.TheVariants.{Plain, Pattern}
 use Rattle.pb_estimate.specs.declared.spelling.Stated.{Stated}
 use Rattle.pb_estimate.specs.declared.spelling.Spelling.{Spelling}
 use Rattle.pb_estimate.specs.declared.spelling.Version.{Version}
-use Rattle.pb_estimate.specs.declared.spelling.Version.TheVariants.{One, Two}
-use Rattle.pb_estimate.specs.Spelling.{IsWidthOf, IsSpelling, version_line, kind_line, width_text, choice_text, stated_text, head_of}
+use Rattle.pb_estimate.specs.declared.spelling.Version.TheVariants.{One, Two, Three}
+use Rattle.pb_estimate.specs.Spelling.{IsWidthOf, StatesChoice, IsSpelling, version_line, kind_line, width_text, choice_text, stated_text, head_of}
 use Rattle.pb_check.specs.declared.fault.CertificateFault.{CertificateFault}
 use Rattle.pb_check.specs.declared.fault.CertificateFault.TheVariants.{Syntax}
 use Rattle.pb_lines.specs.Words.{part, behind, is_text, number_of, has_none}
 use Rattle.pb_lines.proofs.Callers.{IsNumberWord, number_word, number_word_read, number_has_none, none_both, part_again, behind_again, text_again}
 use Rattle.pb_check.specs.Words.{hex_value, hex_after, state_of}
 use Rattle.pb_check.specs.Faults.{◌>>=◌, wanted}
-use Rattle.pb_check.specs.Reading.{line_at, number_behind, version_in, kind_in, width_in, weight_in, closed_in, row_in, fixed_at, number_at, version_at, kind_at, width_at, stated_at, head_at, weight_at, row_at, actions_at, rows_at, steps_at, plan_at, plan_lines, weight_line, first_line, Text, end_at, body_at, text_of}
+use Rattle.pb_check.specs.Reading.{line_at, number_behind, version_in, kind_in, width_in, weight_in, closed_in, row_in, fixed_at, number_at, version_at, kind_at, width_line_at, width_at, stated_at, head_at, weight_at, row_at, actions_at, rows_at, steps_at, plan_at, plan_lines, weight_line, first_line, Text, end_at, body_at, text_of}
 use Rattle.pb_check.proofs.Lines.{hex_value_after, IsStateWord, BeginsWith, BeginsWithNumber, closed_text, spelling_with, IsWeightLine, IsRowLine, AreActionLines, AreRowLines, ArePlanLines, Spells}
 use Rattle.pb_check.proofs.Spelled.{head_then, one_line, others_then}
 
@@ -98,12 +98,14 @@ pub version_again : (line : ℕ) (version : Version) → version_in line (versio
 unfolding version_in behind
 version_again line One = refl
 version_again line Two = refl
+version_again line Three = refl
 
 pub version_none : (version : Version) → has_none 10 (version_line version) ≡ true
 version_none One = refl
 version_none Two = refl
+version_none Three = refl
 
--- the words of a line that says the digits of a state, in version 2
+-- the words of a line that says the digits of a state, from version 2 on
 abbrev pub width_words : (width : ℕ) → List ℕ
 width_words width = codes "width " ++ decimal width
 
@@ -216,19 +218,35 @@ body_again width line text row_part end_line rows count are end =
 
 -- ---- the head
 
-stated_again : (line : ℕ) (text : List ℕ) (stated : Stated) (rest : List ℕ) → text ≡ texts.lines (stated_text stated) ++ rest → stated_at line text ≡ Ok (stated, rest)
+abbrev fine_choice : Choice → (rest : List ℕ) → Result (Stated × List ℕ) CertificateFault
+fine_choice choice rest = Ok (record { choice = choice }, rest)
+
+-- a choice is read again in the version that states it
+choice_again : (version : Version) (line : ℕ) (text : List ℕ) (choice : Choice) (rest : List ℕ) → StatesChoice version choice → text ≡ texts.lines (choice_text choice) ++ rest → stated_at version line text ≡ fine_choice choice rest
 unfolding stated_at
-stated_again line text stated rest is = go stated.choice is
-  where
-    go : (choice : Choice) → text ≡ texts.lines (choice_text choice) ++ rest → ◌≡◌ {A = Result (Stated × List ℕ) CertificateFault} (Ok (record { choice = Plain }, text)) (Ok (record { choice = choice }, rest))
-    go Plain is = ap (λ (t : List ℕ). fine (record { choice = Plain }, t)) is
+choice_again One line text Plain rest states is = ap (fine_choice Plain) is
+choice_again Two line text Plain rest states is = ap (fine_choice Plain) is
+choice_again Three line text (Pattern number) rest states is =
+    ap (λ r. r >>= λ n. fine_choice (Pattern n.0) n.1)
+    (number_line_again line (codes "pattern ") text number rest refl (decimal number, number_word (decimal number) number refl states, is ∙ one_line (codes "pattern " ++ decimal number) rest))
+choice_again One line text (Pattern number) rest states is = absurd states
+choice_again Two line text (Pattern number) rest states is = absurd states
+choice_again Three line text Plain rest states is = absurd states
+
+stated_again : (version : Version) (line : ℕ) (text : List ℕ) (stated : Stated) (rest : List ℕ) → StatesChoice version stated.choice → text ≡ texts.lines (stated_text stated) ++ rest → stated_at version line text ≡ Ok (stated, rest)
+stated_again version line text stated rest states is = choice_again version line text stated.choice rest states is
+
+said_width_again : (width line : ℕ) (text rest : List ℕ) → IsWidthOf Two width → text ≡ texts.lines (width_text Two width) ++ rest → width_line_at line text ≡ Ok (width, rest)
+unfolding width_line_at
+said_width_again width line text rest known is =
+    ap (λ r. r >>= λ first. width_in line first.0 >>= λ w. fine (w, first.1)) (line_again line text (width_words width) rest (is ∙ one_line (width_words width) rest) (width_none width known))
+    ∙ ap (λ r. r >>= λ w. fine (w, rest)) (width_again line width known)
 
 width_line_again : (version : Version) (width line : ℕ) (text rest : List ℕ) → IsWidthOf version width → text ≡ texts.lines (width_text version width) ++ rest → width_at version line text ≡ Ok (width, rest)
 unfolding width_at
 width_line_again One width line text rest known is = ap (λ (t : List ℕ). fine (version_1_digits, t)) is ∙ ap (λ (w : ℕ). fine (w, rest)) (sym known)
-width_line_again Two width line text rest known is =
-    ap (λ r. r >>= λ first. width_in line first.0 >>= λ w. fine (w, first.1)) (line_again line text (width_words width) rest (is ∙ one_line (width_words width) rest) (width_none width known))
-    ∙ ap (λ r. r >>= λ w. fine (w, rest)) (width_again line width known)
+width_line_again Two width line text rest known is = said_width_again width line text rest known is
+width_line_again Three width line text rest known is = said_width_again width line text rest known is
 
 pub head_again : (text : List ℕ) (spelling : Spelling) (rest : List ℕ) → IsSpelling spelling → text ≡ texts.lines (head_of spelling) ++ rest → head_at text ≡ Ok (spelling, rest)
 unfolding head_at version_at kind_at
@@ -250,11 +268,11 @@ head_again text spelling rest known is =
     let second : kind_at 2 behind_version ≡ Ok (kind, behind_kind) =
     ap (λ r. r >>= λ first. kind_in 2 first.0 >>= λ kind. fine (kind, first.1)) (line_again 2 behind_version (kind_line kind) behind_kind refl (kind_none kind))
     ∙ ap (λ r. r >>= λ kind. fine (kind, behind_kind)) (kind_again 2 kind) in
-    let third : width_at version 3 behind_kind ≡ Ok (width, behind_width) = width_line_again version width 3 behind_kind behind_width known refl in
-    ap (λ r. r >>= λ v. kind_at 2 v.1 >>= λ k. width_at v.0 3 k.1 >>= λ w. stated_at (3 + length (width_text v.0 w.0)) w.1 >>= λ s. fine (spelling_with v.0 k.0 w.0 s.0, s.1)) first
-    ∙ ap (λ r. r >>= λ k. width_at version 3 k.1 >>= λ w. stated_at (3 + length (width_text version w.0)) w.1 >>= λ s. fine (spelling_with version k.0 w.0 s.0, s.1)) second
-    ∙ ap (λ r. r >>= λ w. stated_at (3 + length (width_text version w.0)) w.1 >>= λ s. fine (spelling_with version kind w.0 s.0, s.1)) third
-    ∙ ap (λ r. r >>= λ s. fine (spelling_with version kind width s.0, s.1)) (stated_again line behind_width stated rest refl)
+    let third : width_at version 3 behind_kind ≡ Ok (width, behind_width) = width_line_again version width 3 behind_kind behind_width known.width refl in
+    ap (λ r. r >>= λ v. kind_at 2 v.1 >>= λ k. width_at v.0 3 k.1 >>= λ w. stated_at v.0 (3 + length (width_text v.0 w.0)) w.1 >>= λ s. fine (spelling_with v.0 k.0 w.0 s.0, s.1)) first
+    ∙ ap (λ r. r >>= λ k. width_at version 3 k.1 >>= λ w. stated_at version (3 + length (width_text version w.0)) w.1 >>= λ s. fine (spelling_with version k.0 w.0 s.0, s.1)) second
+    ∙ ap (λ r. r >>= λ w. stated_at version (3 + length (width_text version w.0)) w.1 >>= λ s. fine (spelling_with version kind w.0 s.0, s.1)) third
+    ∙ ap (λ r. r >>= λ s. fine (spelling_with version kind width s.0, s.1)) (stated_again version line behind_width stated rest known.choice refl)
 
 pub readable : (bytes : List ℕ) (text : Text) → Spells bytes text → text_of bytes ≡ Ok text
 unfolding text_of weight_at

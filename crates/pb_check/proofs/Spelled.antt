@@ -13,19 +13,21 @@ use Rattle.pb_model.specs.Certificate.{Line}
 use Rattle.pb_model.specs.Texts as texts
 use Rattle.pb_task.specs.declared.kind.Kind.{Kind}
 use Rattle.pb_task.specs.declared.kind.Kind.TheVariants.{Grid, Tiles, Strips}
-use Rattle.pb_estimate.specs.declared.choice.Choice.TheVariants.{Plain}
+use Rattle.pb_estimate.specs.declared.choice.Choice.TheVariants.{Plain, Pattern}
 use Rattle.pb_estimate.specs.declared.spelling.Stated.{Stated}
 use Rattle.pb_estimate.specs.declared.spelling.Spelling.{Spelling}
 use Rattle.pb_estimate.specs.declared.spelling.Version.{Version}
-use Rattle.pb_estimate.specs.declared.spelling.Version.TheVariants.{One, Two}
-use Rattle.pb_estimate.specs.Spelling.{IsWidthOf, IsSpelling, version_line, kind_line, width_text, stated_text, head_of}
+use Rattle.pb_estimate.specs.declared.spelling.Version.TheVariants.{One, Two, Three}
+use Rattle.pb_estimate.specs.Spelling.{IsWidthOf, StatesChoice, IsSpelling, version_line, kind_line, width_text, stated_text, head_of}
 use Rattle.pb_check.specs.declared.fault.CertificateFault.{CertificateFault}
 use Rattle.pb_check.specs.declared.fault.CertificateFault.TheVariants.{Syntax}
 use Rattle.pb_lines.specs.Words.{part, behind, is_text, number_of}
 use Rattle.pb_lines.proofs.Callers.{IsNumberWord, number_word_of, number_word_is, if_some, part_is, behind_is, text_is}
 use Rattle.pb_check.specs.Words.{hex_value, hex_after, state_of}
-use Rattle.pb_check.specs.Faults.{◌>>=◌, wanted}
-use Rattle.pb_check.specs.Reading.{line_at, number_behind, version_in, kind_in, width_in, weight_in, closed_in, row_in, fixed_at, number_at, version_at, kind_at, width_at, stated_at, head_at, weight_at, row_at, actions_at, rows_at, steps_at, plan_at, plan_lines, weight_line, first_line, Text, end_at, body_at, stated_choice, choice_in, text_of}
+use Rattle.pb_check.specs.declared.fault.CheckError.{CheckError}
+use Rattle.pb_check.specs.declared.fault.CheckError.TheVariants as errors
+use Rattle.pb_check.specs.Faults.{◌>>=◌, wanted, Fails, IsFault}
+use Rattle.pb_check.specs.Reading.{line_at, number_behind, version_in, kind_in, width_in, weight_in, closed_in, row_in, fixed_at, number_at, version_at, kind_at, width_line_at, width_at, stated_at, head_at, weight_at, row_at, actions_at, rows_at, steps_at, plan_at, plan_lines, weight_line, first_line, Text, end_at, body_at, suiting, stated_choice, choice_in, text_of}
 use Rattle.pb_check.proofs.Lines.{hex_value_after, IsStateWord, BeginsWith, BeginsWithNumber, closed_text, spelling_with, IsWeightLine, IsRowLine, AreActionLines, AreRowLines, ArePlanLines, Spells}
 
 pub bind_ok : {A B : Type 0} (r : Result A CertificateFault) (f : A → Result B CertificateFault) (y : B) → (r >>= f) ≡ Ok y → (x : A) × (r ≡ Ok x) × (f x ≡ Ok y)
@@ -109,12 +111,13 @@ kind_is line text k e = go (is_text (kind_line Grid) text) (is_text (kind_line T
 
 version_is : (line : ℕ) (text : List ℕ) (v : Version) → version_in line text ≡ Ok v → text ≡ version_line v
 unfolding version_in
-version_is line text v e = go (is_text (version_line One) text) (is_text (version_line Two) text) refl refl e
+version_is line text v e = go (is_text (version_line One) text) (is_text (version_line Two) text) (is_text (version_line Three) text) refl refl refl e
   where
-    go : (a b : Bool) → is_text (version_line One) text ≡ a → is_text (version_line Two) text ≡ b → cond a (Ok One) (cond b (Ok Two) (Err (Syntax line))) ≡ Ok v → text ≡ version_line v
-    go true b x y e = text_is (version_line One) text x ∙ ap version_line (ok_is One v e)
-    go false true x y e = text_is (version_line Two) text y ∙ ap version_line (ok_is Two v e)
-    go false false x y e = absurd cc
+    go : (a b c : Bool) → is_text (version_line One) text ≡ a → is_text (version_line Two) text ≡ b → is_text (version_line Three) text ≡ c → cond a (Ok One) (cond b (Ok Two) (cond c (Ok Three) (Err (Syntax line)))) ≡ Ok v → text ≡ version_line v
+    go true b c x y z e = text_is (version_line One) text x ∙ ap version_line (ok_is One v e)
+    go false true c x y z e = text_is (version_line Two) text y ∙ ap version_line (ok_is Two v e)
+    go false false true x y z e = text_is (version_line Three) text z ∙ ap version_line (ok_is Three v e)
+    go false false false x y z e = absurd cc
 
 width_is : (line : ℕ) (text : List ℕ) (n : ℕ) → width_in line text ≡ Ok n → (text ≡ codes "width " ++ decimal n) × IsWidthOf Two n
 unfolding width_in
@@ -186,15 +189,20 @@ lines_both (x ∷ xs) ys = ap (λ (t : List ℕ). texts.line x ++ t) (lines_both
 pub others_then : (some others : List (List ℕ)) (rest : List ℕ) → texts.lines (some ++ others) ++ rest ≡ texts.lines some ++ (texts.lines others ++ rest)
 others_then some others rest = ap (λ (t : List ℕ). t ++ rest) (lines_both some others) ∙ append_assoc (texts.lines some) (texts.lines others) rest
 
-width_line_is : (version : Version) (line : ℕ) (text : List ℕ) (x : ℕ × List ℕ) → width_at version line text ≡ Ok x → (text ≡ texts.lines (width_text version x.0) ++ x.1) × IsWidthOf version x.0
-unfolding width_at
-width_line_is One line text x e = subst (λ (y : ℕ × List ℕ). (text ≡ texts.lines (width_text One y.0) ++ y.1) × IsWidthOf One y.0) (ok_is (version_1_digits, text) x e) (refl, refl)
-width_line_is Two line text x e =
+said_width_is : (line : ℕ) (text : List ℕ) (x : ℕ × List ℕ) → width_line_at line text ≡ Ok x → (text ≡ texts.lines (width_text Two x.0) ++ x.1) × IsWidthOf Two x.0
+unfolding width_line_at
+said_width_is line text x e =
     let b = bind_ok (line_at line text) _ x e in
     let c = bind_ok (width_in line b.0.0) _ x b.2 in
     let w = width_is line b.0.0 c.0 c.1 in
     subst (λ (y : ℕ × List ℕ). (text ≡ texts.lines (width_text Two y.0) ++ y.1) × IsWidthOf Two y.0) (ok_is (c.0, b.0.1) x c.2)
     (line_is line text b.0 b.1 ∙ ap (λ (t : List ℕ). t ++ 10 ∷ b.0.1) w.0 ∙ sym (one_line (codes "width " ++ decimal c.0) b.0.1), w.1)
+
+width_line_is : (version : Version) (line : ℕ) (text : List ℕ) (x : ℕ × List ℕ) → width_at version line text ≡ Ok x → (text ≡ texts.lines (width_text version x.0) ++ x.1) × IsWidthOf version x.0
+unfolding width_at
+width_line_is One line text x e = subst (λ (y : ℕ × List ℕ). (text ≡ texts.lines (width_text One y.0) ++ y.1) × IsWidthOf One y.0) (ok_is (version_1_digits, text) x e) (refl, refl)
+width_line_is Two line text x e = said_width_is line text x e
+width_line_is Three line text x e = said_width_is line text x e
 
 -- two lines, other lines, and what follows
 pub head_then : (first second others rest : List ℕ) → (texts.line first ++ (texts.line second ++ others)) ++ rest ≡ first ++ 10 ∷ (second ++ 10 ∷ (others ++ rest))
@@ -203,9 +211,19 @@ head_then first second others rest =
     ∙ ap (λ (t : List ℕ). texts.line first ++ t) (append_assoc (texts.line second) others rest ∙ append_assoc second (10 ∷ []) (others ++ rest))
     ∙ append_assoc first (10 ∷ []) (second ++ 10 ∷ (others ++ rest))
 
-stated_is : (line : ℕ) (text : List ℕ) (x : Stated × List ℕ) → stated_at line text ≡ Ok x → text ≡ texts.lines (stated_text x.0) ++ x.1
+-- what is stated is read of its lines, and is of the version
+abbrev AreStatedLines : Version → (text : List ℕ) → Stated × List ℕ → Type 0
+AreStatedLines version text x = (text ≡ texts.lines (stated_text x.0) ++ x.1) × StatesChoice version x.0.choice
+
+stated_is : (version : Version) (line : ℕ) (text : List ℕ) (x : Stated × List ℕ) → stated_at version line text ≡ Ok x → AreStatedLines version text x
 unfolding stated_at
-stated_is line text x e = subst (λ (y : Stated × List ℕ). text ≡ texts.lines (stated_text y.0) ++ y.1) (ok_is (record { choice = Plain }, text) x e) refl
+stated_is One line text x e = subst (AreStatedLines One text) (ok_is (record { choice = Plain }, text) x e) (refl, tt)
+stated_is Two line text x e = subst (AreStatedLines Two text) (ok_is (record { choice = Plain }, text) x e) (refl, tt)
+stated_is Three line text x e =
+    let b = bind_ok (number_at line (codes "pattern ") text) _ x e in
+    let w = number_line_is line (codes "pattern ") text b.0 b.1 in
+    subst (AreStatedLines Three text) (ok_is (record { choice = Pattern b.0.0 }, b.0.1) x b.2)
+    (w.2 ∙ ap (λ (t : List ℕ). (codes "pattern " ++ t) ++ 10 ∷ b.0.1) (number_word_is w.0 b.0.0 w.1) ∙ sym (one_line (codes "pattern " ++ decimal b.0.0) b.0.1), w.1.small)
 
 pub head_is : (text : List ℕ) (x : Spelling × List ℕ) → head_at text ≡ Ok x → (text ≡ texts.lines (head_of x.0) ++ x.1) × IsSpelling x.0
 unfolding head_at
@@ -214,18 +232,19 @@ head_is text x e =
     let b = bind_ok (kind_at 2 a.0.1) _ x a.2 in
     let w = bind_ok (width_at a.0.0 3 b.0.1) _ x b.2 in
     let line = 3 + length (width_text a.0.0 w.0.0) in
-    let c = bind_ok (stated_at line w.0.1) _ x w.2 in
+    let c = bind_ok (stated_at a.0.0 line w.0.1) _ x w.2 in
     let made : Spelling = spelling_with a.0.0 b.0.0 w.0.0 c.0.0 in
     let width : List (List ℕ) = width_text a.0.0 w.0.0 in
     let stated : List (List ℕ) = stated_text c.0.0 in
     let wide = width_line_is a.0.0 3 b.0.1 w.0 w.1 in
+    let said = stated_is a.0.0 line w.0.1 c.0 c.1 in
     let behind_kind : b.0.1 ≡ texts.lines (width ++ stated) ++ c.0.1 =
-    wide.0 ∙ ap (λ (t : List ℕ). texts.lines width ++ t) (stated_is line w.0.1 c.0 c.1) ∙ sym (others_then width stated c.0.1) in
+    wide.0 ∙ ap (λ (t : List ℕ). texts.lines width ++ t) said.0 ∙ sym (others_then width stated c.0.1) in
     let is : text ≡ texts.lines (head_of made) ++ c.0.1 =
     version_line_is 1 text a.0 a.1
     ∙ ap (λ (t : List ℕ). version_line a.0.0 ++ 10 ∷ t) (kind_line_is 2 a.0.1 b.0 b.1 ∙ ap (λ (t : List ℕ). kind_line b.0.0 ++ 10 ∷ t) behind_kind)
     ∙ sym (head_then (version_line a.0.0) (kind_line b.0.0) (texts.lines (width ++ stated)) c.0.1) in
-    subst (λ (y : Spelling × List ℕ). (text ≡ texts.lines (head_of y.0) ++ y.1) × IsSpelling y.0) (ok_is (made, c.0.1) x c.2) (is, wide.1)
+    subst (λ (y : Spelling × List ℕ). (text ≡ texts.lines (head_of y.0) ++ y.1) × IsSpelling y.0) (ok_is (made, c.0.1) x c.2) (is, record { width = wide.1; choice = said.1 })
 
 weight_line_is : (line : ℕ) (text : List ℕ) (x : Weight × List ℕ) → weight_at line text ≡ Ok x → (words : List ℕ) × BeginsWith text words x.1 × IsWeightLine words x.0
 unfolding weight_at
@@ -345,7 +364,7 @@ spelled bytes text e =
     })
 
 -- the choice of an estimate that is read of a text is the one that its first lines state
-pub choice_is : (bytes : List ℕ) (text : Text) → text_of bytes ≡ Ok text → stated_choice bytes ≡ text.spelling.stated.choice
+pub choice_is : (bytes : List ℕ) (text : Text) → text_of bytes ≡ Ok text → stated_choice bytes ≡ suiting text.spelling.stated.choice
 unfolding text_of
 choice_is bytes text e =
     let a = bind_ok (head_at bytes) _ text e in
@@ -354,4 +373,9 @@ choice_is bytes text e =
     let c = bind_ok (plan_at (line + 1) b.0.1) _ text b.2 in
     let d = bind_ok (body_at a.0.0.width (line + 1 + plan_lines c.0.0) c.0.1) _ text c.2 in
     ap choice_in a.1
-    ∙ ap (λ (t : Text). t.spelling.stated.choice) (ok_is (record { spelling = a.0.0; certificate = record { weight = b.0.0; plan = c.0.0; lines = d.0 }; first = first_line a.0.0 c.0.0 }) text d.2)
+    ∙ ap (λ (t : Text). suiting t.spelling.stated.choice) (ok_is (record { spelling = a.0.0; certificate = record { weight = b.0.0; plan = c.0.0; lines = d.0 }; first = first_line a.0.0 c.0.0 }) text d.2)
+
+-- a head that can't be read states no choice
+pub no_head : (e : CheckError) (given : Result (Spelling × List ℕ) CertificateFault) → Fails e given → IsFault e → Plain ≡ choice_in given
+no_head errors.Memory given fails told = absurd told
+no_head (errors.Fault fault) given fails told = sym (ap choice_in fails)

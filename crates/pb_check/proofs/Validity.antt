@@ -22,8 +22,8 @@ use Rattle.pb_task.specs.Parts.{space_of}
 use Rattle.pb_task.specs.Kinds.{kind_of}
 use Rattle.pb_task.specs.Widths.{width_of}
 use Rattle.pb_estimate.specs.declared.spelling.Version.{Version}
-use Rattle.pb_estimate.specs.declared.spelling.Version.TheVariants.{One, Two}
-use Rattle.pb_estimate.specs.Estimates.{estimate_by}
+use Rattle.pb_estimate.specs.declared.spelling.Version.TheVariants.{One, Two, Three}
+use Rattle.pb_estimate.specs.Estimates.{estimate_by, suits}
 use Rattle.pb_check.specs.declared.fault.CertificateFault.{CertificateFault}
 use Rattle.pb_check.specs.declared.fault.CertificateFault.TheVariants as faults
 use Rattle.pb_check.specs.declared.fault.Verdict.{Verdict}
@@ -68,6 +68,7 @@ kinds_same Strips Tiles e = absurd cc
 pub width_suits : (parts : TaskParts) (version : Version) (width : ℕ) → width_fault parts version width ≡ None → HasWidthOf parts version width
 width_suits parts One width e = tt
 width_suits parts Two width e = eqb-true _ _ (holds (eqb width (width_of parts)) (faults.Width width (width_of parts)) e)
+width_suits parts Three width e = eqb-true _ _ (holds (eqb width (width_of parts)) (faults.Width width (width_of parts)) e)
 
 pub weighs : (weight : Weight) → is_weight weight ≡ true → IsWeight weight
 weighs weight e =
@@ -216,7 +217,7 @@ stated_estimate parts text = estimate_by parts text.spelling.stated.choice
 pub record IsJudged (parts : TaskParts) (text : Text) (verdict : Verdict) : Type 0 where
   pub kind : text.spelling.kind ≡ kind_of parts
   pub width : HasWidthOf parts text.spelling.version text.spelling.width
-  pub stated : stated_fault parts text.spelling.stated ≡ None
+  pub stated : suits parts text.spelling.stated.choice ≡ true
   pub valid : IsValid (space_of parts) (stated_estimate parts text) text.certificate
   pub verdict_is : verdict ≡ verdict_of text.certificate.weight text.certificate.plan
 
@@ -240,7 +241,7 @@ judged_valid parts greatest text verdict proper e =
     let b7 = bind_ok (passes (first_fault_by (row_fault space estimate weight best lines) text.first lines)) _ verdict b6.2 in record {
       kind = kinds_same kind text.spelling.kind (holds (same_kind kind text.spelling.kind) faults.Kind (passed (unless (same_kind kind text.spelling.kind) faults.Kind) b1.0 b1.1));
       width = width_suits parts text.spelling.version text.spelling.width (passed (width_fault parts text.spelling.version text.spelling.width) bw.0 bw.1);
-      stated = passed (stated_fault parts text.spelling.stated) b0.0 b0.1;
+      stated = holds (suits parts text.spelling.stated.choice) faults.Pattern (passed (stated_fault parts text.spelling.stated) b0.0 b0.1);
       valid = record {
         weight = weighs weight (holds (is_weight weight) faults.Weight (passed (unless (is_weight weight) faults.Weight) b2.0 b2.1));
         plan = planned_if_any space text.certificate.plan b3.0 b3.1;

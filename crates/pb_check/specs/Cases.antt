@@ -1,6 +1,6 @@
 -- The case of each refusal, in the words of texts, plans and rows: all that is judged before the
 -- fault is sound, and then comes the fault.
-use Rattle.std.specs.Prelude.{◌≡◌, ◌≢◌, ℕ, ◌+◌, ◌<◌, ◌⊎◌, IsTrue, IsFalse, None, Some, Err, List, [], ◌∷◌, ◌++◌, length, All, Contains}
+use Rattle.std.specs.Prelude.{◌≡◌, ◌≢◌, ℕ, ◌+◌, ◌<◌, ◌≤◌, ◌⊎◌, true, IsTrue, IsFalse, Some, Err, List, [], ◌∷◌, ◌++◌, length, All, Contains}
 use Rattle.pb_model.specs.Space.{Space, Steps}
 use Rattle.pb_model.specs.Weight.{IsWeight}
 use Rattle.pb_model.specs.Plan.{Plan, Walk}
@@ -11,14 +11,15 @@ use Rattle.pb_task.specs.Parts.{space_of, IsTask}
 use Rattle.pb_task.specs.Kinds.{kind_of}
 use Rattle.pb_task.specs.Widths.{width_of}
 use Rattle.pb_estimate.specs.declared.spelling.Spelling.{Spelling}
-use Rattle.pb_estimate.specs.declared.spelling.Version.TheVariants.{Two}
-use Rattle.pb_estimate.specs.Estimates.{estimate_by}
+use Rattle.pb_estimate.specs.declared.choice.Choice.TheVariants.{Pattern}
+use Rattle.pb_estimate.specs.declared.spelling.Version.TheVariants.{One}
+use Rattle.pb_estimate.specs.Estimates.{estimate_by, suits}
 use Rattle.pb_lines.specs.Words.{line_feeds}
 use Rattle.pb_check.specs.declared.fault.CertificateFault.{CertificateFault}
 use Rattle.pb_check.specs.declared.fault.CertificateFault.TheVariants as faults
 use Rattle.pb_check.specs.Reading.{first_line}
 use Rattle.pb_check.specs.Spelling.{IsSpelled, HasWidthOf}
-use Rattle.pb_check.specs.Judging.{stated_fault, checked}
+use Rattle.pb_check.specs.Judging.{checked}
 
 -- ---- the text
 
@@ -55,12 +56,14 @@ IsSaid bytes Fault =
 
 -- ---- what is judged, one thing after another
 
--- it is for a task of this kind, with states of its width, and nothing that it states besides is a
--- fault
-abbrev pub IsForTask : TaskParts → Spelling → Type 0
-IsForTask parts spelling =
+-- it is for a task of this kind, with states of its width
+abbrev pub HasFormOf : TaskParts → Spelling → Type 0
+HasFormOf parts spelling =
     (spelling.kind ≡ kind_of parts) × HasWidthOf parts spelling.version spelling.width
-    × (stated_fault parts spelling.stated ≡ None)
+
+-- .. and the choice of an estimate that it states suits the task
+abbrev pub IsForTask : TaskParts → Spelling → Type 0
+IsForTask parts spelling = HasFormOf parts spelling × (suits parts spelling.stated.choice ≡ true)
 
 -- .. and its weight is one
 abbrev pub HasWeight : TaskParts → Spelling → Certificate → Type 0
@@ -87,6 +90,14 @@ abbrev pub HasStart : TaskParts → Spelling → Certificate → Type 0
 HasStart parts spelling certificate =
     HasStates parts spelling certificate
     × HasLineWithin certificate.lines (space_of parts).start 0
+
+-- ---- the pattern
+
+-- it states the number of a pattern, and the number is not from 1 to 12
+abbrev pub IsPatternFault : Spelling → Type 0
+IsPatternFault spelling =
+    (number : ℕ) × (spelling.stated.choice ≡ Pattern number)
+    × ((1 ≤ number) × (number ≤ 12) → ⊥)
 
 -- ---- faults of the plan
 
@@ -201,8 +212,11 @@ IsCaseOf parts bytes faults.Kind =
     IsSaid bytes (λ spelling certificate. spelling.kind ≢ kind_of parts)
 IsCaseOf parts bytes (faults.Width said wanted) =
     IsSaid bytes (λ spelling certificate. (spelling.kind ≡ kind_of parts)
-    × (spelling.version ≡ Two) × (said ≡ spelling.width) × (wanted ≡ width_of parts)
+    × (spelling.version ≢ One) × (said ≡ spelling.width) × (wanted ≡ width_of parts)
     × (said ≢ wanted))
+IsCaseOf parts bytes faults.Pattern =
+    IsSaid bytes (λ spelling certificate. HasFormOf parts spelling
+    × IsPatternFault spelling)
 IsCaseOf parts bytes faults.Weight =
     IsSaid bytes (λ spelling certificate. IsForTask parts spelling
     × (IsWeight certificate.weight → ⊥))

@@ -23,6 +23,11 @@ abbrev pub Fails : {Y : Type 0} → CheckError → (given : Result Y Certificate
 Fails errors.Memory given = ⊤
 Fails (errors.Fault fault) given = given ≡ Err fault
 
+-- it is a fault, and not that memory ran out
+abbrev pub IsFault : CheckError → Type 0
+IsFault errors.Memory = ⊥
+IsFault (errors.Fault fault) = ⊤
+
 -- what a function returned, seen by `view`, is what is given, unless memory ran out
 abbrev pub Gives : {X Y : Type 0} → (view : X → Y) → Result X CheckError
     → (given : Result Y CertificateFault) → Type 0

@@ -1,6 +1,6 @@
 -- The first fault of a certificate that is spelled, in the stated order. Each row is judged by
 -- itself against all rows.
-use Rattle.std.specs.Prelude.{◌≡◌, ℕ, zero, suc, ◌+◌, ◌-◌, ◌*◌, ◌/◌, Bool, true, false, Option, None, Some, List, [], ◌∷◌, Result, Ok, Err, if◌then◌else◌, nat_lt, nat_le, ◌==◌, ◌&&◌, ◌<◌, ⊤}
+use Rattle.std.specs.Prelude.{◌≡◌, ◌↔◌, ℕ, zero, suc, ◌+◌, ◌-◌, ◌*◌, ◌/◌, Bool, true, false, Option, None, Some, List, [], ◌∷◌, Result, Ok, Err, if◌then◌else◌, nat_lt, nat_le, ◌==◌, ◌&&◌, ◌<◌, ⊤}
 use Rattle.pb_model.specs.declared.row.Estimate.{Estimate}
 use Rattle.pb_model.specs.declared.row.Estimate.TheVariants.{Cost, Dead}
 use Rattle.pb_model.specs.Space.{Space}
@@ -13,18 +13,16 @@ use Rattle.pb_task.specs.declared.parts.TaskParts.{TaskParts}
 use Rattle.pb_task.specs.Parts.{space_of}
 use Rattle.pb_task.specs.Kinds.{kind_of}
 use Rattle.pb_task.specs.Widths.{width_of}
-use Rattle.pb_estimate.specs.declared.choice.Choice.{Choice}
-use Rattle.pb_estimate.specs.declared.choice.Choice.TheVariants.{Plain}
 use Rattle.pb_estimate.specs.declared.spelling.Stated.{Stated}
 use Rattle.pb_estimate.specs.declared.spelling.Version.{Version}
-use Rattle.pb_estimate.specs.declared.spelling.Version.TheVariants.{One, Two}
+use Rattle.pb_estimate.specs.declared.spelling.Version.TheVariants.{One, Two, Three}
 use Rattle.pb_estimate.specs.Estimates.{estimate_by, suits}
 use Rattle.pb_check.specs.declared.fault.CertificateFault.{CertificateFault}
 use Rattle.pb_check.specs.declared.fault.CertificateFault.TheVariants as faults
 use Rattle.pb_check.specs.declared.fault.Verdict.{Verdict}
 use Rattle.pb_check.specs.declared.fault.Claim.TheVariants.{Bounded, Unsolvable}
 use Rattle.pb_check.specs.Faults.{◌>>=◌}
-use Rattle.pb_check.specs.Reading.{Text, text_of}
+use Rattle.pb_check.specs.Reading.{Text, suiting, text_of}
 
 -- no fault, or this one
 abbrev pub passes : Option CertificateFault → Result Bool CertificateFault
@@ -55,21 +53,21 @@ same_kind Strips Tiles = false
 abbrev pub width_fault : TaskParts → Version → (width : ℕ) → Option CertificateFault
 width_fault parts One width = None
 width_fault parts Two width = unless (width == width_of parts) (faults.Width width (width_of parts))
+width_fault parts Three width =
+    unless (width == width_of parts) (faults.Width width (width_of parts))
 
--- the fault of a choice of an estimate that a text states
-abbrev pub choice_fault : TaskParts → Choice → Option CertificateFault
-choice_fault parts Plain = None
-
--- The first fault of what a text states besides, for this task. If there is none, the stated choice
--- suits the task.
+-- the fault of what a text states besides, for this task: that its choice of an estimate doesn't
+-- suit the task
 abbrev pub stated_fault : TaskParts → Stated → Option CertificateFault
-stated_fault parts stated = choice_fault parts stated.choice
+stated_fault parts stated = unless (suits parts stated.choice) faults.Pattern
 
--- What a text states without a fault suits the task, so its estimates are admissible.
+-- What a text states besides is no fault if and only if its choice of an estimate suits the task, so
+-- that its estimates are admissible. Such a choice is the one that an estimator is made by.
 abbrev pub StatedChoicesSuit : Type 0
 StatedChoicesSuit =
-    (parts : TaskParts) (stated : Stated) → stated_fault parts stated ≡ None
-    → suits parts stated.choice ≡ true
+    (parts : TaskParts) (stated : Stated)
+    → (stated_fault parts stated ≡ None ↔ suits parts stated.choice ≡ true)
+    × (suits parts stated.choice ≡ true → suiting stated.choice ≡ stated.choice)
 
 abbrev pub is_weight : Weight → Bool
 is_weight weight = nat_le 1 weight.den && (nat_le weight.den weight.num && nat_le weight.num 1000)

@@ -8,11 +8,11 @@ use Rattle.pb_model.specs.Certificate.{Line, Certificate}
 use Rattle.pb_task.specs.declared.kind.Kind.{Kind}
 use Rattle.pb_task.specs.declared.kind.Kind.TheVariants.{Grid, Tiles, Strips}
 use Rattle.pb_estimate.specs.declared.choice.Choice.{Choice}
-use Rattle.pb_estimate.specs.declared.choice.Choice.TheVariants.{Plain}
+use Rattle.pb_estimate.specs.declared.choice.Choice.TheVariants.{Plain, Pattern}
 use Rattle.pb_estimate.specs.declared.spelling.Stated.{Stated}
 use Rattle.pb_estimate.specs.declared.spelling.Spelling.{Spelling}
 use Rattle.pb_estimate.specs.declared.spelling.Version.{Version}
-use Rattle.pb_estimate.specs.declared.spelling.Version.TheVariants.{One, Two}
+use Rattle.pb_estimate.specs.declared.spelling.Version.TheVariants.{One, Two, Three}
 use Rattle.pb_estimate.specs.Spelling.{version_line, kind_line, width_text, head_lines}
 use Rattle.pb_check.specs.declared.fault.CertificateFault.{CertificateFault}
 use Rattle.pb_check.specs.declared.fault.CertificateFault.TheVariants.{Syntax}
@@ -34,7 +34,8 @@ number_behind line piece text =
 unfoldable pub version_in : (line : ℕ) → List ℕ → Result Version CertificateFault
 version_in line text =
     if is_text (version_line One) text then Ok One
-    else (if is_text (version_line Two) text then Ok Two else Err (Syntax line))
+    else (if is_text (version_line Two) text then Ok Two
+    else (if is_text (version_line Three) text then Ok Three else Err (Syntax line)))
 
 unfoldable pub kind_in : (line : ℕ) → List ℕ → Result Kind CertificateFault
 kind_in line text =
@@ -96,17 +97,28 @@ kind_at line text = do
   kind ← kind_in line first.0
   Ok (kind, first.1)
 
--- how many digits a state has: a line says it from version 2 on
-unfoldable pub width_at : Version → (line : ℕ) → List ℕ → Result (ℕ × List ℕ) CertificateFault
-width_at One line text = Ok (version_1_digits, text)
-width_at Two line text = do
+-- the line that says how many digits a state has
+unfoldable pub width_line_at : (line : ℕ) → List ℕ → Result (ℕ × List ℕ) CertificateFault
+width_line_at line text = do
   first ← line_at line text
   width ← width_in line first.0
   Ok (width, first.1)
 
--- what is stated besides: in both versions the plain choice, in no line
-unfoldable pub stated_at : (line : ℕ) → List ℕ → Result (Stated × List ℕ) CertificateFault
-stated_at line text = Ok (record { choice = Plain }, text)
+-- how many digits a state has: a line says it from version 2 on
+unfoldable pub width_at : Version → (line : ℕ) → List ℕ → Result (ℕ × List ℕ) CertificateFault
+width_at One line text = Ok (version_1_digits, text)
+width_at Two line text = width_line_at line text
+width_at Three line text = width_line_at line text
+
+-- What is stated besides: in version 3 the number of a pattern, which may be any, in a line. Before
+-- that the choice is the plain one, and no line says it.
+unfoldable pub stated_at : Version → (line : ℕ) → List ℕ
+    → Result (Stated × List ℕ) CertificateFault
+stated_at One line text = Ok (record { choice = Plain }, text)
+stated_at Two line text = Ok (record { choice = Plain }, text)
+stated_at Three line text = do
+  number ← number_at line (codes "pattern ") text
+  Ok (record { choice = Pattern number.0 }, number.1)
 
 -- the lines before the weight
 unfoldable pub head_at : List ℕ → Result (Spelling × List ℕ) CertificateFault
@@ -114,7 +126,7 @@ head_at text = do
   version ← version_at 1 text
   kind ← kind_at 2 version.1
   width ← width_at version.0 3 kind.1
-  stated ← stated_at (3 + length (width_text version.0 width.0)) width.1
+  stated ← stated_at version.0 (3 + length (width_text version.0 width.0)) width.1
   Ok (
     record {
       kind = kind.0;
@@ -222,10 +234,17 @@ text_of bytes = do
 
 -- ---- what is stated, before all else is read
 
+-- a choice of an estimate, if it suits each task, and else the plain one
+abbrev pub suiting : Choice → Choice
+suiting Plain = Plain
+suiting (Pattern number) =
+    if nat_le 1 number && nat_le number 12 then Pattern number else Plain
+
 abbrev pub choice_in : Result (Spelling × List ℕ) CertificateFault → Choice
-choice_in (Ok head) = head.0.stated.choice
+choice_in (Ok head) = suiting head.0.stated.choice
 choice_in (Err fault) = Plain
 
--- the choice of an estimate that a text states; the plain one, if its head can't be read
+-- The choice of an estimate that a text states, if it suits each task. It is the plain one if the
+-- stated choice suits none, or if the text's head can't be read.
 abbrev pub stated_choice : List ℕ → Choice
 stated_choice bytes = choice_in (head_at bytes)

@@ -1,5 +1,5 @@
 -- What the checker's answer means: that the certificate is valid, and what it shows of the task.
-use Rattle.std.specs.Prelude.{◌≡◌, ◌≢◌, ℕ, ◌+◌, ◌≤◌, None, List, [], ◌++◌, Err}
+use Rattle.std.specs.Prelude.{◌≡◌, ◌≢◌, ℕ, ◌+◌, ◌≤◌, true, List, [], ◌++◌, Err}
 use Rattle.pb_model.specs.Space.{Space}
 use Rattle.pb_model.specs.Weight.{Weight, IsWeight}
 use Rattle.pb_model.specs.Plan.{Plan, IsPlan, HasNoPlan, IsBound}
@@ -8,23 +8,23 @@ use Rattle.pb_task.specs.declared.parts.TaskParts.{TaskParts}
 use Rattle.pb_task.specs.Parts.{space_of}
 use Rattle.pb_task.specs.Kinds.{kind_of}
 use Rattle.pb_estimate.specs.declared.spelling.Spelling.{Spelling}
-use Rattle.pb_estimate.specs.Estimates.{estimate_by}
+use Rattle.pb_estimate.specs.Estimates.{estimate_by, suits}
 use Rattle.pb_lines.specs.Words.{line_feeds}
 use Rattle.pb_check.specs.declared.fault.Verdict.{Verdict}
 use Rattle.pb_check.specs.declared.fault.Claim.TheVariants.{Bounded, Unsolvable}
 use Rattle.pb_check.specs.declared.fault.CertificateFault.TheVariants.{Syntax}
 use Rattle.pb_check.specs.Spelling.{IsSpelled, HasWidthOf}
-use Rattle.pb_check.specs.Judging.{stated_fault, verdict_of, bound_of, checked}
+use Rattle.pb_check.specs.Judging.{verdict_of, bound_of, checked}
 
 -- The bytes spell a valid certificate of this task, and this is its verdict. The estimate by which
--- it is valid is the one that the bytes state.
+-- it is valid is the one that the bytes state, which suits the task.
 pub record IsAccepted (parts : TaskParts) (bytes : List ℕ) (verdict : Verdict) : Type 0 where
   pub spelling : Spelling
   pub certificate : Certificate
   pub spelled : IsSpelled bytes spelling certificate
   pub kind : spelling.kind ≡ kind_of parts
   pub width : HasWidthOf parts spelling.version spelling.width
-  pub stated : stated_fault parts spelling.stated ≡ None
+  pub stated : suits parts spelling.stated.choice ≡ true
   pub valid : IsValid (space_of parts) (estimate_by parts spelling.stated.choice) certificate
   pub verdict_is : verdict ≡ verdict_of certificate.weight certificate.plan
 

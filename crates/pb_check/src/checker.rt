@@ -33,8 +33,8 @@ fn first_fault(
     judge(alloc, task, estimator, &text)
 }
 
-/// The verdict on a certificate for the task, or its first fault. The estimator is one of this
-/// task, by the choice that the certificate states (`stated_choice`).
+/// The verdict on a certificate for the task, or its first fault. The estimator is one of this task
+/// by `stated_choice` of the certificate.
 ///
 /// The memory that it takes grows with the lines read so far, and not with a number that they
 /// state.

@@ -4,8 +4,10 @@ ghost use Rattle.pb_check.specs.declared.fault.CheckError.TheVariants.{Memory};
 use std::alloc::{AllocError, AllocFailed};
 use std::marker::Model;
 
-/// Why a certificate is refused. If it has several faults, the first in the order of these names is
-/// reported, and of one name the first row or action. Lines are counted from 1.
+/// Why a certificate is refused. If it has several faults, the one that is judged first is reported.
+/// They are judged in the order of these names, but for the last four, which are faults of one row:
+/// rows are judged one after another, and of a closed row one action after another. Lines are
+/// counted from 1.
 #[derive(Clone, Copy)]
 pub enum CertificateFault {
     /// The first line that is not spelled as a certificate's; a line that is missing is the one
@@ -13,9 +15,11 @@ pub enum CertificateFault {
     Syntax { line: u64 },
     /// It is for a task of another kind.
     Kind,
-    /// It is of version 2 and says that a state has `said` hexadecimal digits; those of the task's
-    /// states are `wanted`.
+    /// It is of version 2 or 3 and says that a state has `said` hexadecimal digits; those of the
+    /// task's states are `wanted`.
     Width { said: u32, wanted: u32 },
+    /// It is of version 3, and the number of a pattern that it states is not from 1 to 12.
+    Pattern,
     /// The weight is not a fraction from 1 to 1000 whose denominator is at least 1 and whose
     /// numerator is at most 1000.
     Weight,

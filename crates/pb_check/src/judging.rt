@@ -3,9 +3,10 @@ ghost use Rattle.pb_model.specs.Weight.{Weight};
 ghost use Rattle.pb_model.specs.Plan.{Plan};
 ghost use Rattle.pb_model.specs.Certificate.{Line, Certificate, cost_of};
 ghost use Rattle.pb_task.specs.Parts.{space_of, IsTask, greatest_cost};
-ghost use Rattle.pb_estimate.specs.Estimates.{estimate_by};
+ghost use Rattle.pb_estimate.specs.Estimates.{estimate_by, suits};
 ghost use Rattle.pb_estimate.specs.Tables.{IsOfTask};
 ghost use Rattle.pb_check.specs.Faults.{Gives};
+ghost use Rattle.pb_check.specs.Reading.{suiting};
 ghost use Rattle.pb_check.specs.Judging.{passes, unless, same_kind, width_fault, stated_fault, is_weight, walk, plan_fault, plan_fault_if_any, order_fault, rows_order_fault, first_fault_by, state_fault, g_of, is_zero, target_fault, step_fault, steps_fault, may_be_cut, row_fault, bound_of, verdict_of, judged, Rise};
 
 use crate::fault::{CertificateFault, CheckError, Claim, Verdict};
@@ -61,7 +62,7 @@ fn width_fault(task: &Task, version: Version, width: u32) -> Option<CertificateF
 {
     match version {
         Version::One => None,
-        Version::Two => {
+        Version::Two | Version::Three => {
             let wanted = task.width();
             unless(
                 width == wanted,
@@ -74,13 +75,12 @@ fn width_fault(task: &Task, version: Version, width: u32) -> Option<CertificateF
     }
 }
 
-// The first fault of what a text states besides.
-fn stated_fault(_task: &Task, stated: &Stated) -> Option<CertificateFault>
-    ensures { result ≡ stated_fault _task.now stated.now }
+// The fault of what a text states besides.
+fn stated_fault(task: &Task, stated: &Stated) -> Option<CertificateFault>
+    ensures fault { result ≡ stated_fault task.now stated.now }
+    ensures suits { result ≡ None → suits task.now stated.now.choice ≡ true }
 {
-    match &stated.choice {
-        Choice::Plain => None,
-    }
+    unless(stated.choice.suits(task), CertificateFault::Pattern)
 }
 
 fn is_weight(weight: &StatedWeight) -> bool
@@ -401,7 +401,7 @@ fn is_zero(g: Option<u64>) -> bool
     }
 }
 
-// Goes on only if no row has a fault.
+// Goes on only if no row has a fault. The estimator is by the stated choice, which suits.
 fn need_rows(
     alloc: Global,
     task: &Task,
@@ -412,7 +412,8 @@ fn need_rows(
     rows: &StatedRows,
     line: u64,
 ) -> Result<bool, CheckError>
-    requires task { IsOfTask estimator.old task.now choice.now }
+    requires suits { suits task.now choice.now ≡ true }
+    requires task { IsOfTask estimator.old task.now (suiting choice.now) }
     requires weight { is_weight (record { num = weight.now.num; den = weight.now.den }) ≡ true }
     requires rise { Rise rows.now }
     requires states { first_fault_by (state_fault (space_of task.now)) line rows.now ≡ None }
@@ -421,7 +422,7 @@ fn need_rows(
         (passes (first_fault_by (row_fault (space_of task.now) (estimate_by task.now choice.now)
         (record { num = weight.now.num; den = weight.now.den }) (cost_of plan.now) rows.now)
         line rows.now)) }
-    ensures task { IsOfTask estimator.new task.now choice.now }
+    ensures task { IsOfTask estimator.new task.now (suiting choice.now) }
 {
     let mut places = Vec::from_elem(alloc, 0usize, task.actions() as usize)?;
     let best = cost_of(plan);
@@ -438,8 +439,8 @@ fn need_rows(
     pass(fault)
 }
 
-/// The verdict on what a text says, or its first fault. The estimator is of the choice that the
-/// text states.
+/// The verdict on what a text says, or its first fault. The estimator is by the choice that the
+/// text states, or by the plain one if that choice suits no task.
 #[tactic(auto, unfolding(crate::specs::Judging::judged))]
 pub fn judge(
     alloc: Global,
@@ -447,11 +448,13 @@ pub fn judge(
     estimator: &mut Estimator,
     text: &StatedText,
 ) -> Result<Verdict, CheckError>
-    requires task { IsOfTask estimator.old task.now text.now.spelling.stated.choice }
+    requires task { IsOfTask estimator.old task.now
+        (suiting text.now.spelling.stated.choice) }
     requires lines { text.now.first + length text.now.certificate.lines < 2 ^ 64 }
     ensures verdict { Gives (λ x. x) result (judged task.now text.now) }
     ensures lawful { IsTask task.now }
-    ensures task { IsOfTask estimator.new task.now text.now.spelling.stated.choice }
+    ensures task { IsOfTask estimator.new task.now
+        (suiting text.now.spelling.stated.choice) }
 {
     let start = task.initial();
     let stated = &text.spelling.stated;

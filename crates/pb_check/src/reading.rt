@@ -1,4 +1,4 @@
-ghost use Rattle.std.specs.Prelude.{◌≡◌, ◌≤◌, ◌+◌, ◌<◌, ◌^◌, length, codes, IfSome, IfNone, IfOk, Some, None, Option, List, ℕ, Err, Ok, Result, []};
+ghost use Rattle.std.specs.Prelude.{◌≡◌, ◌≤◌, ◌+◌, ◌<◌, ◌^◌, length, codes, IfSome, IfNone, IfOk, IfErr, Some, None, Option, List, ℕ, Err, Ok, Result, [], true};
 ghost use Rattle.pb_packed.specs.Sizes.{most_digits};
 ghost use Rattle.pb_packed.specs.Words.{AreWords, number_of as number_in};
 ghost use Rattle.pb_model.specs.Weight.{Weight};
@@ -6,9 +6,11 @@ ghost use Rattle.pb_model.specs.Plan.{Plan};
 ghost use Rattle.pb_model.specs.Certificate.{Certificate};
 ghost use Rattle.pb_lines.specs.Words.{number_of, behind, part};
 ghost use Rattle.pb_check.specs.Words.{words_for, state_of};
+ghost use Rattle.pb_task.specs.declared.parts.TaskParts.{TaskParts};
+ghost use Rattle.pb_estimate.specs.Estimates.{suits};
 ghost use Rattle.pb_estimate.specs.Spelling.{width_text, stated_text, head_lines};
-ghost use Rattle.pb_check.specs.Faults.{Gives, wanted};
-ghost use Rattle.pb_check.specs.Reading.{Text, plan_lines, line_at, number_behind, version_in, kind_in, width_in, weight_in, closed_in, row_in, fixed_at, number_at, version_at, kind_at, width_at, weight_at, row_at, actions_at, rows_at, steps_at, plan_at, end_at, body_at, stated_at, head_at, stated_choice, text_of};
+ghost use Rattle.pb_check.specs.Faults.{Gives, IsFault, wanted};
+ghost use Rattle.pb_check.specs.Reading.{Text, plan_lines, line_at, number_behind, version_in, kind_in, width_in, weight_in, closed_in, row_in, fixed_at, number_at, version_at, kind_at, width_line_at, width_at, weight_at, row_at, actions_at, rows_at, steps_at, plan_at, end_at, body_at, stated_at, head_at, suiting, stated_choice, text_of};
 
 use crate::fault::{CertificateFault, CheckError};
 use crate::numbers::Numbers;
@@ -25,6 +27,7 @@ use std::alloc::Global;
 fn line_at(line: u64, text: &[u8]) -> Result<(&[u8], &[u8]), CheckError>
     ensures gives { Gives (λ x. (x.0.now, x.1.now)) result (line_at line text.now) }
     ensures shorter { IfOk result (λ x. length x.1.now + 1 ≤ length text.now) }
+    ensures fault { IfErr result IsFault }
 {
     match part(text, b'\n') {
         Some((front, rest)) => Ok((front, rest)),
@@ -35,6 +38,7 @@ fn line_at(line: u64, text: &[u8]) -> Result<(&[u8], &[u8]), CheckError>
 fn number_in(line: u64, text: &[u8]) -> Result<u64, CheckError>
     ensures gives { Gives (λ x. x) result (wanted line (number_of text.now)) }
     ensures small { IfOk result (λ n. n < 2 ^ 63) }
+    ensures fault { IfErr result IsFault }
 {
     match number_of(text) {
         Some(n) => Ok(n),
@@ -45,6 +49,7 @@ fn number_in(line: u64, text: &[u8]) -> Result<u64, CheckError>
 fn number_behind(line: u64, text: &[u8], piece: &[u8]) -> Result<u64, CheckError>
     ensures gives { Gives (λ x. x) result (number_behind line piece.now text.now) }
     ensures small { IfOk result (λ n. n < 2 ^ 63) }
+    ensures fault { IfErr result IsFault }
 {
     match behind(text, piece) {
         Some(word) => number_in(line, word),
@@ -54,12 +59,15 @@ fn number_behind(line: u64, text: &[u8], piece: &[u8]) -> Result<u64, CheckError
 
 #[tactic(auto, unfolding(crate::specs::Reading::version_in))]
 fn version_in(line: u64, text: &[u8]) -> Result<Version, CheckError>
-    ensures { Gives (λ x. x) result (version_in line text.now) }
+    ensures gives { Gives (λ x. x) result (version_in line text.now) }
+    ensures fault { IfErr result IsFault }
 {
     if is_text(text, b"pbnf-certificate 1") {
         Ok(Version::One)
     } else if is_text(text, b"pbnf-certificate 2") {
         Ok(Version::Two)
+    } else if is_text(text, b"pbnf-certificate 3") {
+        Ok(Version::Three)
     } else {
         Err(CheckError::Fault(CertificateFault::Syntax { line }))
     }
@@ -67,7 +75,8 @@ fn version_in(line: u64, text: &[u8]) -> Result<Version, CheckError>
 
 #[tactic(auto, unfolding(crate::specs::Reading::kind_in))]
 fn kind_in(line: u64, text: &[u8]) -> Result<Kind, CheckError>
-    ensures { Gives (λ x. x) result (kind_in line text.now) }
+    ensures gives { Gives (λ x. x) result (kind_in line text.now) }
+    ensures fault { IfErr result IsFault }
 {
     if is_text(text, b"kind grid") {
         Ok(Kind::Grid)
@@ -103,6 +112,7 @@ fn width_in(line: u64, text: &[u8]) -> Result<u32, CheckError>
     ensures gives { Gives (λ x. x) result (width_in line text.now) }
     ensures some { IfOk result (λ x. 1 ≤ x) }
     ensures most { IfOk result (λ x. x ≤ most_digits) }
+    ensures fault { IfErr result IsFault }
 {
     let width = number_behind(line, text, b"width ")?;
     if 1 <= width && width <= MOST_DIGITS as u64 {
@@ -195,6 +205,7 @@ fn number_at<'a>(line: u64, text: &'a [u8], piece: &[u8]) -> Result<(u64, &'a [u
     ensures gives { Gives (λ x. (x.0, x.1.now)) result (number_at line piece.now text.now) }
     ensures shorter { IfOk result (λ x. length x.1.now + 1 ≤ length text.now) }
     ensures small { IfOk result (λ x. x.0 < 2 ^ 63) }
+    ensures fault { IfErr result IsFault }
 {
     let (first, rest) = line_at(line, text)?;
     let n = number_behind(line, first, piece)?;
@@ -205,6 +216,7 @@ fn number_at<'a>(line: u64, text: &'a [u8], piece: &[u8]) -> Result<(u64, &'a [u
 fn version_at(line: u64, text: &[u8]) -> Result<(Version, &[u8]), CheckError>
     ensures gives { Gives (λ x. (x.0, x.1.now)) result (version_at line text.now) }
     ensures shorter { IfOk result (λ x. length x.1.now + 1 ≤ length text.now) }
+    ensures fault { IfErr result IsFault }
 {
     let (first, rest) = line_at(line, text)?;
     let version = version_in(line, first)?;
@@ -215,10 +227,25 @@ fn version_at(line: u64, text: &[u8]) -> Result<(Version, &[u8]), CheckError>
 fn kind_at(line: u64, text: &[u8]) -> Result<(Kind, &[u8]), CheckError>
     ensures gives { Gives (λ x. (x.0, x.1.now)) result (kind_at line text.now) }
     ensures shorter { IfOk result (λ x. length x.1.now + 1 ≤ length text.now) }
+    ensures fault { IfErr result IsFault }
 {
     let (first, rest) = line_at(line, text)?;
     let kind = kind_in(line, first)?;
     Ok((kind, rest))
+}
+
+// How many digits a state has, as a line says it.
+#[tactic(auto, unfolding(crate::specs::Reading::width_line_at))]
+fn width_line_at(line: u64, text: &[u8]) -> Result<(u32, &[u8]), CheckError>
+    ensures gives { Gives (λ x. (x.0, x.1.now)) result (width_line_at line text.now) }
+    ensures shorter { IfOk result (λ x. length x.1.now + 1 ≤ length text.now) }
+    ensures some { IfOk result (λ x. 1 ≤ x.0) }
+    ensures most { IfOk result (λ x. x.0 ≤ most_digits) }
+    ensures fault { IfErr result IsFault }
+{
+    let (first, rest) = line_at(line, text)?;
+    let width = width_in(line, first)?;
+    Ok((width, rest))
 }
 
 // How many digits a state has.
@@ -229,28 +256,38 @@ fn width_at(version: Version, line: u64, text: &[u8]) -> Result<(u32, &[u8]), Ch
         ≤ length text.now) }
     ensures some { IfOk result (λ x. 1 ≤ x.0) }
     ensures most { IfOk result (λ x. x.0 ≤ most_digits) }
+    ensures fault { IfErr result IsFault }
 {
     match version {
         Version::One => Ok((DIGITS as u32, text)),
-        Version::Two => {
-            let (first, rest) = line_at(line, text)?;
-            let width = width_in(line, first)?;
-            Ok((width, rest))
-        }
+        Version::Two | Version::Three => width_line_at(line, text),
     }
 }
 
-// What is stated besides: the plain choice, in no line.
+// What is stated besides: in version 3 the number of a pattern, and before that the plain choice, in
+// no line.
 #[tactic(auto, unfolding(crate::specs::Reading::stated_at))]
-fn stated_at(_line: u64, text: &[u8]) -> Result<(Stated, &[u8]), CheckError>
-    ensures gives { Gives (λ x. (x.0, x.1.now)) result (stated_at _line text.now) }
+fn stated_at(version: Version, line: u64, text: &[u8]) -> Result<(Stated, &[u8]), CheckError>
+    ensures gives { Gives (λ x. (x.0, x.1.now)) result (stated_at version line text.now) }
     ensures shorter { IfOk result (λ x. length x.1.now + length (stated_text x.0)
         ≤ length text.now) }
+    ensures fault { IfErr result IsFault }
 {
-    let stated = Stated {
-        choice: Choice::Plain,
-    };
-    Ok((stated, text))
+    match version {
+        Version::One | Version::Two => {
+            let stated = Stated {
+                choice: Choice::Plain,
+            };
+            Ok((stated, text))
+        }
+        Version::Three => {
+            let (number, rest) = number_at(line, text, b"pattern ")?;
+            let stated = Stated {
+                choice: Choice::Pattern(number),
+            };
+            Ok((stated, rest))
+        }
+    }
 }
 
 // The lines before the weight.
@@ -260,12 +297,13 @@ fn head_at(text: &[u8]) -> Result<(Spelling, &[u8]), CheckError>
     ensures shorter { IfOk result (λ x. length x.1.now + head_lines x.0 ≤ length text.now) }
     ensures some { IfOk result (λ x. 1 ≤ x.0.width) }
     ensures most { IfOk result (λ x. x.0.width ≤ most_digits) }
+    ensures fault { IfErr result IsFault }
 {
     let (version, rest) = version_at(1, text)?;
     let (kind, rest) = kind_at(2, rest)?;
     let (width, rest) = width_at(version, 3, rest)?;
     let line = 3 + u64::from(version.width_lines());
-    let (stated, rest) = stated_at(line, rest)?;
+    let (stated, rest) = stated_at(version, line, rest)?;
     let spelling = Spelling {
         kind,
         version,
@@ -275,13 +313,33 @@ fn head_at(text: &[u8]) -> Result<(Spelling, &[u8]), CheckError>
     Ok((spelling, rest))
 }
 
+// A choice, if it suits each task, and else the plain one.
+fn suiting(choice: Choice) -> Choice
+    ensures choice { result ≡ suiting choice }
+    ensures suits { (parts : TaskParts) → suits parts result ≡ true }
+{
+    match choice {
+        Choice::Plain => Choice::Plain,
+        Choice::Pattern(number) => {
+            if 1 <= number && number <= 12 {
+                Choice::Pattern(number)
+            } else {
+                Choice::Plain
+            }
+        }
+    }
+}
+
 /// The choice of an estimate that a text states, by which its cut rows are judged. It is the plain
-/// one if the lines before the weight can't be read: then no row is judged.
+/// one if the stated choice suits no task, or if the lines before the weight can't be read: then no
+/// row is judged.
 pub fn stated_choice(bytes: &[u8]) -> Choice
-    ensures { result ≡ stated_choice bytes.now }
+    ensures choice { result ≡ stated_choice bytes.now }
+    // An estimator of any task can be made by it.
+    ensures suits { (parts : TaskParts) → suits parts result ≡ true }
 {
     match head_at(bytes) {
-        Ok((spelling, _)) => spelling.stated.choice,
+        Ok((spelling, _)) => suiting(spelling.stated.choice),
         Err(_) => Choice::Plain,
     }
 }

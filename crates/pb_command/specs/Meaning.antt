@@ -7,7 +7,7 @@ use Rattle.pb_machine.specs.Settings.{AreInRange}
 use Rattle.pb_task.specs.declared.kind.Kind.{Kind}
 use Rattle.pb_command.specs.declared.command.InputOptions.{InputOptions}
 use Rattle.pb_command.specs.declared.table.ValuedOption.{ValuedOption}
-use Rattle.pb_command.specs.declared.table.ValuedOption.TheVariants.{Row as ScenarioRow, Workers, Num, Den, Budget, Lot, Blocks, Certificate, Journal as JournalName, Rewrite}
+use Rattle.pb_command.specs.declared.table.ValuedOption.TheVariants.{Row as ScenarioRow, Workers, Num, Den, Budget, Lot, Blocks, Pattern, Certificate, Journal as JournalName, Rewrite}
 use Rattle.pb_command.specs.declared.table.FlagOption.{FlagOption}
 use Rattle.pb_command.specs.declared.table.FlagOption.TheVariants.{Plain, Swamp}
 use Rattle.pb_command.specs.Parser.{the_program, seed_most}
@@ -77,8 +77,8 @@ abbrev pub options_by : (number : ValuedOption → ℕ) → (flag : FlagOption �
 options_by number flag = record { row = number ScenarioRow; swamp = flag Swamp }
 
 -- what a search is run with: the number of workers, the weight as a fraction, the budget of
--- expansions, how many of them a lease gets at most, and how many blocks there are at most. And
--- whether no block is marked hot.
+-- expansions, how many of them a lease gets at most, and how many blocks there are at most. Whether
+-- no block is marked hot, and the number of the pattern database.
 abbrev pub settings_by : (number : ValuedOption → ℕ) → (flag : FlagOption → Bool) → Settings
 settings_by number flag = record {
   workers = number Workers;
@@ -88,6 +88,7 @@ settings_by number flag = record {
   lot = number Lot;
   wish = number Blocks;
   plain = flag Plain;
+  pattern = number Pattern;
 }
 
 -- ---- `solve`
@@ -207,6 +208,7 @@ pub record AreEachInRange (settings : Settings) : Type 0 where
   pub budget : IsInRangeOf Budget settings.budget
   pub lot : IsInRangeOf Lot settings.lot
   pub wish : IsInRangeOf Blocks settings.wish
+  pub pattern : IsInRangeOf Pattern settings.pattern
 
 -- The row and the settings lie in their ranges, the weight is at least 1, and certificate and
 -- journal have two names.

@@ -7,7 +7,7 @@ use Rattle.std.specs.Str.{bytes_eq}
 use Rattle.clap.specs.Words.{Text}
 use Rattle.clap.specs.ValueTests.{is_unsigned_in}
 use Rattle.pb_command.specs.declared.table.ValuedOption.{ValuedOption}
-use Rattle.pb_command.specs.declared.table.ValuedOption.TheVariants.{Row, Workers, Num, Den, Budget, Lot, Blocks, Certificate, Journal, Rewrite}
+use Rattle.pb_command.specs.declared.table.ValuedOption.TheVariants.{Row, Workers, Num, Den, Budget, Lot, Blocks, Pattern, Certificate, Journal, Rewrite}
 use Rattle.pb_command.specs.declared.table.FlagOption.{FlagOption}
 use Rattle.pb_command.specs.declared.table.FlagOption.TheVariants.{Plain, Swamp}
 
@@ -38,9 +38,9 @@ file_name name = record { name = name; form = FileName }
 
 -- The table: the row of the scenario, how many workers search, the numerator and the denominator of
 -- the weight, and how many expansions a search may do, at most 2^40. How many expansions a lease
--- gets at most, at most 2^20, and how many blocks the abstract graph has at most. The names under
--- which the certificate and the journal are saved, and under which a certificate that was accepted
--- is saved anew.
+-- gets at most, at most 2^20, and how many blocks the abstract graph has at most. The number of the
+-- pattern database, 0 for none. The names under which the certificate and the journal are saved,
+-- and under which a certificate that was accepted is saved anew.
 abbrev pub entry_of : ValuedOption → Entry
 entry_of Row = number (codes "row") 0 1000000 0
 entry_of Workers = number (codes "workers") 1 64 1
@@ -49,6 +49,7 @@ entry_of Den = number (codes "den") 1 1000 1
 entry_of Budget = number (codes "budget") 1 1099511627776 16777216
 entry_of Lot = number (codes "lot") 1 1048576 256
 entry_of Blocks = number (codes "blocks") 16 4096 256
+entry_of Pattern = number (codes "pattern") 0 12 0
 entry_of Certificate = file_name (codes "cert")
 entry_of Journal = file_name (codes "trace")
 entry_of Rewrite = file_name (codes "rewrite")
@@ -68,7 +69,7 @@ flag_name Swamp = codes "swamp"
 
 abbrev pub solve_options : List ValuedOption
 solve_options =
-    Row ∷ Workers ∷ Num ∷ Den ∷ Budget ∷ Lot ∷ Blocks ∷ Certificate ∷ Journal ∷ []
+    Row ∷ Workers ∷ Num ∷ Den ∷ Budget ∷ Lot ∷ Blocks ∷ Pattern ∷ Certificate ∷ Journal ∷ []
 
 abbrev pub solve_flags : List FlagOption
 solve_flags = Plain ∷ Swamp ∷ []

@@ -54,6 +54,7 @@ fn settings(matches: &ArgMatches<'_>) -> Settings
         lot: number_at(matches, ValuedOption::Lot),
         wish: number_at(matches, ValuedOption::Blocks) as u32,
         plain: flag_at(matches, FlagOption::Plain),
+        pattern: number_at(matches, ValuedOption::Pattern) as u32,
     }
 }
 

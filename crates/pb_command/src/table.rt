@@ -21,6 +21,8 @@ pub enum ValuedOption {
     Lot,
     /// `--blocks C`: how many blocks the abstract graph has at most.
     Blocks,
+    /// `--pattern K`: the number of the pattern database, 0 for none.
+    Pattern,
     /// `--cert NAME`: the name under which the certificate is saved.
     Certificate,
     /// `--trace NAME`: the name under which the journal is saved.
@@ -55,7 +57,7 @@ pub(crate) struct TableEntry<'a> {
 }
 
 // The options of each command, in the order in which clap knows them.
-pub(crate) const SOLVE_OPTIONS: [ValuedOption; 9] = [
+pub(crate) const SOLVE_OPTIONS: [ValuedOption; 10] = [
     ValuedOption::Row,
     ValuedOption::Workers,
     ValuedOption::Num,
@@ -63,6 +65,7 @@ pub(crate) const SOLVE_OPTIONS: [ValuedOption; 9] = [
     ValuedOption::Budget,
     ValuedOption::Lot,
     ValuedOption::Blocks,
+    ValuedOption::Pattern,
     ValuedOption::Certificate,
     ValuedOption::Journal,
 ];
@@ -117,6 +120,7 @@ fn entry_of<'a>(option: ValuedOption) -> TableEntry<'a>
         ValuedOption::Budget => number("budget", 1, 1_099_511_627_776, 16_777_216),
         ValuedOption::Lot => number("lot", 1, 1_048_576, 256),
         ValuedOption::Blocks => number("blocks", 16, 4_096, 256),
+        ValuedOption::Pattern => number("pattern", 0, 12, 0),
         ValuedOption::Certificate => file_name("cert"),
         ValuedOption::Journal => file_name("trace"),
         ValuedOption::Rewrite => file_name("rewrite"),

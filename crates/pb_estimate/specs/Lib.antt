@@ -2,6 +2,8 @@ pub use Rattle.pb_packed.specs.Sizes
 pub use Rattle.pb_task.specs.Parts
 pub use Rattle.pb_task.specs.Strips
 pub use Rattle.pb_task.specs.Tiles
+pub use Rattle.pb_pattern.specs.Patterns
+pub use Rattle.pb_pattern.specs.Tables as PatternTables
 pub mod Hmax
 pub mod Estimates
 pub mod CostWords

@@ -1,13 +1,14 @@
 -- What the estimator of a task keeps. A further kind of task is one case more, and so is a further
 -- choice of an estimate.
-use Rattle.std.specs.Prelude.{◌≡◌, ℕ, zero, suc, ◌+◌, ◌*◌, ◌<◌, ◌≤◌, ◌^◌, true, false, List, [], ◌∷◌, ◌++◌, map, length, All, Contains, slice_index, slice_index_or, if◌then◌else◌}
+use Rattle.std.specs.Prelude.{◌≡◌, ℕ, zero, suc, ◌+◌, ◌*◌, ◌<◌, ◌≤◌, ◌^◌, true, false, ⊤, Option, None, Some, List, [], ◌∷◌, ◌++◌, map, length, All, Contains, slice_index, slice_index_or, if◌then◌else◌}
 use Rattle.pb_task.specs.declared.parts.GroundAction.{GroundAction}
 use Rattle.pb_task.specs.declared.parts.StripsParts.{StripsParts}
 use Rattle.pb_task.specs.declared.parts.TaskParts.{TaskParts}
 use Rattle.pb_task.specs.declared.parts.TaskParts.TheVariants as parts
 use Rattle.pb_task.specs.Strips.{has_atom}
 use Rattle.pb_estimate.specs.declared.choice.Choice.{Choice}
-use Rattle.pb_estimate.specs.declared.choice.Choice.TheVariants.{Plain}
+use Rattle.pb_estimate.specs.declared.choice.Choice.TheVariants.{Plain, Pattern}
+use Rattle.pb_pattern.specs.Tables.{TableValue, IsOfTask as IsTableOf}
 use Rattle.pb_estimate.specs.Estimates.{way_home}
 use Rattle.pb_estimate.specs.Hmax.{IsAtMost}
 use Rattle.pb_estimate.specs.Exploring.{count, cost_in, IsExploration}
@@ -115,14 +116,33 @@ pub record AreCounters (strips : StripsParts) (counters : Counters) : Type 0 whe
   pub costs : length counters.exploration.costs.items ≡ strips.atoms
   pub exploration : IsExploration counters.exploration
 
+-- what contracts see of an estimator
+pub record EstimatorValue : Type 0 where
+  pub plain : Tables  -- what the plain estimates need
+  pub table : Option TableValue  -- the table of patterns, if the choice needs one
+
+-- what the plain estimates of this task need is kept
+unfoldable pub AreOfTask : Tables → TaskParts → Type 0
+AreOfTask tables.Grid (parts.Grid grid) = Unit {0}
+AreOfTask (tables.Tiles ways) (parts.Tiles tiles) = AreWaysHome tiles.cols tiles.goal ways
+AreOfTask (tables.Strips counters) (parts.Strips strips) = AreCounters strips counters
+AreOfTask tables task = ⊥
+
+-- The table that estimates of a task by this choice look up: none for the plain choice, and for a
+-- pattern the table of the task that has the pattern's number.
+abbrev pub HasTable : TaskParts → Choice → Option TableValue → Type 0
+HasTable task Plain None = ⊤
+HasTable task Plain (Some table) = ⊥
+HasTable task (Pattern number) None = ⊥
+HasTable task (Pattern number) (Some table) =
+    IsTableOf table task × (table.pattern ≡ number)
+
 -- An estimator is of this task and this choice: it keeps what these estimates need. What it keeps
 -- beside that is its own matter.
-unfoldable pub IsOfTask : Tables → TaskParts → Choice → Type 0
-IsOfTask tables.Grid (parts.Grid grid) Plain = Unit {0}
-IsOfTask (tables.Tiles ways) (parts.Tiles tiles) Plain = AreWaysHome tiles.cols tiles.goal ways
-IsOfTask (tables.Strips counters) (parts.Strips strips) Plain = AreCounters strips counters
-IsOfTask estimator task choice = ⊥
+unfoldable pub IsOfTask : EstimatorValue → TaskParts → Choice → Type 0
+IsOfTask estimator task choice =
+    AreOfTask estimator.plain task × HasTable task choice estimator.table
 
 -- an estimator is of this task, by some choice
-abbrev pub IsOfSomeChoice : Tables → TaskParts → Type 0
-IsOfSomeChoice tables task = (choice : Choice) × IsOfTask tables task choice
+abbrev pub IsOfSomeChoice : EstimatorValue → TaskParts → Type 0
+IsOfSomeChoice estimator task = (choice : Choice) × IsOfTask estimator task choice

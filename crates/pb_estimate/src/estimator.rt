@@ -1,19 +1,23 @@
-ghost use Rattle.std.specs.Prelude.{◌≡◌, IsTrue, IfOk};
+ghost use Rattle.std.specs.Prelude.{◌≡◌, true, IsTrue, IfOk};
+ghost use Rattle.std.specs.Option.{option_map, option_copied};
+ghost use Rattle.std.specs.Arc.{arc_value};
 ghost use Rattle.pb_task.specs.Parts.{space_of};
-ghost use Rattle.pb_estimate.specs.declared.choice.Choice.TheVariants.{Plain};
-ghost use Rattle.pb_estimate.specs.Estimates.{estimate_by};
-ghost use Rattle.pb_estimate.specs.Tables.{IsOfTask, IsOfSomeChoice};
+ghost use Rattle.pb_pattern.specs.Tables.{IsOfTask as IsTableOf};
+ghost use Rattle.pb_estimate.specs.Estimates.{choice_with, estimate_by, estimate_of, greater, pattern_of, suits};
+ghost use Rattle.pb_estimate.specs.Tables.{AreOfTask, HasTable, IsOfTask, IsOfSomeChoice};
 
 use crate::choice::Choice;
 use crate::strips::Counters;
 use crate::{grid, strips, tiles};
 use pb_model::Estimate;
 use pb_packed::Packed;
+use pb_pattern::Table;
 use pb_task::{Task, TaskParts};
 use std::alloc::{AllocError, Global};
 use std::marker::Model;
+use std::sync::Arc;
 
-/// What an estimator keeps of its task, by the kind of task.
+/// What an estimator keeps of its task for the plain estimates, by the kind of task.
 #[derive(Drop)]
 pub enum Tables {
     /// Nothing: the distance on a grid is known from the cells alone.
@@ -26,43 +30,43 @@ pub enum Tables {
 }
 
 /// Computes the estimates of one task's states by one choice. Contracts see what it keeps, and that
-/// it is of the task and the choice.
+/// it is of the task and the choice. A table of patterns is shared with other estimators.
 #[derive(Drop)]
 pub struct Estimator {
-    tables: Tables,
+    plain: Tables,
+    table: Option<Arc<Table>>,
 }
 
 impl Model for Estimator {
-    ghost use Rattle.pb_estimate.specs.declared.estimator.Tables.{Tables};
+    ghost use Rattle.std.specs.Option.{option_map};
+    ghost use Rattle.std.specs.Arc.{arc_value};
+    ghost use Rattle.pb_estimate.specs.Tables.{EstimatorValue};
 
-    ghost Value = { Tables };
+    ghost Value = { EstimatorValue };
 
-    ghost view = { λ e. e.tables };
+    ghost view = { λ e. record { plain = e.plain; table = option_map arc_value e.table } };
 }
 
-impl Estimator {
-    /// The estimator of a task by a choice. All the memory that its estimates need is taken here;
-    /// on a grid and for tiles they need none.
-    pub fn of(alloc: Global, task: &Task, choice: &Choice) -> Result<Estimator, AllocError>
-        ensures { IfOk result (λ estimator. IsOfTask estimator task.now choice.now) }
+impl Tables {
+    // What the plain estimates of a task need.
+    fn of(alloc: Global, task: &Task) -> Result<Tables, AllocError>
+        ensures { IfOk result (λ tables. AreOfTask tables task.now) }
     {
-        let tables = match choice {
-            Choice::Plain => plain_tables(alloc, task)?,
-        };
-        Ok(Estimator { tables })
+        Ok(match task.parts() {
+            TaskParts::Grid(_) => Tables::Grid,
+            TaskParts::Tiles(parts) => Tables::Tiles(tiles::ways_home(parts)),
+            TaskParts::Strips(parts) => Tables::Strips(strips::counters_of(alloc, parts)?),
+        })
     }
 
-    /// The estimate of a state of the estimator's own task, by the choice that the estimator is of,
-    /// in the unit of the task's action costs. It takes no memory.
-    pub fn estimate(&mut self, task: &Task, state: &Packed) -> Estimate
-        requires task { IsOfSomeChoice self.old task.now }
+    // The plain estimate of a state.
+    fn estimate(&mut self, task: &Task, state: &Packed) -> Estimate
+        requires task { AreOfTask self.old task.now }
         requires state { IsTrue ((space_of task.now).is_state state.now) }
-        ensures estimate { (choice : _) → IsOfTask self.old task.now choice
-            → result ≡ estimate_by task.now choice state.now }
-        ensures task { (choice : _) → IsOfTask self.old task.now choice
-            → IsOfTask self.new task.now choice }
+        ensures estimate { result ≡ estimate_of task.now state.now }
+        ensures task { AreOfTask self.new task.now }
     {
-        match (task.parts(), &mut self.tables) {
+        match (task.parts(), self) {
             (TaskParts::Grid(parts), _) => Estimate::Cost(grid::distance(parts, state)),
             (TaskParts::Tiles(parts), Tables::Tiles(ways)) => {
                 Estimate::Cost(tiles::distance(parts, ways, state))
@@ -78,13 +82,90 @@ impl Estimator {
     }
 }
 
-// What the estimator of a task keeps for the plain estimates.
-fn plain_tables(alloc: Global, task: &Task) -> Result<Tables, AllocError>
-    ensures { IfOk result (λ tables. IsOfTask tables task.now Plain) }
+// The greater of two estimates, and Dead if one is.
+fn greater(one: Estimate, other: Estimate) -> Estimate
+    ensures { result ≡ greater one other }
 {
-    Ok(match task.parts() {
-        TaskParts::Grid(_) => Tables::Grid,
-        TaskParts::Tiles(parts) => Tables::Tiles(tiles::ways_home(parts)),
-        TaskParts::Strips(parts) => Tables::Strips(strips::counters_of(alloc, parts)?),
-    })
+    match (one, other) {
+        (Estimate::Cost(cost), Estimate::Cost(least)) => Estimate::Cost(cost.max(least)),
+        (Estimate::Dead, _) => Estimate::Dead,
+        (_, Estimate::Dead) => Estimate::Dead,
+    }
+}
+
+impl Estimator {
+    /// The estimator of a task by a choice that suits it. All the memory that its estimates need is
+    /// taken here, with a table of its own if the choice needs one. An error is out of memory.
+    pub fn of(alloc: Global, task: &Task, choice: &Choice) -> Result<Estimator, AllocError>
+        requires suits { suits task.now choice.now ≡ true }
+        ensures { IfOk result (λ estimator. IsOfTask estimator task.now choice.now) }
+    {
+        let plain = Tables::of(alloc, task)?;
+        let table = choice.table(alloc, task)?;
+        Ok(Estimator { plain, table })
+    }
+
+    /// The estimator of a task that looks up this table of the task. It is the plain one if the
+    /// table's number is 0. An error is out of memory.
+    pub fn with(alloc: Global, task: &Task, table: Arc<Table>) -> Result<Estimator, AllocError>
+        requires table { IsTableOf (arc_value table) task.now }
+        ensures { IfOk result (λ estimator. IsOfTask estimator task.now
+            (choice_with (arc_value table).pattern)) }
+    {
+        let plain = Tables::of(alloc, task)?;
+        let table = if table.pattern() == 0 {
+            None
+        } else {
+            Some(table)
+        };
+        Ok(Estimator { plain, table })
+    }
+
+    /// The estimator of a task by a choice, with the table that the choice needs, if it needs one.
+    /// The table is shared. An error is out of memory.
+    pub fn by(
+        alloc: Global,
+        task: &Task,
+        choice: &Choice,
+        table: Option<&Arc<Table>>,
+    ) -> Result<Estimator, AllocError>
+        requires table { HasTable task.now choice.now (option_map arc_value (option_copied table)) }
+        ensures { IfOk result (λ estimator. IsOfTask estimator task.now choice.now) }
+    {
+        let _ = choice;
+        let plain = Tables::of(alloc, task)?;
+        let table = match table {
+            Some(table) => Some(Arc::clone(table)?),
+            None => None,
+        };
+        Ok(Estimator { plain, table })
+    }
+
+    /// The number of the pattern that the estimates look up, and 0 if they look up none.
+    pub fn pattern(&self) -> u32
+        ensures { (task : _) (choice : _) → IsOfTask self.now task choice
+            → result ≡ pattern_of choice }
+    {
+        match &self.table {
+            None => 0,
+            Some(table) => table.pattern(),
+        }
+    }
+
+    /// The estimate of a state of the estimator's own task, by the choice that the estimator is of,
+    /// in the unit of the task's action costs. It takes no memory.
+    pub fn estimate(&mut self, task: &Task, state: &Packed) -> Estimate
+        requires task { IsOfSomeChoice self.old task.now }
+        requires state { IsTrue ((space_of task.now).is_state state.now) }
+        ensures estimate { (choice : _) → IsOfTask self.old task.now choice
+            → result ≡ estimate_by task.now choice state.now }
+        ensures task { (choice : _) → IsOfTask self.old task.now choice
+            → IsOfTask self.new task.now choice }
+    {
+        let plain = self.plain.estimate(task, state);
+        match &self.table {
+            None => plain,
+            Some(table) => greater(plain, table.least(task, state)),
+        }
+    }
 }

@@ -221,8 +221,8 @@ impl Exploration {
         }
     }
 
-    /// Lowers the costs of some atoms to this one, if they aren't reached or cost more.
-    pub fn lower_each(&mut self, atoms: &[u16], cost: u32)
+    // Lowers the costs of some atoms to this one, if they aren't reached or cost more.
+    pub(crate) fn lower_each(&mut self, atoms: &[u16], cost: u32)
         requires is { IsExploration self.old }
         requires inside { All (λ atom. atom < length self.old.costs.items) atoms.now }
         requires small { cost ≤ 2 ^ 30 + 2 ^ 20 }

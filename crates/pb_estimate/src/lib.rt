@@ -4,7 +4,8 @@
 //! The estimate of a state by a choice is the definition `estimate_by` in `specs`. By the plain
 //! choice it is `estimate_of`. For grids that is the Manhattan distance to the goal. For tiles it
 //! is the sum of the Manhattan distances of all tiles from their cells on the goal board. For
-//! STRIPS tasks it is hmax: the cost of the dearest atom of the goal if nothing is deleted.
+//! STRIPS tasks it is hmax: the cost of the dearest atom of the goal if nothing is deleted. By a
+//! pattern it is the greater of the plain estimate and the pattern value.
 #![tactic(auto)]
 
 mod atom_sets;

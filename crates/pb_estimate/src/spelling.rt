@@ -1,6 +1,7 @@
 //! How a certificate is spelled. What writes certificates and what reads them both stand on this.
-ghost use Rattle.std.specs.Prelude.{◌≡◌, ◌≤◌, ℕ, length};
-ghost use Rattle.pb_estimate.specs.Spelling.{IsSpelling, spelling_of, width_text, stated_text, head_lines};
+ghost use Rattle.std.specs.Prelude.{◌≡◌, ◌≤◌, ℕ, length, true};
+ghost use Rattle.pb_estimate.specs.Estimates.{suits};
+ghost use Rattle.pb_estimate.specs.Spelling.{IsSpelling, spelling_of, version_of, width_text, stated_text, head_lines};
 
 use crate::choice::Choice;
 use pb_task::{Kind, Task};
@@ -20,6 +21,7 @@ impl Stated {
     {
         match &self.choice {
             Choice::Plain => 0,
+            Choice::Pattern(_) => 1,
         }
     }
 }
@@ -31,6 +33,8 @@ pub enum Version {
     One,
     /// A line states how many hexadecimal digits a state has, from 1 to 256.
     Two,
+    /// Another line states the number of a pattern.
+    Three,
 }
 
 impl Version {
@@ -42,6 +46,7 @@ impl Version {
         match self {
             Version::One => 0,
             Version::Two => 1,
+            Version::Three => 1,
         }
     }
 }
@@ -59,15 +64,25 @@ pub struct Spelling {
     pub stated: Stated,
 }
 
+// The version in which a certificate is written whose search had this choice of an estimate.
+fn version_of(choice: &Choice) -> Version
+    ensures { result ≡ version_of choice.now }
+{
+    match choice {
+        Choice::Plain => Version::Two,
+        Choice::Pattern(_) => Version::Three,
+    }
+}
+
 impl Spelling {
     /// How a certificate of this task is written whose search had this choice of an estimate.
     pub fn of(task: &Task, choice: Choice) -> Spelling
         ensures spelling { result ≡ spelling_of task.now choice }
-        ensures known { IsSpelling result }
+        ensures known { suits task.now choice ≡ true → IsSpelling result }
     {
         Spelling {
             kind: task.kind(),
-            version: Version::Two,
+            version: version_of(&choice),
             width: task.width(),
             stated: Stated { choice },
         }

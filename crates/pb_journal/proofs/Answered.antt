@@ -31,13 +31,13 @@ gives_accepted blocks bytes few (Err (errors.At line why)) given n is =
 
 module _ (bytes : List ℕ) where
   header_read : (settings : Settings) → settings_of bytes ≡ Ok settings → HasHeader bytes settings
-      × (weight_of settings ≡ one)
+      × ((weight_of settings ≡ one) × (settings.pattern ≡ 0))
   header_read settings e =
       let h = bind_ok (header_of bytes) _ settings e in
       let is = header_is bytes h.0 h.1 in
       let same = ok_is h.0.0 settings h.2 in
-      subst (λ s. HasHeader bytes s × (weight_of s ≡ one)) same
-      (record { rest = h.0.1; text = is.text; range = is.range }, is.weight)
+      subst (λ s. HasHeader bytes s × ((weight_of s ≡ one) × (s.pattern ≡ 0))) same
+      (record { rest = h.0.1; text = is.text; range = is.range }, (is.weight, is.pattern))
 
   pub if_header : (r : Result Settings JournalError) → Answers (λ s. s) r (settings_of bytes)
       → IfOk r (HasHeader bytes)
@@ -46,8 +46,13 @@ module _ (bytes : List ℕ) where
 
   pub if_weight : (r : Result Settings JournalError) → Answers (λ s. s) r (settings_of bytes)
       → IfOk r (λ settings. weight_of settings ≡ one)
-  if_weight (Ok settings) given = (header_read settings given).1
+  if_weight (Ok settings) given = (header_read settings given).1.0
   if_weight (Err e) given = tt
+
+  pub if_pattern : (r : Result Settings JournalError) → Answers (λ s. s) r (settings_of bytes)
+      → IfOk r (λ settings. settings.pattern ≡ 0)
+  if_pattern (Ok settings) given = (header_read settings given).1.1
+  if_pattern (Err e) given = tt
 
   pub only_header : (r : Result Settings JournalError) → Answers (λ s. s) r (settings_of bytes)
       → (settings : Settings) → HasHeader bytes settings → r

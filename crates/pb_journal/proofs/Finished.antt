@@ -209,7 +209,8 @@ unfolding judged events_of
 text_accepted blocks settings journal counts few legal finished =
     let plain : Settings = settings_with_weight settings one in
     let history : IsHistory blocks plain 0 journal counts =
-    histories_have_any_weight blocks settings one 0 journal counts one_is_weight legal in
+    histories_have_any_weight
+    blocks settings one 0 0 journal counts one_is_weight (omega arith) legal in
     let fit : AllFit journal =
     history_fits blocks plain journal (opening_counts plain 0) counts few history.range
     (opening_lawful blocks plain 0 (omega arith)) history.replays in

@@ -95,6 +95,7 @@ pub record IsHeader (bytes : List ℕ) (header : Settings × List ℕ) : Type 0 
   pub text : bytes ≡ header_text header.0 ++ header.1
   pub range : AreInRange header.0
   pub weight : weight_of header.0 ≡ one
+  pub pattern : header.0.pattern ≡ 0
 
 pub header_is : (bytes : List ℕ) (x : Settings × List ℕ) → header_of bytes ≡ Ok x → IsHeader bytes x
 unfolding header_of
@@ -128,8 +129,10 @@ header_is bytes x is =
         budget = budget.within;
         lot = lot.within;
         wish = wish.within;
+        pattern = omega arith;
       };
       weight = refl;
+      pattern = refl;
     })
 
 -- ---- what is spelled so is read

@@ -68,7 +68,7 @@ plain_at line text = do
   plain ← plain_in line first.0
   Ok (plain, first.1)
 
--- the settings, whose weight is 1, and the text after the header
+-- the settings, with the weight 1 and no pattern database, and the text after the header
 unfoldable pub header_of : List ℕ → Result (Settings × List ℕ) Fault
 header_of bytes = do
   rest ← fixed_at 1 (codes "pbnf-journal 1") bytes

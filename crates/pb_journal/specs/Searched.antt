@@ -18,8 +18,8 @@ use Rattle.pb_journal.specs.Judging.{settings_of, judged}
 use Rattle.pb_journal.specs.Shown.{one, HasHeader, IsFinishedJournal}
 
 -- The text of these settings and events is that of a finished legal history over the blocks. It is
--- accepted with its number of events, and its header is read: the settings but for the weight,
--- which is 1.
+-- accepted with its number of events, and its header is read: the settings, but with the weight 1
+-- and no pattern database.
 pub record IsAccepted (blocks : Blocks) (settings : Settings) (journal : List Event) : Type 0 where
   pub finished : IsFinishedJournal blocks (journal_text settings journal) (length journal)
   pub accepted : judged blocks (journal_text settings journal) ≡ Ok (length journal)

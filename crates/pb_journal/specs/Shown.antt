@@ -50,7 +50,7 @@ AcceptedJournalsAreFinished =
     ≡ Ok events)
 
 -- What is written of a finished legal history is accepted, with its number of events. Its header is
--- read: the settings but for the weight, which is 1.
+-- read: the settings, but with the weight 1 and no pattern database.
 abbrev pub WrittenJournalsAreAccepted : Type 0
 WrittenJournalsAreAccepted =
     (blocks : Blocks) (settings : Settings) (journal : List Event) (counts : Counts)

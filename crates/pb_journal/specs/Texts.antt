@@ -19,7 +19,7 @@ abbrev pub plain_line : Bool → List ℕ
 plain_line false = codes "plain 0"
 plain_line true = codes "plain 1"
 
--- the settings, without the weight
+-- the settings, without the weight and the pattern database
 abbrev pub header_lines : Settings → List (List ℕ)
 header_lines settings =
     codes "pbnf-journal 1"

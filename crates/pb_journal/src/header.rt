@@ -10,7 +10,7 @@ use crate::error::{Fault, JournalError};
 use crate::reading::{fixed_at, number_at, plain_at};
 use pb_machine::{STANDARD, Settings};
 
-/// The settings, whose weight is 1, and the text after the header.
+/// The settings, with the weight 1 and no pattern database, and the text after the header.
 #[tactic(auto, unfolding(crate::specs::Reading::header_of))]
 pub(crate) fn header(bytes: &[u8]) -> Result<(Settings, &[u8]), Fault>
     ensures reads { Reads (λ x. (x.0, x.1.now)) result (header_of bytes.now) }
@@ -44,13 +44,15 @@ fn settings_in(bytes: &[u8]) -> Result<Settings, JournalError>
 }
 
 /// The settings that a journal's header states, or the first line of the header that is refused.
-/// The weight, of which a header says nothing, is 1. It takes no memory.
+/// A header says nothing of the weight and of the pattern database: the weight is 1, and there is no
+/// pattern database. It takes no memory.
 pub fn read_header(bytes: &[u8]) -> Result<Settings, JournalError>
     // Which settings or line it is. It is never out of memory.
     ensures exact { Answers (λ settings. settings) result (settings_of bytes.now) }
     // The bytes begin with the header of the settings, which are in range.
     ensures header { IfOk result (HasHeader bytes.now) }
     ensures weight { IfOk result (λ settings. weight_of settings ≡ one) }
+    ensures pattern { IfOk result (λ settings. settings.pattern ≡ 0) }
     // What begins with the header of settings in range is read.
     ensures only { (settings : TheSettings) → HasHeader bytes.now settings → result
         ≡ Ok (settings_with_weight settings one) }

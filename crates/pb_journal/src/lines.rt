@@ -152,7 +152,8 @@ fn put_event(event: &Event, out: &mut Piece)
     }
 }
 
-/// The text of a journal: the settings of its search, without the weight, and the events.
+/// The text of a journal: the settings of its search, without the weight and the pattern database,
+/// and the events.
 #[derive(Drop)]
 pub struct JournalText<'a> {
     pub settings: &'a Settings,

@@ -10,8 +10,8 @@ use pb_outside::{Failed, Shelf};
 use pb_print::save_lines;
 
 /// Saves the journal of a search with these settings as the file of this name. It is saved in
-/// pieces of whole lines, each of at most 4,096 bytes. The weight of the settings is not written.
-/// It takes no memory. An error is a fault of the shelf.
+/// pieces of whole lines, each of at most 4,096 bytes. The weight and the pattern database of the
+/// settings are not written. It takes no memory. An error is a fault of the shelf.
 pub fn write_journal<H: Shelf>(
     settings: &Settings,
     journal: &[Event],

@@ -5,7 +5,7 @@ use Rattle.pb_model.specs.Weight.{Weight, IsWeight}
 use Rattle.pb_model.specs.Store.{Rows, Store}
 use Rattle.pb_model.specs.Work.{reopened_row}
 use Rattle.pb_machine.specs.declared.event.End.TheVariants.{Quiet}
-use Rattle.pb_machine.specs.Settings.{weight_of, settings_with_weight}
+use Rattle.pb_machine.specs.Settings.{weight_of, settings_with}
 use Rattle.pb_machine.specs.Counts.{opening_counts}
 use Rattle.pb_machine.specs.Machine.{is_same, Machine}
 use Rattle.pb_lists.specs.Store.{store_with}
@@ -69,7 +69,8 @@ pub record IsReopened (old : GraphValue) (weight : Weight) (new : GraphValue) : 
   pub task : new.task ≡ old.task
   pub graph : new.table.graph ≡ old.table.graph
   pub choice : new.choice ≡ old.choice
-  pub settings : new.table.settings ≡ settings_with_weight old.table.settings weight
+  pub settings : new.table.settings
+      ≡ settings_with old.table.settings weight old.table.settings.pattern
   pub reopenings : new.table.past.reopenings ≡ old.table.past.reopenings + 1
   pub spent : new.table.past.spent ≡ old.table.spent
   pub journal : new.table.journal ≡ []

@@ -1,5 +1,5 @@
 -- What a journal tells of its end, and what a legal history doesn't depend on.
-use Rattle.std.proofs.Common.{◌≡◌, cond, is_some, is_none, List, [], ◌∷◌, Option, Some, None, refl, sym, ap, ◌∙◌, true≢false}
+use Rattle.std.proofs.Common.{◌≡◌, ℕ, cond, is_some, is_none, List, [], ◌∷◌, Option, Some, None, refl, sym, ap, ◌∙◌, true≢false}
 use Rattle.std.specs.Option.{option_or}
 use Rattle.pb_model.specs.Weight.{Weight}
 use Rattle.pb_model.proofs.Callers.{by_cases, none_found}
@@ -8,7 +8,7 @@ use Rattle.pb_machine.specs.declared.event.End.TheVariants.{Quiet, Budget, Memor
 use Rattle.pb_machine.specs.declared.event.Event.{Event}
 use Rattle.pb_machine.specs.declared.event.Event.TheVariants.{Lease, Renew, Hot, Cold, Release, Off, Ended}
 use Rattle.pb_machine.specs.declared.settings.Settings.{Settings}
-use Rattle.pb_machine.specs.Settings.{settings_with_weight}
+use Rattle.pb_machine.specs.Settings.{settings_with}
 use Rattle.pb_machine.specs.Blocks.{Blocks}
 use Rattle.pb_machine.specs.Counts.{Counts, opening_counts, counts_after, is_any_out}
 use Rattle.pb_machine.specs.Legality.{refusal}
@@ -62,11 +62,11 @@ all_off_none_out blocks settings counts lawful off = by_cases (is_any_out settin
     absurd (true≢false (sym w.2 ∙ ap is_some (lawful.off w.0 (off w.0 w.1)).1)))
     (λ e. e)
 
--- ---- the weight
+-- ---- the weight and the pattern database
 
-module _ (blocks : Blocks) (settings : Settings) (weight : Weight) where
+module _ (blocks : Blocks) (settings : Settings) (weight : Weight) (pattern : ℕ) where
   abbrev Other : Settings
-  Other = settings_with_weight settings weight
+  Other = settings_with settings weight pattern
 
   same_refusal : (c : Counts) (e : Event) → refusal blocks Other c e ≡ refusal blocks settings c e
   same_refusal c (Lease by block quota) = refl
@@ -95,8 +95,8 @@ module _ (blocks : Blocks) (settings : Settings) (weight : Weight) where
       ∙ ap (λ (o : Option Counts). cond (is_none (refusal blocks settings c e)) o None) (same_replay es (counts_after blocks settings c e))
 
 pub histories_have_any_weight : HistoriesHaveAnyWeight
-histories_have_any_weight blocks settings weight before journal counts is_weight is = record {
-  range = record { workers = is.range.workers; weight = is_weight; budget = is.range.budget; lot = is.range.lot; wish = is.range.wish };
+histories_have_any_weight blocks settings weight pattern before journal counts is_weight is_pattern is = record {
+  range = record { workers = is.range.workers; weight = is_weight; budget = is.range.budget; lot = is.range.lot; wish = is.range.wish; pattern = is_pattern };
   enough = is.enough;
-  replays = same_replay blocks settings weight journal (opening_counts settings before) ∙ is.replays;
+  replays = same_replay blocks settings weight pattern journal (opening_counts settings before) ∙ is.replays;
 }

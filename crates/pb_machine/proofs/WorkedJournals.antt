@@ -26,6 +26,7 @@ in_range = record {
   budget = (omega arith, omega arith);
   lot = (omega arith, omega arith);
   wish = (omega arith, omega arith);
+  pattern = omega arith;
 }
 
 two_in_range : AreInRange two_workers
@@ -35,6 +36,7 @@ two_in_range = record {
   budget = in_range.budget;
   lot = in_range.lot;
   wish = in_range.wish;
+  pattern = in_range.pattern;
 }
 
 short_in_range : AreInRange short_budget
@@ -44,6 +46,7 @@ short_in_range = record {
   budget = (omega arith, omega arith);
   lot = (omega arith, omega arith);
   wish = (omega arith, omega arith);
+  pattern = omega arith;
 }
 
 -- an end stands, and the one worker has signed off, or both have

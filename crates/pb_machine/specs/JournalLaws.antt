@@ -14,7 +14,7 @@ use Rattle.pb_machine.specs.declared.event.Event.TheVariants.{Lease, Renew, Hot,
 use Rattle.pb_machine.specs.declared.event.EventRefusal.{EventRefusal}
 use Rattle.pb_machine.specs.declared.event.Grant.{Grant}
 use Rattle.pb_machine.specs.declared.settings.Settings.{Settings}
-use Rattle.pb_machine.specs.Settings.{settings_with_weight}
+use Rattle.pb_machine.specs.Settings.{settings_with}
 use Rattle.pb_machine.specs.Tables.{with_entry, one_if}
 use Rattle.pb_machine.specs.Blocks.{Blocks, interferes}
 use Rattle.pb_machine.specs.Counts.{Counts, counts_after, is_any_out, is_busy, is_near_hot, AreLawful}
@@ -111,13 +111,13 @@ AllOffNoneOut =
     → ((worker : ℕ) → worker < settings.workers → IsTrue (counts.signed_off worker))
     → IsFalse (is_any_out settings.workers counts.leases)
 
--- A legal history is one under any weight: no event depends on it.
+-- A legal history is one under any weight and any pattern database: no event depends on them.
 abbrev pub HistoriesHaveAnyWeight : Type 0
 HistoriesHaveAnyWeight =
-    (blocks : Blocks) (settings : Settings) (weight : Weight) (before : ℕ) (journal : List Event)
-    (counts : Counts)
-    → IsWeight weight → IsHistory blocks settings before journal counts
-    → IsHistory blocks (settings_with_weight settings weight) before journal counts
+    (blocks : Blocks) (settings : Settings) (weight : Weight) (pattern before : ℕ)
+    (journal : List Event) (counts : Counts)
+    → IsWeight weight → pattern ≤ 12 → IsHistory blocks settings before journal counts
+    → IsHistory blocks (settings_with settings weight pattern) before journal counts
 
 -- A journal is judged event by event. A line and a reason are given exactly if the event on that
 -- line is the first refused one, for that reason. None are given exactly if all events may come.

@@ -7,7 +7,7 @@ use Rattle.pb_model.specs.Store.{HasGoalWithin, HasOpened, IsQuiet, AtMost}
 use Rattle.pb_model.specs.Work.{Work, lower, reopen, Comes, expansions, broken_expansions, reopenings, ReopensQuiet, opening_store, store_after}
 use Rattle.pb_machine.specs.declared.event.End.TheVariants.{Quiet, Budget, Memory}
 use Rattle.pb_machine.specs.declared.event.Grant.{Grant}
-use Rattle.pb_machine.specs.Settings.{weight_of, settings_with_weight}
+use Rattle.pb_machine.specs.Settings.{weight_of, settings_with}
 use Rattle.pb_machine.specs.Tables.{count_below}
 use Rattle.pb_machine.specs.Counts.{Counts, opening_counts, AreLawful}
 use Rattle.pb_machine.specs.Machine.{Setup, is_same, Machine}
@@ -111,6 +111,6 @@ reopened_machine setup weight machine =
 abbrev pub reopened_setup : Setup → Weight → Setup
 reopened_setup setup weight =
     record setup {
-      settings = settings_with_weight setup.settings weight;
+      settings = settings_with setup.settings weight setup.settings.pattern;
       reopenings = setup.reopenings + 1;
     }

@@ -15,9 +15,12 @@ pub struct Settings {
     pub wish: u32,
     /// Whether no block is ever marked hot.
     pub plain: bool,
+    /// The number of the pattern database (Culberson and Schaeffer, 1998): 1 to 12, or 0 for none.
+    pub pattern: u32,
 }
 
-/// The settings of a search of which nothing is asked: one worker and the weight 1.
+/// The settings of a search of which nothing is asked: one worker, the weight 1 and no pattern
+/// database.
 pub const STANDARD: Settings = Settings {
     workers: 1,
     num: 1,
@@ -26,4 +29,5 @@ pub const STANDARD: Settings = Settings {
     lot: 256,
     wish: 256,
     plain: false,
+    pattern: 0,
 };

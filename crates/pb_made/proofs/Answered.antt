@@ -12,10 +12,11 @@ use Rattle.pb_machine.specs.Settings.{weight_of}
 use Rattle.pb_abstract.specs.Graph.{AbstractGraph}
 use Rattle.pb_lease.specs.GraphValue.{GraphValue}
 use Rattle.pb_workers.specs.Ends.{home_store}
+use Rattle.pb_estimate.specs.declared.choice.Choice.TheVariants.{Plain}
 use Rattle.pb_check.specs.declared.fault.CertificateFault.{CertificateFault}
 use Rattle.pb_check.specs.declared.fault.Verdict.{Verdict}
 use Rattle.pb_check.specs.Judging.{verdict_of, bound_of}
-use Rattle.pb_search.specs.Ends.{searched_guide}
+use Rattle.pb_search.specs.Ends.{choice_of, searched_guide}
 use Rattle.pb_search.specs.Searches.{LeavesQuiet}
 use Rattle.pb_search.proofs.Callers.{quiet_end, search_ends}
 use Rattle.pb_cert.specs.Found.{IsTracedIfAny, IsPlanOf, IsCertificateOf}
@@ -54,7 +55,23 @@ module _ (parts : TaskParts) (graph : GraphValue) (workers : ℕ)
 
   -- the text is that of a certificate of the rows at home
   abbrev pub IsOfRows : Option Plan → List ℕ → Type 0
-  IsOfRows plan text = IsCertificateOf parts unweighted guide (home_store graph) plan text
+  IsOfRows plan text = IsCertificateOf parts Plain unweighted guide (home_store graph) plan text
+
+  -- what is said of the rows by the graph's own settings
+  pub plan_of_rows : (plan : Option Plan)
+      → IsPlanOf parts (searched_guide parts graph.table.graph graph.table.settings)
+      (home_store graph) plan → IsPlanOfRows plan
+  plan_of_rows plan is =
+      subst (λ (s : Settings). IsPlanOf parts (searched_guide parts graph.table.graph s)
+      (home_store graph) plan) left.settings_are is
+
+  pub text_of_rows : (plan : Option Plan) (text : List ℕ)
+      → IsCertificateOf parts Plain unweighted
+      (searched_guide parts graph.table.graph graph.table.settings) (home_store graph) plan text
+      → IsOfRows plan text
+  text_of_rows plan text is =
+      subst (λ (s : Settings). IsCertificateOf parts Plain unweighted
+      (searched_guide parts graph.table.graph s) (home_store graph) plan text) left.settings_are is
 
   -- the search with the settings that the graph has
   pub with_its_settings : LeavesQuiet parts graph.table.settings graph
@@ -63,6 +80,9 @@ module _ (parts : TaskParts) (graph : GraphValue) (workers : ℕ)
 
   pub is_unweighted : weight_of graph.table.settings ≡ unweighted
   is_unweighted = left.best.weight
+
+  pub is_plain : choice_of graph.table.settings ≡ Plain
+  is_plain = ap choice_of left.settings_are
 
   holds : (incumbent : Option ℕ) → graph.incumbent ≡ incumbent
       → IncumbentHolds (space_of parts) unweighted incumbent
@@ -85,14 +105,14 @@ module _ (parts : TaskParts) (graph : GraphValue) (workers : ℕ)
 
   -- it is the certificate of the search's rows
   is_of_search : (plan : Option Plan) (text : List ℕ) → IsOfRows plan text
-      → IsCertificateOf parts unweighted (searched_guide parts left.run.ends.graph (made_settings workers))
+      → IsCertificateOf parts Plain unweighted (searched_guide parts left.run.ends.graph (made_settings workers))
       left.run.ends.run.machine.store plan text
   is_of_search plan text is =
       subst (λ (s : Store).
-      IsCertificateOf parts unweighted (searched_guide parts left.run.ends.graph (made_settings workers)) s plan text)
+      IsCertificateOf parts Plain unweighted (searched_guide parts left.run.ends.graph (made_settings workers)) s plan text)
       left.run.rows
       (subst (λ (g : AbstractGraph).
-      IsCertificateOf parts unweighted (searched_guide parts g (made_settings workers)) (home_store graph) plan text)
+      IsCertificateOf parts Plain unweighted (searched_guide parts g (made_settings workers)) (home_store graph) plan text)
       left.run.blocks is)
 
   certified : (plan : Option Plan) (text : List ℕ) → IsPlanOfRows plan → IsOfRows plan text

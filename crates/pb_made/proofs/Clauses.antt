@@ -1,5 +1,5 @@
 -- What an answer says of the made task, clause by clause.
-use Rattle.std.proofs.Common.{◌≡◌, ℕ, Result, Ok, Err, IfOk, subst, sym}
+use Rattle.std.proofs.Common.{ℕ, Result, Ok, Err, IfOk}
 use Rattle.pb_model.specs.Plan.{IsBound, HasNoPlan, NoneCheaper}
 use Rattle.pb_task.specs.declared.parts.TaskParts.{TaskParts}
 use Rattle.pb_task.specs.Parts.{space_of}

@@ -1,5 +1,5 @@
 -- What is said of a made task.
-use Rattle.std.specs.Prelude.{◌≡◌, ℕ, false, ⊤, Option, None, Some, List, Ok, Err}
+use Rattle.std.specs.Prelude.{◌≡◌, ℕ, ⊤, Option, None, Some, List, Ok, Err}
 use Rattle.pb_model.specs.Weight.{Weight}
 use Rattle.pb_model.specs.Plan.{Plan, IsPlan, IsBound, HasNoPlan, NoneCheaper}
 use Rattle.pb_machine.specs.declared.event.End.TheVariants.{Budget}
@@ -8,6 +8,7 @@ use Rattle.pb_machine.specs.declared.settings.Settings.{Settings}
 use Rattle.pb_machine.specs.Settings.{standard}
 use Rattle.pb_task.specs.declared.parts.TaskParts.{TaskParts}
 use Rattle.pb_task.specs.Parts.{space_of}
+use Rattle.pb_estimate.specs.declared.choice.Choice.TheVariants.{Plain}
 use Rattle.pb_search.specs.Ends.{searched_guide}
 use Rattle.pb_search.specs.Searches.{SearchEnds}
 use Rattle.pb_cert.specs.Found.{IsCertificateOf}
@@ -24,7 +25,7 @@ abbrev pub unweighted : Weight
 unweighted = record { num = 1; den = 1 }
 
 -- what a made task is searched with: so many workers, the weight 1, 16,777,216 expansions, lots of
--- 256, 256 blocks, and hot marks
+-- 256, 256 blocks, hot marks, and the estimate of its kind alone
 abbrev pub made_settings : (workers : ℕ) → Settings
 made_settings workers = record standard { workers = workers }
 
@@ -42,7 +43,7 @@ IsCertified parts workers verdict =
     (plan : Option Plan) × (journal : List Event)
     × (found : Finds parts (made_settings workers) journal plan)
     × (text : List ℕ)
-    × IsCertificateOf parts unweighted
+    × IsCertificateOf parts Plain unweighted
     (searched_guide parts found.run.ends.graph (made_settings workers))
     found.run.ends.run.machine.store plan text
     × (verdict ≡ verdict_of unweighted plan)

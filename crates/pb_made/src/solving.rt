@@ -4,13 +4,14 @@ ghost use Rattle.std.specs.Arc.{arc_value};
 ghost use Rattle.pb_machine.specs.Settings.{AreInRange, weight_of};
 ghost use Rattle.pb_model.specs.Plan.{IsBound, HasNoPlan, NoneCheaper};
 ghost use Rattle.pb_task.specs.Parts.{space_of};
+ghost use Rattle.pb_estimate.specs.declared.choice.Choice.TheVariants.{Plain};
 ghost use Rattle.pb_workers.specs.Ends.{home_store};
 ghost use Rattle.pb_check.specs.declared.fault.Claim.TheVariants.{Bounded, Unsolvable};
 ghost use Rattle.pb_made.specs.Made.{IsSize, OfMade};
 ghost use Rattle.pb_made.specs.Answers.{IfAccepted, IfNoneAccepted, IfStopped, IsAnswered};
 ghost use Rattle.pb_made.specs.Answers.{HasPlan, IsCertified, IsStopped, unweighted};
 ghost use Rattle.pb_made.specs.Answers.{made_settings};
-ghost use Rattle.pb_search.specs.Ends.{searched_guide};
+ghost use Rattle.pb_search.specs.Ends.{choice_of, searched_guide};
 ghost use Rattle.pb_search.specs.Searches.{LeavesQuiet};
 ghost use Rattle.pb_cert.specs.Found.{IsPlanOf, IsCertificateOf};
 
@@ -164,10 +165,11 @@ fn certificate_text(
 ) -> Result<Vec<u8>, AllocError>
     requires quiet { LeavesQuiet task.now graph.now.table.settings graph.now }
     requires weight { weight_of graph.now.table.settings ≡ unweighted }
+    requires choice { choice_of graph.now.table.settings ≡ Plain }
     requires plan { IsPlanOf task.now
         (searched_guide task.now graph.now.table.graph graph.now.table.settings)
         (home_store graph.now) plan }
-    ensures { IfOk result (λ text. IsCertificateOf task.now unweighted
+    ensures { IfOk result (λ text. IsCertificateOf task.now Plain unweighted
         (searched_guide task.now graph.now.table.graph graph.now.table.settings)
         (home_store graph.now) plan text.items) }
 {

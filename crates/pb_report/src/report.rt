@@ -129,6 +129,7 @@ impl Report {
                 b" ",
                 u64::from(wanted),
             ),
+            CertificateFault::Pattern => Report::of_line(alloc, b"refused Pattern"),
             CertificateFault::Weight => Report::of_line(alloc, b"refused Weight"),
             CertificateFault::PlanStep { i } => Report::with_number(alloc, b"refused PlanStep ", i),
             CertificateFault::NotGoal => Report::of_line(alloc, b"refused NotGoal"),

@@ -1,5 +1,5 @@
 -- What one call of the program saves, another one accepts.
-use Rattle.std.proofs.Common.{◌≡◌, ◌⊎◌, inl, inr, ℕ, Bool, false, ◌<◌, Option, None, Some, List, [], ◌∷◌, ◌++◌, length, Ok, refl, sym, ap, ap₂, subst, ◌∙◌, arith}
+use Rattle.std.proofs.Common.{◌≡◌, ◌⊎◌, inl, inr, ℕ, false, ◌<◌, ◌≤◌, Option, None, Some, List, [], ◌∷◌, ◌++◌, length, Ok, refl, sym, ap, ap₂, subst, ◌∙◌, arith}
 use Rattle.pb_model.specs.Plan.{Plan}
 use Rattle.pb_model.specs.Texts.{stopped_report}
 use Rattle.pb_task.specs.declared.parts.TaskParts.{TaskParts}
@@ -8,13 +8,14 @@ use Rattle.pb_grid.specs.Laws.{SwampChangesMarksAlone}
 use Rattle.pb_abstract.specs.Laws.{BlocksAskForNoCosts}
 use Rattle.pb_journal.specs.Texts.{journal_text}
 use Rattle.pb_journal.specs.Shown.{WrittenJournalsAreAccepted}
+use Rattle.pb_journal.specs.Lengths.{most_bytes, JournalTextsAreShort}
 use Rattle.pb_command.specs.declared.command.InputOptions.{InputOptions}
 use Rattle.pb_command.specs.Values.{InputNames, Grid, Tiles, Strips}
 use Rattle.pb_command.specs.Meaning.{Reading, Read, Solve, Check, Journal, SolveMeaning, CheckMeaning, JournalMeaning, reading_of_words}
 use Rattle.pb_command.specs.Options.{SolveReadsOptions, CheckReadsOptions, JournalReadsOptions}
 use Rattle.pb_answer.specs.Outputs.{Output, output}
 use Rattle.pb_answer.specs.Loaded.{input_task, solve_task, check_task, journal_task, with_text, OfTexts}
-use Rattle.pb_answer.specs.Searches.{settings_of, weight_asked}
+use Rattle.pb_answer.specs.Searches.{settings_of, choice_asked, weight_asked}
 use Rattle.pb_answer.specs.Claims.{IsCertificate, journal_outputs, journal_outputs_if_any, Certifies, Stops}
 use Rattle.pb_answer.specs.Journals.{IsJournalOf}
 use Rattle.pb_answer.specs.Answer.{Says, Saves}
@@ -22,7 +23,7 @@ use Rattle.pb_answer.proofs.Callers.{SavesJournal, of_quiet, of_stopped, without
 use Rattle.pb_run.specs.Outcome.{Outcome, IfSolve, IfCheck, IfJournal, IsAnswer, IsBroken}
 use Rattle.pb_run.specs.Headline.{CertificateHolds, StopHasCause}
 use Rattle.pb_run.specs.Commands.{IsOfVerdict, SolveHolds, CheckHolds, JournalHolds}
-use Rattle.pb_run.specs.Laws.{IsSavedFirst, IsSavedLast, SavedCertificatesAreAccepted, SavedJournalsAreAccepted, Keeps, AcceptsIt, CertificatesAreAcceptedByWords, JournalsAreAcceptedByWords}
+use Rattle.pb_run.specs.Laws.{IsSavedFirst, IsSavedLast, SavedCertificatesAreAccepted, SavedJournalsAreAccepted, SavedJournalsAreShort, Keeps, AcceptsIt, CertificatesAreAcceptedByWords, JournalsAreAcceptedByWords}
 
 -- the texts behind another one spell the task that they spell alone
 input_behind : (input : InputNames) (options : InputOptions) (text : List ℕ) (texts : List (List ℕ))
@@ -34,7 +35,7 @@ input_behind (Strips names) options text texts = refl
 -- ---- what is promised of a search
 
 -- the certificate of none, or the cause of a stop, if the arguments are this command
-none_of : (solve : SolveMeaning) (it : Outcome) → it.asked ≡ Read (Solve solve) → CertificateHolds it → it.said.status ≡ 1
+pub none_of : (solve : SolveMeaning) (it : Outcome) → it.asked ≡ Read (Solve solve) → CertificateHolds it → it.said.status ≡ 1
     → OfTexts solve it.texts (λ task. Certifies (Saves it.said) solve task None)
 none_of solve it is holds =
     subst (λ (r : Reading). IfSolve r (λ s. it.said.status ≡ 1 → OfTexts s it.texts (λ task. Certifies (Saves it.said) s task None))) is holds.none
@@ -62,7 +63,7 @@ module _ (solve : SolveMeaning) (check : CheckMeaning) (ran checked_ran : Outcom
   accepted : (parts : TaskParts) (plan : Option Plan) → solve_task solve ran.texts ≡ Ok parts → Certifies (Saves ran.said) solve parts plan
       → (checked_ran.said.status ≡ 0) ⊎ IsBroken checked_ran.said.status
   accepted parts plan is (left, searched, found, outputs, certificate, saves) =
-      let mine = subst (λ (n : Option (List ℕ)). IsCertificate n parts (weight_asked solve) left.guide
+      let mine = subst (λ (n : Option (List ℕ)). IsCertificate n parts (choice_asked solve) (weight_asked solve) left.guide
       left.store plan outputs) named certificate in
       let journals = journal_outputs_if_any solve.journal (settings_of solve) left.journal in
       let all : output name text ∷ saved.0 ≡ (output name mine.0 ∷ []) ++ journals =
@@ -100,7 +101,52 @@ same_last : (first others : List Output) (name text other : List ℕ)
 same_last first others name text other e =
     sym (last_is first (output name text)) ∙ ap last_text e ∙ last_is others (output name other)
 
-module _ (law : WrittenJournalsAreAccepted) (marks : SwampChangesMarksAlone)
+-- the journal that a call saved of its search
+saved_journal : WrittenJournalsAreAccepted → JournalTextsAreShort → (solve : SolveMeaning)
+    (ran : Outcome) → (ran.said.status ≡ 0) ⊎ ((ran.said.status ≡ 1) ⊎ (ran.said.status ≡ 2))
+    → ran.asked ≡ Read (Solve solve) → SolveHolds solve ran → CertificateHolds ran
+    → StopHasCause ran
+    → OfTexts solve ran.texts (SavesJournal (Saves ran.said) solve)
+saved_journal law lengths solve ran (inl zero) is all certified stop =
+    let found = all.one_plan zero in
+    (found.0, found.1, of_quiet law lengths solve found.0 (Saves ran.said) (Some found.2.0) found.2.6)
+saved_journal law lengths solve ran (inr (inl one)) is all certified stop =
+    let found = none_of solve ran is certified one in
+    (found.0, found.1, of_quiet law lengths solve found.0 (Saves ran.said) None found.2)
+saved_journal law lengths solve ran (inr (inr two)) is all certified stop =
+    let found = stop_of solve ran is stop two in
+    (found.0, found.1, of_stopped law lengths solve found.0 (Saves ran.said) found.2)
+
+-- the text that was saved last is that of the journal
+text_is : (solve : SolveMeaning) (ran : Outcome) (name text : List ℕ) → solve.journal ≡ Some name
+    → IsSavedLast ran.said name text → (parts : TaskParts)
+    → (mine : SavesJournal (Saves ran.said) solve parts)
+    → text ≡ journal_text (settings_of solve) mine.events
+text_is solve ran name text named saved parts mine =
+    let written = journal_text (settings_of solve) mine.events in
+    let all : saved.0 ++ output name text ∷ [] ≡ mine.first ++ output name written ∷ [] =
+    sym saved.1 ∙ mine.saved
+    ∙ ap (λ (n : Option (List ℕ)). mine.first ++ journal_outputs n (settings_of solve) mine.events)
+    named in
+    same_last saved.0 mine.first name text written all
+
+-- a saved journal is as long as its own events allow
+pub saved_journals_are_short : WrittenJournalsAreAccepted → JournalTextsAreShort
+    → SavedJournalsAreShort
+saved_journals_are_short law lengths solve ran name text is named answered saved all certified stop =
+    let found = saved_journal law lengths solve ran answered is all certified stop in
+    let mine = found.2 in
+    let same = text_is solve ran name text named saved found.0 mine in (
+      found.0,
+      found.1,
+      (
+        length mine.events,
+        subst (λ (t : List ℕ). IsJournalOf found.0 t (length mine.events)) (sym same) mine.legal,
+        subst (λ (t : List ℕ). length t ≤ most_bytes (length mine.events)) (sym same) mine.short,
+      ),
+    )
+
+module _ (law : WrittenJournalsAreAccepted) (lengths : JournalTextsAreShort) (marks : SwampChangesMarksAlone)
     (blocks : BlocksAskForNoCosts) (solve : SolveMeaning) (journal : JournalMeaning)
     (ran judged_ran : Outcome) (name text : List ℕ) (same_input : journal.input ≡ solve.input)
     (same_options : journal.options ≡ record solve.options { swamp = false }) (named : solve.journal ≡ Some name)
@@ -119,12 +165,7 @@ module _ (law : WrittenJournalsAreAccepted) (marks : SwampChangesMarksAlone)
       → SavesJournal (Saves ran.said) solve parts
       → (judged_ran.said.status ≡ 0) ⊎ IsBroken judged_ran.said.status
   journal_accepted parts is mine =
-      let written = journal_text (settings_of solve) mine.events in
-      let all : saved.0 ++ output name text ∷ [] ≡ mine.first ++ output name written ∷ [] =
-      sym saved.1 ∙ mine.saved
-      ∙ ap (λ (n : Option (List ℕ)). mine.first ++ journal_outputs n (settings_of solve) mine.events)
-      named in
-      let same : text ≡ written = same_last saved.0 mine.first name text written all in
+      let same = text_is solve ran name text named saved parts mine in
       let there = without_swamp marks blocks solve.input solve.options 0 ran.texts parts is in
       decided.exact there.other text (length mine.events) (judged_task there.other there.is)
       (there.journals text (length mine.events)
@@ -134,21 +175,14 @@ module _ (law : WrittenJournalsAreAccepted) (marks : SwampChangesMarksAlone)
       → ran.asked ≡ Read (Solve solve) → SolveHolds solve ran → CertificateHolds ran
       → StopHasCause ran
       → (judged_ran.said.status ≡ 0) ⊎ IsBroken judged_ran.said.status
-  any_journal (inl zero) is all certified stop =
-      let found = all.one_plan zero in
-      journal_accepted found.0 found.1
-      (of_quiet law solve found.0 (Saves ran.said) (Some found.2.0) found.2.6)
-  any_journal (inr (inl one)) is all certified stop =
-      let found = none_of solve ran is certified one in
-      journal_accepted found.0 found.1 (of_quiet law solve found.0 (Saves ran.said) None found.2)
-  any_journal (inr (inr two)) is all certified stop =
-      let found = stop_of solve ran is stop two in
-      journal_accepted found.0 found.1 (of_stopped law solve found.0 (Saves ran.said) found.2)
+  any_journal answered is all certified stop =
+      let found = saved_journal law lengths solve ran answered is all certified stop in
+      journal_accepted found.0 found.1 found.2
 
-pub saved_journals_are_accepted : WrittenJournalsAreAccepted → SwampChangesMarksAlone
-    → BlocksAskForNoCosts → SavedJournalsAreAccepted
-saved_journals_are_accepted law marks blocks solve journal ran judged name text is same_input same_options named answered saved texts all certified stop decided =
-    any_journal law marks blocks solve journal ran judged name text same_input same_options named saved
+pub saved_journals_are_accepted : WrittenJournalsAreAccepted → JournalTextsAreShort
+    → SwampChangesMarksAlone → BlocksAskForNoCosts → SavedJournalsAreAccepted
+saved_journals_are_accepted law lengths marks blocks solve journal ran judged name text is same_input same_options named answered saved texts all certified stop decided =
+    any_journal law lengths marks blocks solve journal ran judged name text same_input same_options named saved
     texts decided answered is all certified stop
 
 -- ---- by the words

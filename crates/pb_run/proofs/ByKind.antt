@@ -1,5 +1,5 @@
 -- The promises for each kind of task, from those of the commands.
-use Rattle.std.proofs.Common.{◌≡◌, ℕ, Bool, slice_get, Ok}
+use Rattle.std.proofs.Common.{◌≡◌, slice_get, Ok}
 use Rattle.pb_model.specs.Plan.{HasNoPlan}
 use Rattle.pb_task.specs.declared.parts.TaskParts.{TaskParts}
 use Rattle.pb_task.specs.declared.parts.TaskParts.TheVariants as kinds

@@ -14,7 +14,7 @@ use Rattle.pb_run.specs.Outcome.{Outcome, outcome_by, outcome, IsAnswer}
 use Rattle.pb_run.specs.Headline.{PlanIsPlan, NoneIsCheaper, CertificateHolds, NoneMeansNone, StopHasCause}
 use Rattle.pb_run.specs.Kinds.{MapsHold, BoardsHold, NamedHolds}
 use Rattle.pb_run.specs.Commands.{SolvesHold, ChecksHold, JournalsHold, MakesHold, RefusalHolds}
-use Rattle.pb_run.specs.Served.{CanServe, IsAnswered, IsComplete}
+use Rattle.pb_run.specs.Served.{AnswersWhatFits, CanServe, IsAnswered, IsComplete}
 use Rattle.pb_run.specs.Whole.{CallsHold, AnswersIfServed, BreaksOnlyBy, ContentsHold}
 use Rattle.pb_run.proofs.ByKind.{maps_hold, boards_hold, named_hold}
 use Rattle.pb_run.proofs.Doing as doing
@@ -91,10 +91,14 @@ module _ (words : List (List ℕ)) (n : ℕ) (files files' : Option Files) (shel
   }
 
   pub answered : (can_load : List ℕ → Type 0) (can_hold : List ℕ → ℕ → Type 0) (can_take : ℕ → Type 0) → (CanServe asked files can_load can_hold can_take → IsAnswer n ⊎ (n ≡ 71))
+      → AnswersWhatFits asked n files can_load can_hold can_take
       → AnswersIfServed words status files can_load can_hold can_take
-  answered can_load can_hold can_take sure can = record {
-    complete = subst (λ (m : ℕ). IsComplete asked files m) (sym is) (doing.complete asked n goes.0 goes.1 files files' goes.4 (sure can));
-    answered = subst (λ (m : ℕ). IsAnswer m ⊎ (m ≡ 71)) (sym is) (sure can);
+  answered can_load can_hold can_take sure fits = record {
+    served = λ can. record {
+      complete = subst (λ (m : ℕ). IsComplete asked files m) (sym is) (doing.complete asked n goes.0 goes.1 files files' goes.4 (sure can));
+      answered = subst (λ (m : ℕ). IsAnswer m ⊎ (m ≡ 71)) (sym is) (sure can);
+    };
+    fits = subst (λ (m : ℕ). AnswersWhatFits asked m files can_load can_hold can_take) (sym is) fits;
   }
 
   module _ (faults faults' puts puts' : ℕ) (shelf_rose : n ≡ 73 → Rose faults faults') (sink_rose : n ≡ 74 → Rose puts puts')

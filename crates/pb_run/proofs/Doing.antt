@@ -187,6 +187,7 @@ module _ (reading : Reading) (n : ℕ) (shelf sink : List Call) where
     rejected = λ e. absurd (not_three b e);
     exact = λ parts certificate is. either (checked parts certificate) b;
     rewritten = λ parts certificate is e. absurd (not_zero b e);
+    unsaved = λ e. absurd (not_three b e);
     statuses = inr b;
   }))
     where

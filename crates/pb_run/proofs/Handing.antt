@@ -16,7 +16,7 @@ use Rattle.pb_run.specs.Answers.{AnswersReading}
 use Rattle.pb_run.specs.Handing.{HandsOutParts}
 use Rattle.pb_run.specs.Course.{HasAnswered}
 use Rattle.pb_run.specs.Outcome.{IsAnswer}
-use Rattle.pb_run.specs.Served.{CanServe}
+use Rattle.pb_run.specs.Served.{AnswersWhatFits, CanServe}
 use Rattle.pb_run.specs.Fit.{IfShelf, status_of}
 use Rattle.pb_run.specs.Contents.{SavesIn, SavesPartIn, LoadsAll, LoadsUpTo, Hands, HandsTold, Goes, WritesPut}
 use Rattle.pb_run.specs.declared.load.Fault.{Fault}
@@ -69,6 +69,18 @@ pub sure_failed : (reading : Reading) (files : Option Files) (can_load : List �
 sure_failed reading None can_load can_hold can_take fault n is sure can = absurd can
 sure_failed reading (Some told_files) can_load can_hold can_take OutOfMemory n is sure can = inr is
 sure_failed reading (Some told_files) can_load can_hold can_take ShelfFailed n is sure can = absurd (sure can.0)
+
+-- the same of the one answer
+pub fits_failed : (reading : Reading) (files : Option Files) (can_load : List ℕ → Type 0) (can_hold : List ℕ → ℕ → Type 0) (can_take : ℕ → Type 0) (fault : Fault) (n : ℕ) → n ≡ number_of (status_of fault)
+    → (CanLoad can_load (files_of reading) → IfShelf fault ⊥) → AnswersWhatFits reading n files can_load can_hold can_take
+fits_failed reading None can_load can_hold can_take fault n is sure = tt
+fits_failed reading (Some told_files) can_load can_hold can_take OutOfMemory n is sure = λ can. inl is
+fits_failed reading (Some told_files) can_load can_hold can_take ShelfFailed n is sure = λ can. absurd (sure can)
+
+pub fits_full : (reading : Reading) (files : Option Files) (can_load : List ℕ → Type 0) (can_hold : List ℕ → ℕ → Type 0) (can_take : ℕ → Type 0) (n : ℕ) → n ≡ 71
+    → AnswersWhatFits reading n files can_load can_hold can_take
+fits_full reading None can_load can_hold can_take n is = tt
+fits_full reading (Some told_files) can_load can_hold can_take n is = λ can. inl is
 
 module _ (reading : Reading) (files between files' : Option Files) (shelf mid shelf' sink sink' : List Call) (written written' : Option (List ℕ)) (texts : List (List ℕ)) (said : Said)
     (loads : LoadsAll shelf mid (files_of reading) texts) (are : AreLoaded files (files_of reading) texts) (answers : AnswersReading reading texts said) (kept : IfTold files between KeepsAll) where
@@ -136,6 +148,33 @@ module _ (reading : Reading) (files between files' : Option Files) (shelf mid sh
       go None b k l c = absurd c
       go (Some x) None k l c = absurd k
       go (Some x) (Some y) k l c = let all = c.1 texts l said answers in (refl, still said.outputs all.0, all.1)
+
+  -- the answer was handed out
+  pub fits_done : (can_load : List ℕ → Type 0) (can_hold : List ℕ → ℕ → Type 0) (can_take : ℕ → Type 0) (n : ℕ) → n ≡ said.status
+      → AnswersWhatFits reading n files can_load can_hold can_take
+  fits_done can_load can_hold can_take n is = go files are
+    where
+      go : (f : Option Files) → AreLoaded f (files_of reading) texts → AnswersWhatFits reading n f can_load can_hold can_take
+      go None l = tt
+      go (Some x) l = λ can. inr (texts, l, said, answers, λ holds takes. is)
+
+  -- it wasn't, so the shelf couldn't hold it, or the sink couldn't take it
+  pub fits_not : (can_load : List ℕ → Type 0) (before now : List ℕ → ℕ → Type 0) (can_take : ℕ → Type 0) (n : ℕ) → KeepsHolds before now
+      → (IsSome between → CanHold now said.outputs → can_take (length said.report) → ⊥)
+      → AnswersWhatFits reading n files can_load before can_take
+  fits_not can_load before now can_take n keeps never = go files between kept are never
+    where
+      still : (outputs : List Output) → CanHold before outputs → CanHold now outputs
+      still [] h = tt
+      still (first ∷ outputs) h = (keeps first.name (length first.text) h.0, still outputs h.1)
+
+      go : (f b : Option Files) → IfTold f b KeepsAll → AreLoaded f (files_of reading) texts
+          → (IsSome b → CanHold now said.outputs → can_take (length said.report) → ⊥)
+          → AnswersWhatFits reading n f can_load before can_take
+      go None b k l never = tt
+      go (Some x) None k l never = absurd k
+      go (Some x) (Some y) k l never =
+          λ can. inr (texts, l, said, answers, λ holds takes. absurd (never refl (still said.outputs holds) takes))
 
   pub known_answer : (n : ℕ) → n ≡ said.status → IsAnswer n ⊎ (n ≡ 71)
   known_answer n is = inl (subst IsAnswer (sym is) (told.known texts said reading answers))

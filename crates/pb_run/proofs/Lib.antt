@@ -12,3 +12,6 @@ mod Handing
 mod ByKind
 mod Clauses
 mod Accepted
+mod Stating
+mod InMemory
+mod Rooms

@@ -18,6 +18,7 @@ use Rattle.pb_machine.specs.declared.event.Event.{Event}
 use Rattle.pb_machine.specs.declared.settings.Settings.{Settings}
 use Rattle.pb_model.specs.Guide.{Guide}
 use Rattle.pb_model.specs.Store.{Store}
+use Rattle.pb_estimate.specs.declared.choice.Choice.{Choice}
 use Rattle.pb_model.specs.Weight.{Weight}
 use Rattle.pb_answer.specs.Searches.{settings_of, weight_asked}
 use Rattle.pb_answer.specs.Claims.{IsCertificate, journal_outputs, journal_outputs_if_any, Certifies, Stops, Solves, PrintsPlan, PrintsLeastCost, SavesPlan, text_outputs, rewritten_outputs, Accepts, Rejects}
@@ -112,10 +113,10 @@ module _ (texts : List (List ℕ)) (said : Said) where
 
     -- ---- what is saved
 
-    certificate_names : (parts : TaskParts) (given : Option (List ℕ)) (weight : Weight) (guide : Guide) (store : Store) (plan : Option Plan) (outputs : List Output)
-        → IsCertificate given parts weight guide store plan outputs → names_of outputs ≡ listed given
-    certificate_names parts None weight guide store plan outputs is = ap names_of is
-    certificate_names parts (Some name) weight guide store plan outputs (text, certificate, is) = ap names_of is
+    certificate_names : (parts : TaskParts) (given : Option (List ℕ)) (choice : Choice) (weight : Weight) (guide : Guide) (store : Store) (plan : Option Plan) (outputs : List Output)
+        → IsCertificate given parts choice weight guide store plan outputs → names_of outputs ≡ listed given
+    certificate_names parts None choice weight guide store plan outputs is = ap names_of is
+    certificate_names parts (Some name) choice weight guide store plan outputs (text, certificate, is) = ap names_of is
 
     journal_names : (given : Option (List ℕ)) (settings : Settings) (journal : List Event) → names_of (journal_outputs given settings journal) ≡ listed given
     journal_names None settings journal = refl
@@ -135,7 +136,7 @@ module _ (texts : List (List ℕ)) (said : Said) where
         let journals = journal_outputs_if_any solve.journal (settings_of solve) left.journal in
         let names : names_of said.outputs ≡ listed solve.certificate ++ names_of journals =
         ap names_of saves ∙ names_joined outputs journals
-        ∙ ap (λ (ns : List (List ℕ)). ns ++ names_of journals) (certificate_names parts solve.certificate _ _ _ plan outputs is_certificate) in
+        ∙ ap (λ (ns : List (List ℕ)). ns ++ names_of journals) (certificate_names parts solve.certificate _ _ _ _ plan outputs is_certificate) in
         subst (λ (ns : List (List ℕ)). AreSomeOf ns (listed solve.certificate ++ listed solve.journal)) (sym names)
         (some_with (listed solve.certificate) (names_of journals) (listed solve.journal) (kept_names solve.journal (settings_of solve) left.journal))
 
@@ -206,6 +207,9 @@ module _ (texts : List (List ℕ)) (said : Said) where
 
       refusal_saves : said.status ≡ 65 → said.outputs ≡ []
       refusal_saves e = by_verdict (said.outputs ≡ []) (λ parts text is h. absurd (omega (arith, e, h.0))) (λ parts text is h. h.1) (λ is h. h.2)
+
+      rejected_saves : said.status ≡ 3 → said.outputs ≡ []
+      rejected_saves three = by_verdict (said.outputs ≡ []) (λ parts text is h. absurd (omega (arith, three, h.0))) (λ parts text is h. h.1) (λ is h. h.2)
 
       verdict_saves : (parts : TaskParts) (text : List ℕ) → task ≡ Ok (parts, text) → said.status ≡ 0 → said.outputs ≡ anew parts text
       verdict_saves parts text is zero = go (of_task task IsVerdict answers (parts, text) is)
@@ -337,6 +341,7 @@ module _ (texts : List (List ℕ)) (said : Said) where
         rejected = rejected (check_task check texts) Accepts Rejects (rewritten_outputs check) answers;
         exact = λ parts certificate is. decided check parts certificate (of_task (check_task check texts) (λ t. IsChecked check t.0 t.1) answers (parts, certificate) is);
         rewritten = λ parts certificate is zero. verdict_saves (check_task check texts) Accepts Rejects (rewritten_outputs check) answers parts certificate is zero;
+        unsaved = rejected_saves (check_task check texts) Accepts Rejects (rewritten_outputs check) answers;
         statuses = verdict_statuses (check_task check texts) Accepts Rejects (rewritten_outputs check) answers (Read (Check check));
       }
 

@@ -36,8 +36,9 @@ IsOfVerdict (Err fault) status = (status ≡ 3) ⊎ IsBroken status
 -- - `accepted`: the certificate is a valid one of the task, and what it claims is true.
 -- - `rejected`: it isn't valid, and its first fault is printed.
 -- - `exact`: the text and the task alone decide between the two.
--- - `rewritten`: an accepted certificate is saved in version 2 under the name of `--rewrite`, if
---   that is given, and nothing else is saved.
+-- - `rewritten`: an accepted certificate is saved anew under the name of `--rewrite`, if that is
+--   given, and nothing else is saved. One of version 1 is saved in version 2, any other as it is.
+-- - `unsaved`: of a rejected one nothing is saved.
 pub record CheckHolds (check : CheckMeaning) (it : Outcome) : Type 0 where
   pub accepted : it.said.status ≡ 0 → OfCheckedTexts check it.texts (Accepts (Says it.said))
   pub rejected : it.said.status ≡ 3 → OfCheckedTexts check it.texts (Rejects (Says it.said))
@@ -48,6 +49,7 @@ pub record CheckHolds (check : CheckMeaning) (it : Outcome) : Type 0 where
   pub rewritten : (parts : TaskParts) (certificate : List ℕ) → check_task check it.texts
       ≡ Ok (parts, certificate) → it.said.status ≡ 0
       → Saves it.said (rewritten_outputs check parts certificate)
+  pub unsaved : it.said.status ≡ 3 → Saves it.said []
   pub statuses : AnswersOneOf (0 ∷ 3 ∷ 65 ∷ []) it
 
 -- ---- `journal`

@@ -1,15 +1,22 @@
 -- What one call of the program saves, another one accepts: by what the words of both ask for, and
 -- by the words themselves. A premise by the name of a clause is what that clause of `run` promises.
-use Rattle.std.specs.Prelude.{false, ◌≡◌, ◌⊎◌, ℕ, ◌≤◌, Bool, Some, List, [], ◌∷◌, ◌++◌, codes}
+use Rattle.std.specs.Prelude.{false, ◌≡◌, ◌⊎◌, ℕ, ◌≤◌, ◌==◌, Bool, Some, List, [], ◌∷◌, ◌++◌, Ok, length, codes, if◌then◌else◌}
+use Rattle.std.specs.Fmt.{decimal}
 use Rattle.std.specs.List.{AllByRecursion}
+use Rattle.pb_model.specs.Texts.{lines, spaced}
+use Rattle.pb_task.specs.declared.parts.TaskParts.{TaskParts}
+use Rattle.pb_task.specs.Widths.{width_of}
 use Rattle.pb_command.specs.Values.{InputNames}
 use Rattle.pb_command.specs.Meaning.{Read, Solve, SolveMeaning, CheckMeaning, JournalMeaning, reading_of_words}
 use Rattle.pb_command.specs.declared.table.ValuedOption.{ValuedOption}
-use Rattle.pb_command.specs.declared.table.ValuedOption.TheVariants.{Row, Num, Den, Certificate, Journal as JournalOption}
+use Rattle.pb_command.specs.declared.table.ValuedOption.TheVariants.{Row, Num, Den, Pattern, Certificate, Journal as JournalOption}
 use Rattle.pb_command.specs.declared.table.FlagOption.{FlagOption}
 use Rattle.pb_command.specs.declared.table.FlagOption.TheVariants.{Swamp}
-use Rattle.pb_command.specs.Options.{Argument, words_of, placed_words, value_given, number_given, flag_given, AreDistinct, IsArgumentOf, is_of_check, is_of_journal, is_flag_of_check, no_flag, kind_word, file_words, AreOfSolve, HaveTwoNames, HasNewName}
+use Rattle.pb_command.specs.Options.{Argument, words_of, placed_words, value_given, number_given, flag_given, AreDistinct, IsArgumentOf, is_of_check, is_of_journal, is_flag_of_check, no_flag, kind_word, file_words, options_given, AreOfSolve, HaveTwoNames, HasNewName}
+use Rattle.pb_journal.specs.Lengths.{most_bytes}
 use Rattle.pb_answer.specs.Outputs.{Output, output}
+use Rattle.pb_answer.specs.Loaded.{OfTexts, input_task}
+use Rattle.pb_answer.specs.Journals.{IsJournalOf}
 use Rattle.pb_answer.specs.Answer.{Said}
 use Rattle.pb_run.specs.Outcome.{Outcome, IsAnswer, IsBroken}
 use Rattle.pb_run.specs.Headline.{CertificateHolds, StopHasCause}
@@ -51,6 +58,19 @@ SavedJournalsAreAccepted =
     → JournalHolds journal judged
     → (judged.said.status ≡ 0) ⊎ IsBroken judged.said.status
 
+-- A call searched a task, answered a plan, none or a stop, and saved a journal under a name. The
+-- text is a journal of the task, and no longer than its own events allow: 79 bytes, and 26 for each
+-- event.
+abbrev pub SavedJournalsAreShort : Type 0
+SavedJournalsAreShort =
+    (solve : SolveMeaning) (solved : Outcome) (name text : List ℕ)
+    → solved.asked ≡ Read (Solve solve) → solve.journal ≡ Some name
+    → (solved.said.status ≡ 0) ⊎ ((solved.said.status ≡ 1) ⊎ (solved.said.status ≡ 2))
+    → IsSavedLast solved.said name text
+    → SolveHolds solve solved → CertificateHolds solved → StopHasCause solved
+    → OfTexts solve solved.texts (λ parts. (events : ℕ) × IsJournalOf parts text events
+    × (length text ≤ most_bytes events))
+
 -- ---- by the words
 
 -- what `run` promises of a call with these words that had this outcome, as far as it is needed here
@@ -63,7 +83,8 @@ pub record Keeps (words : List (List ℕ)) (it : Outcome) : Type 0 where
   pub journal : JournalsHold it
 
 -- Arguments of `solve` for this input, with options in any order. Also arguments of a command with
--- these options and flags, `check` or `journal`, for the same input and the same row, with this file beside it.
+-- these options and flags, `check` or `journal`, for the same input and the same row, with this
+-- file beside it.
 pub record AreMatching (input : InputNames) (has_option : ValuedOption → Bool)
     (has_flag : FlagOption → Bool) (file : List ℕ) (arguments others : List Argument)
     : Type 0 where
@@ -114,3 +135,37 @@ JournalsAreAcceptedByWords =
     → (solved.said.status ≡ 0) ⊎ ((solved.said.status ≡ 1) ⊎ (solved.said.status ≡ 2))
     → IsSavedLast solved.said name text → judged.texts ≡ text ∷ solved.texts
     → AcceptsIt judged.said.status
+
+-- ---- what a certificate states
+
+-- the text begins with these lines
+abbrev pub BeginsWithLines : (first : List (List ℕ)) → (text : List ℕ) → Type 0
+BeginsWithLines first text = (rest : List ℕ) × (text ≡ lines first ++ rest)
+
+-- The first lines of a certificate of a task of this kind, whose states have so many digits, by the
+-- number of the pattern that its search looked up. The number 0 is that of none.
+abbrev pub first_lines : (kind : List ℕ) → (digits pattern : ℕ) → List (List ℕ)
+first_lines kind digits pattern =
+    if pattern == 0 then codes "pbnf-certificate 2"
+    ∷ spaced (codes "kind") kind
+    ∷ spaced (codes "width") (decimal digits) ∷ []
+    else codes "pbnf-certificate 3"
+    ∷ spaced (codes "kind") kind
+    ∷ spaced (codes "width") (decimal digits)
+    ∷ spaced (codes "pattern") (decimal pattern) ∷ []
+
+-- A call with the words `solve ..`, with `--cert NAME` among them, answered a plan or none and
+-- saved a certificate under that name. Its first lines have the kind of the input and the width of
+-- the task. It states the number of `--pattern`, if that is given and isn't 0: its fourth line is
+-- `pattern K`. Else it is of version 2, which has no such line.
+abbrev pub CertificatesStateTheirPattern : Type 0
+CertificatesStateTheirPattern =
+    (input : InputNames) (name text : List ℕ) (arguments : List Argument) (solved : Outcome)
+    → AreOfSolve input arguments → number_given Den arguments ≤ number_given Num arguments
+    → HaveTwoNames arguments → value_given Certificate arguments ≡ Some name
+    → Keeps (codes "solve" ∷ words_of arguments) solved
+    → (solved.said.status ≡ 0) ⊎ (solved.said.status ≡ 1)
+    → IsSavedFirst solved.said name text
+    → (parts : TaskParts) × (input_task input (options_given arguments) 0 solved.texts ≡ Ok parts)
+    × BeginsWithLines (first_lines (kind_word input) (width_of parts)
+    (number_given Pattern arguments)) text

@@ -21,3 +21,5 @@ pub mod Whole
 pub mod Files
 pub mod Fit
 pub mod Laws
+pub mod InMemory
+pub mod Rooms

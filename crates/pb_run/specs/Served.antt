@@ -61,6 +61,25 @@ CanServe reading (Some told) can_load can_hold can_take =
     × ((texts : List (List ℕ)) → loads_of told (files_of reading) ≡ Some texts
     → CanHandOut reading texts can_hold can_take)
 
+-- What is answered of the texts of these files fits: unless memory ran out, they have one answer
+-- that is handed out if the shelf can hold what it saves and the sink can take its report. So what
+-- is asked of both is the length of that answer alone.
+abbrev pub IsHandedOutIfItFits : Reading → Files → (status : ℕ) → (can_hold : List ℕ → ℕ → Type 0)
+    → (can_take : ℕ → Type 0) → Type 0
+IsHandedOutIfItFits reading told status can_hold can_take =
+    (status ≡ 71)
+    ⊎ ((texts : List (List ℕ)) × (loads_of told (files_of reading) ≡ Some texts)
+    × (said : Said) × AnswersReading reading texts said
+    × (CanHold can_hold said.outputs → can_take (length said.report) → status ≡ said.status))
+
+-- It is so if the shelf's files are known, and it can load those that the words name.
+abbrev pub AnswersWhatFits : Reading → (status : ℕ) → Option Files → (can_load : List ℕ → Type 0)
+    → (can_hold : List ℕ → ℕ → Type 0) → (can_take : ℕ → Type 0) → Type 0
+AnswersWhatFits reading status None can_load can_hold can_take = ⊤
+AnswersWhatFits reading status (Some told) can_load can_hold can_take =
+    CanLoad can_load (files_of reading)
+    → IsHandedOutIfItFits reading told status can_hold can_take
+
 -- If the shelf's files are known and the named ones are there, there is an answer to their texts,
 -- or memory ran out.
 abbrev pub IsComplete : Reading → Option Files → (status : ℕ) → Type 0

@@ -9,7 +9,7 @@ use Rattle.pb_command.specs.Meaning.{reading_of_words}
 use Rattle.pb_run.specs.Calls.{calls_since, loaded_texts, outputs_in, have_failed}
 use Rattle.pb_run.specs.Loads.{AreLoaded}
 use Rattle.pb_run.specs.Contents.{SavesIn, LeavesPart, KeepsUnnamed}
-use Rattle.pb_run.specs.Served.{AreSomeOf, IsAnswered, CanServe, IsComplete}
+use Rattle.pb_run.specs.Served.{AreSomeOf, IsAnswered, CanServe, AnswersWhatFits, IsComplete}
 use Rattle.pb_run.specs.Course.{DoesSince}
 use Rattle.pb_run.specs.Outcome.{Outcome, IsAnswer}
 
@@ -35,13 +35,17 @@ pub record IsServed (words : List (List ℕ)) (status : ℕ) (files : Option Fil
   pub complete : IsComplete (reading_of_words words) files status
   pub answered : IsAnswer status ⊎ (status ≡ 71)
 
--- It is so if the shelf can load and hold what is asked for, and the sink can take the report.
-abbrev pub AnswersIfServed : (words : List (List ℕ)) → (status : ℕ) → Option Files
-    → (can_load : List ℕ → Type 0) → (can_hold : List ℕ → ℕ → Type 0) → (can_take : ℕ → Type 0)
-    → Type 0
-AnswersIfServed words status files can_load can_hold can_take =
-    CanServe (reading_of_words words) files can_load can_hold can_take
-    → IsServed words status files
+-- - `served`: it is so if the shelf can load the named files, can hold whatever may be answered of
+--   their texts, and the sink can take whatever may be printed.
+-- - `fits`: if the shelf can load them, it is enough that both can do this of the one answer that
+--   these texts get. A journal that is saved is then as long as its own events, and not as those
+--   that the budget allows (`saved_journals_are_short`).
+pub record AnswersIfServed (words : List (List ℕ)) (status : ℕ) (files : Option Files)
+    (can_load : List ℕ → Type 0) (can_hold : List ℕ → ℕ → Type 0) (can_take : ℕ → Type 0)
+    : Type 0 where
+  pub served : CanServe (reading_of_words words) files can_load can_hold can_take
+      → IsServed words status files
+  pub fits : AnswersWhatFits (reading_of_words words) status files can_load can_hold can_take
 
 -- Where nothing is answered: nothing is printed at 71 and 73, and nothing is saved at 71. The
 -- shelf's count of faults rises at 73 and the sink's at 74, and none ever falls.

@@ -1,11 +1,16 @@
-//! Laws over two calls of the program. Each is the contract of a function that only cites laws.
+//! Laws over one call of the program or two. Each is the contract of a function that only cites
+//! laws.
 ghost use Rattle.pb_run.specs.Laws.{SavedCertificatesAreAccepted, SavedJournalsAreAccepted};
+ghost use Rattle.pb_run.specs.Laws.{SavedJournalsAreShort};
 ghost use Rattle.pb_run.specs.Laws.{CertificatesAreAcceptedByWords, JournalsAreAcceptedByWords};
+ghost use Rattle.pb_run.specs.Laws.{CertificatesStateTheirPattern};
+ghost use Rattle.pb_run.specs.Rooms.{ChecksAreServed, JournalsAreServed};
 
 use pb_abstract::blocks_ask_for_no_costs;
+use pb_check::bounds_are_least;
 use pb_command::{check_reads_options, journal_reads_options, solve_reads_options};
 use pb_grid::swamp_changes_marks_alone;
-use pb_journal::written_journals_are_accepted;
+use pb_journal::{journal_texts_are_short, written_journals_are_accepted};
 
 /// A call saves the certificate of a plan, or of there being none. Another call that checks it for
 /// the same input, row and swamp accepts it. This follows from the clauses `solve`, `certified` and
@@ -20,8 +25,19 @@ pub fn saved_journals_are_accepted()
     ensures { SavedJournalsAreAccepted }
 {
     written_journals_are_accepted();
+    journal_texts_are_short();
     swamp_changes_marks_alone();
     blocks_ask_for_no_costs();
+}
+
+/// The journal that a call saves of a search has at most 79 bytes, and 26 for each of its own
+/// events, however many the budget allows. `journal` prints their number. This follows from the
+/// clauses `solve`, `certified` and `stopped`.
+pub fn saved_journals_are_short()
+    ensures { SavedJournalsAreShort }
+{
+    written_journals_are_accepted();
+    journal_texts_are_short();
 }
 
 /// Saved certificates are accepted, by the words of both calls: `solve ..` with `--cert NAME`, and
@@ -42,3 +58,26 @@ pub fn journals_are_accepted_by_words()
     solve_reads_options();
     journal_reads_options();
 }
+
+/// A saved certificate states the number of its search's pattern, by the words of the call:
+/// `solve ..` with `--pattern K` and `--cert NAME`. With 0, or without `--pattern`, it is of version
+/// 2.
+pub fn certificates_state_their_pattern()
+    ensures { CertificatesStateTheirPattern }
+{
+    solve_reads_options();
+}
+
+/// A `check` of a valid certificate is served, so it answers 0 or memory ran out. This needs a line
+/// of room in the sink, and on the shelf room for what `--rewrite` saves.
+pub fn checks_are_served()
+    ensures { ChecksAreServed }
+{
+    bounds_are_least();
+}
+
+/// A `journal` of a legal journal is served, so it answers 0 or memory ran out. This needs a line
+/// of room in the sink.
+pub fn journals_are_served()
+    ensures { JournalsAreServed }
+{}

@@ -10,10 +10,12 @@ mod files;
 mod laws;
 mod load;
 mod make;
+mod memory;
 mod output;
 mod start;
 mod top;
 
 pub use laws::saved_certificates_are_accepted;
+pub use memory::run_in_memory;
 pub use start::{report_unread_words, words_of};
 pub use top::run;

@@ -6,7 +6,7 @@ ghost use Rattle.pb_run.specs.Outcome.{outcome, IsAnswer};
 ghost use Rattle.pb_run.specs.Headline.{PlanIsPlan, NoneIsCheaper, CertificateHolds, NoneMeansNone, StopHasCause};
 ghost use Rattle.pb_run.specs.Kinds.{MapsHold, BoardsHold, NamedHolds};
 ghost use Rattle.pb_run.specs.Commands.{SolvesHold, ChecksHold, JournalsHold, MakesHold, RefusalHolds};
-ghost use Rattle.pb_run.specs.Served.{CanServe};
+ghost use Rattle.pb_run.specs.Served.{AnswersWhatFits, CanServe};
 ghost use Rattle.pb_run.specs.Whole.{CallsHold, AnswersIfServed, BreaksOnlyBy, ContentsHold};
 ghost use Rattle.pb_run.specs.Contents.{Goes, WritesPut};
 
@@ -110,6 +110,9 @@ fn carry_out<'a, R: Threads + Wait + Sync, H: Shelf, K: Sink, G: Gate>(
     ensures sure { CanServe (reading_of_words (map string_bytes words.now)) (H.files shelf.old)
         (H.can_load shelf.old) (H.can_hold shelf.old) (K.can_take out.old)
         → IsAnswer (number_of result) ⊎ (number_of result ≡ 71) }
+    ensures fits { AnswersWhatFits (reading_of_words (map string_bytes words.now))
+        (number_of result) (H.files shelf.old) (H.can_load shelf.old) (H.can_hold shelf.old)
+        (K.can_take out.old) }
     ensures shelf_count { number_of result ≡ 73 → Rose (H.faults shelf.old) (H.faults shelf.new) }
     ensures sink_count { number_of result ≡ 74 → Rose (K.faults out.old) (K.faults out.new) }
     ensures shelf_later { H.faults shelf.old ≤ H.faults shelf.new }

@@ -18,7 +18,7 @@ use Rattle.pb_machine.specs.Lawful.{IsLawful}
 use Rattle.pb_task.specs.declared.parts.TaskParts.{TaskParts}
 use Rattle.pb_task.specs.Parts.{space_of}
 use Rattle.pb_estimate.specs.declared.choice.Choice.{Choice}
-use Rattle.pb_estimate.specs.declared.choice.Choice.TheVariants.{Plain}
+use Rattle.pb_estimate.specs.Estimates.{choice_with}
 use Rattle.pb_abstract.specs.Projection.{IsFinest}
 use Rattle.pb_abstract.specs.Graph.{AbstractGraph, blocks_of, IsGraphOf}
 use Rattle.pb_lease.specs.Leased.{guide_of, setup_of}
@@ -31,10 +31,10 @@ use Rattle.pb_workers.specs.Ends.{home_store, IsBestEnd}
 
 -- ---- the estimate
 
--- the choice of the estimate that a search with these settings goes by; below this crate nothing
--- looks at the settings for an estimate
+-- the choice of the estimate that a search with these settings goes by: the plain one, or a pattern
+-- database; below this crate nothing looks at the settings for an estimate
 abbrev pub choice_of : Settings → Choice
-choice_of settings = Plain
+choice_of settings = choice_with settings.pattern
 
 -- what a search with these settings is guided by: the estimate of each state, and its block
 abbrev pub searched_guide : TaskParts → AbstractGraph → Settings → Guide

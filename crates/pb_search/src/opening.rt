@@ -1,7 +1,8 @@
 //! The graph that a search begins with.
-ghost use Rattle.std.specs.Prelude.{◌≡◌, IfOk};
+ghost use Rattle.std.specs.Prelude.{◌≡◌, IfOk, option_map, option_copied};
 ghost use Rattle.std.specs.Arc.{arc_value};
 ghost use Rattle.pb_machine.specs.Settings.{AreInRange};
+ghost use Rattle.pb_estimate.specs.Tables.{HasTable};
 ghost use Rattle.pb_abstract.specs.Graph.{IsGraphOf};
 ghost use Rattle.pb_search.specs.Ends.{choice_of};
 ghost use Rattle.pb_search.specs.Searched.{Opens};
@@ -10,31 +11,30 @@ use pb_abstract::AbsGraph;
 use pb_estimate::{Choice, Estimator};
 use pb_lease::LeaseGraph;
 use pb_machine::Settings;
+use pb_pattern::Table;
 use pb_task::Task;
 use std::alloc::{AllocError, Global};
 use std::sync::Arc;
 
-/// The choice of the estimate that a search with these settings goes by.
-fn choice_of(_settings: &Settings) -> Choice
-    ensures { result ≡ choice_of _settings.now }
-{
-    Choice::Plain
-}
-
-/// The graph of a search that begins: the start alone has a row. An error is out of memory.
+/// The graph of a search that begins: the start alone has a row, with its estimate by the choice
+/// and the table that the choice looks up. An error is out of memory.
 pub fn opening(
     alloc: Global,
     task: &Arc<Task>,
     abstraction: &Arc<AbsGraph>,
+    choice: Choice,
+    table: Option<&Arc<Table>>,
     settings: Settings,
 ) -> Result<LeaseGraph, AllocError>
     requires graph { IsGraphOf (arc_value task.now) (arc_value abstraction.now) }
     requires range { AreInRange settings }
+    requires choice { choice ≡ choice_of settings }
+    requires table { HasTable (arc_value task.now) choice
+        (option_map arc_value (option_copied table)) }
     ensures { IfOk result (Opens (arc_value task.now) (arc_value abstraction.now) settings) }
 {
     let start = task.initial();
-    let choice = choice_of(&settings);
-    let mut estimator = Estimator::of(alloc, task, &choice)?;
+    let mut estimator = Estimator::by(alloc, task, &choice, table)?;
     let estimate = estimator.estimate(task, &start);
     let shared_task = Arc::clone(task)?;
     let shared_abstraction = Arc::clone(abstraction)?;

@@ -11,6 +11,7 @@ use crate::alone::search_alone;
 use crate::opening::opening;
 use crate::together::search_together;
 use pb_abstract::AbsGraph;
+use pb_estimate::Choice;
 use pb_lease::LeaseGraph;
 use pb_machine::Settings;
 use pb_outside::Gate;
@@ -21,9 +22,10 @@ use std::thread::Threads;
 
 /// Searches a task by leases with these settings, and hands back the graph at the search's end.
 /// Every lease came back, and every worker signed off. Its blocks are the finest that are no more
-/// than the settings wish for. One worker searches alone and waits for nobody; several share a
-/// yard, each in a thread of its own. The gate is told of each lease, and each time before one is
-/// renewed or comes back. An error is out of memory.
+/// than the settings wish for. A pattern database that they ask for is made once, and all workers
+/// share it. One worker searches alone and waits for nobody; several share a yard, each in a thread
+/// of its own. The gate is told of each lease, and each time before one is renewed or comes back. An
+/// error is out of memory.
 pub fn search<R: Threads + Wait + Sync, G: Gate>(
     rt: &R,
     alloc: Global,
@@ -57,10 +59,13 @@ pub fn search<R: Threads + Wait + Sync, G: Gate>(
 {
     let abstraction = Arc::new(alloc, AbsGraph::of(alloc, task, settings.wish)?)?;
     let _few = abstraction.count();
-    let graph = opening(alloc, task, &abstraction, settings)?;
+    let choice = Choice::with(settings.pattern);
+    let made = choice.table(alloc, task)?;
+    let table = made.as_ref();
+    let graph = opening(alloc, task, &abstraction, choice, table, settings)?;
     if settings.workers == 1 {
-        search_alone(alloc, task, &abstraction, graph, gate)
+        search_alone(alloc, task, &abstraction, graph, gate, table)
     } else {
-        search_together(rt, alloc, task, &abstraction, graph, gate)
+        search_together(rt, alloc, task, &abstraction, graph, gate, table)
     }
 }

@@ -1,5 +1,7 @@
 //! The search of several workers.
-ghost use Rattle.std.specs.Prelude.{◌≡◌, ◌<◌, IfOk};
+ghost use Rattle.std.specs.Prelude.{◌≡◌, ◌<◌, IfOk, option_map, option_copied};
+ghost use Rattle.std.specs.Arc.{arc_value};
+ghost use Rattle.pb_estimate.specs.Tables.{HasTable};
 ghost use Rattle.pb_abstract.specs.Graph.{IsGraphOf};
 ghost use Rattle.pb_search.specs.Searched.{Opens, HasSearched};
 
@@ -7,15 +9,16 @@ use pb_abstract::AbsGraph;
 use pb_lease::LeaseGraph;
 use pb_machine::End;
 use pb_outside::Gate;
+use pb_pattern::Table;
 use pb_task::Task;
 use pb_workers::run_workers;
 use pb_yard::Yard;
 use std::alloc::{AllocError, Global};
-use std::sync::Wait;
+use std::sync::{Arc, Wait};
 use std::thread::Threads;
 
-/// Searches with several workers, each in a thread of its own, until all have signed off. An error
-/// is out of memory, at the start or of a worker.
+/// Searches with several workers, each in a thread of its own, until all have signed off. They share
+/// the table that the estimate looks up. An error is out of memory, at the start or of a worker.
 pub fn search_together<R: Threads + Wait + Sync, G: Gate>(
     rt: &R,
     alloc: Global,
@@ -23,10 +26,13 @@ pub fn search_together<R: Threads + Wait + Sync, G: Gate>(
     abstraction: &AbsGraph,
     opening: LeaseGraph,
     gate: &G,
+    table: Option<&Arc<Table>>,
 ) -> Result<LeaseGraph, AllocError>
     requires opens { Opens task.now abstraction.now opening.table.settings opening }
     requires graph { IsGraphOf task.now abstraction.now }
     requires several { 1 < opening.table.settings.workers }
+    requires table { HasTable task.now opening.choice
+        (option_map arc_value (option_copied table)) }
     ensures { IfOk result (HasSearched task.now abstraction.now opening.table.settings) }
 {
     let workers = opening.settings().workers;
@@ -44,6 +50,7 @@ pub fn search_together<R: Threads + Wait + Sync, G: Gate>(
         gate,
         pass,
         workers,
+        table,
     ) else {
         return Err(AllocError);
     };

@@ -28,7 +28,10 @@ fn solve_text(alloc: Global, command: &SolveCommand<'_>) -> Result<String, Alloc
     let (options, settings) = (command.options, command.settings);
     let (row, workers, num, den) = (options.row, settings.workers, settings.num, settings.den);
     let (budget, lot, blocks) = (settings.budget, settings.lot, settings.wish);
-    let numbers = format!(in alloc; "{row} {workers} {num}/{den} {budget} {lot} {blocks}")?;
+    let pattern = settings.pattern;
+    let numbers = format!(in alloc;
+        "{row} {workers} {num}/{den} {budget} {lot} {blocks} {pattern}"
+    )?;
     let (plain, swamp) = (settings.plain, options.swamp);
     let (saved, noted) = (command.certificate, command.journal);
     format!(in alloc; "solve {input}: {numbers} {plain} {swamp} {saved:?} {noted:?}\n")
@@ -107,18 +110,18 @@ fn answer_to_long_kind<R: Abort>(rt: &R, alloc: Global, letter: &str) -> (usize,
 }
 
 // Options may stand anywhere after the command. Those that aren't given have their defaults. A line
-// of `solve` has the row, the workers, the weight, the budget, the lot, the blocks, `--plain`,
-// `--swamp` and the names of certificate and journal.
+// of `solve` has the row, the workers, the weight, the budget, the lot, the blocks, the pattern
+// database, `--plain`, `--swamp` and the names of certificate and journal.
 const COMMANDS: &str = "\
 > solve grid m --row 1000000 s --budget=1099511627776 --lot 1048576 --blocks=4096 --cert c \
---workers 64 --swamp --num=1000 --plain --den 999 --trace=t
-solve grid m s: 1000000 64 1000/999 1099511627776 1048576 4096 true true Some(\"c\") Some(\"t\")
+--workers 64 --swamp --num=1000 --plain --den 999 --trace=t --pattern 12
+solve grid m s: 1000000 64 1000/999 1099511627776 1048576 4096 12 true true Some(\"c\") Some(\"t\")
 > check grid c m s
 check c grid m s: 0 false None
 > check grid --swamp c m s
 check c grid m s: 0 true None
 > solve tiles --row 7 b --budget=1 --cert c
-solve tiles b: 7 1 1/1 1 256 256 false false Some(\"c\") None
+solve tiles b: 7 1 1/1 1 256 256 0 false false Some(\"c\") None
 > check tiles c b
 check c tiles b: 0 false None
 > check tiles --rewrite d c b
@@ -126,21 +129,25 @@ check c tiles b: 0 false Some(\"d\")
 > check grid c m s --rewrite=d --row 1
 check c grid m s: 1 false Some(\"d\")
 > solve strips d --row 7 p --blocks=16 --lot 1 --cert c
-solve strips d p: 7 1 1/1 16777216 1 16 false false Some(\"c\") None
+solve strips d p: 7 1 1/1 16777216 1 16 0 false false Some(\"c\") None
 > check strips c d p
 check c strips d p: 0 false None
 > solve grid m s
-solve grid m s: 0 1 1/1 16777216 256 256 false false None None
+solve grid m s: 0 1 1/1 16777216 256 256 0 false false None None
 > solve grid m s --lot 1
-solve grid m s: 0 1 1/1 16777216 1 256 false false None None
+solve grid m s: 0 1 1/1 16777216 1 256 0 false false None None
 > solve grid m s --lot=1048576
-solve grid m s: 0 1 1/1 16777216 1048576 256 false false None None
+solve grid m s: 0 1 1/1 16777216 1048576 256 0 false false None None
 > solve tiles b --blocks 16
-solve tiles b: 0 1 1/1 16777216 256 16 false false None None
+solve tiles b: 0 1 1/1 16777216 256 16 0 false false None None
 > solve tiles --blocks=4096 b
-solve tiles b: 0 1 1/1 16777216 256 4096 false false None None
+solve tiles b: 0 1 1/1 16777216 256 4096 0 false false None None
 > solve tiles --blocks=17 b --lot=2
-solve tiles b: 0 1 1/1 16777216 2 17 false false None None
+solve tiles b: 0 1 1/1 16777216 2 17 0 false false None None
+> solve tiles --pattern=3 b
+solve tiles b: 0 1 1/1 16777216 256 256 3 false false None None
+> solve strips d --pattern 0 p
+solve strips d p: 0 1 1/1 16777216 256 256 0 false false None None
 > journal grid j --row=7 m s
 journal j grid m s: 7
 > make grid 0 2048
@@ -201,6 +208,9 @@ error: invalid value '15' for '--blocks <blocks>': 15 is not in 16..=4096
 > solve tiles b --blocks 4097
 Form
 error: invalid value '4097' for '--blocks <blocks>': 4097 is not in 16..=4096
+> solve strips d p --pattern 13
+Form
+error: invalid value '13' for '--pattern <pattern>': 13 is not in 0..=12
 > solve tiles b --lot many
 Form
 error: invalid value 'many' for '--lot <lot>': invalid digit found in string
@@ -229,6 +239,13 @@ Form
 error: unexpected argument '--budget' found
 
   tip: to pass '--budget' as a value, use '-- --budget'
+
+Usage: check <KIND> <CERTIFICATE> <FIRST_FILE> <SECOND_FILE>
+> check grid c m s --pattern 3
+Form
+error: unexpected argument '--pattern' found
+
+  tip: to pass '--pattern' as a value, use '-- --pattern'
 
 Usage: check <KIND> <CERTIFICATE> <FIRST_FILE> <SECOND_FILE>
 > solve grid m s --help

@@ -258,7 +258,7 @@ fn work_on(
     ensures { IsOfGraph graph.now lease.new }
 {
     let mut succs = Vec::with_capacity(alloc, task.max_degree() as usize)?;
-    let mut estimator = Estimator::of(alloc, task, lease.choice())?;
+    let mut estimator = Estimator::of(alloc, task, graph.choice())?;
     Ok(work_with(graph, task, &mut estimator, lease, &mut succs))
 }
 

@@ -11,6 +11,8 @@ mod graphs;
 #[cfg(test)]
 mod lowering;
 #[cfg(test)]
+mod patterns;
+#[cfg(test)]
 mod samples;
 #[cfg(test)]
 mod searches;

@@ -1,5 +1,6 @@
 //! Whole searches of small tasks, and what the tests see of them.
 
+use crate::patterns::{spent_once, spent_twice};
 use pb_lease::LeaseGraph;
 use pb_machine::{End, Event, STANDARD, Settings};
 use pb_outside::{Gate, OpenGate};
@@ -23,6 +24,8 @@ pub(crate) enum Sample {
     // It has 3 by 3 cells. The start reaches 181,440 boards.
     BoardWithoutPlan,
     Corridor,
+    SpentOnce,
+    SpentTwice,
 }
 
 fn task_of(alloc: Global, sample: Sample) -> Result<Task, AllocError> {
@@ -38,6 +41,8 @@ fn task_of(alloc: Global, sample: Sample) -> Result<Task, AllocError> {
             goal: Board::of(vec![in alloc; 0, 1, 2, 3, 4, 5, 6, 7, 8]?),
         })),
         Sample::Corridor => corridor(alloc),
+        Sample::SpentOnce => spent_once(alloc),
+        Sample::SpentTwice => spent_twice(alloc),
     }
 }
 
@@ -57,6 +62,7 @@ fn searched<R: Threads + Wait + Sync + Abort, G: Gate>(
         budget,
         lot,
         wish,
+        pattern,
         ..
     } = settings;
     if workers == 0 || workers > 64 || den == 0 || num < den || num > 1000 {
@@ -64,6 +70,9 @@ fn searched<R: Threads + Wait + Sync + Abort, G: Gate>(
     }
     if budget == 0 || budget > 1 << 40 || lot == 0 || lot > 1 << 20 || wish < 16 || wish > 4096 {
         panic!(rt; "the budget, the lot or the blocks are out of range")
+    }
+    if pattern > 12 {
+        panic!(rt; "the pattern number is out of range")
     }
     let task = Arc::new(alloc, task_of(alloc, sample)?)?;
     search(rt, alloc, &task, settings, gate)

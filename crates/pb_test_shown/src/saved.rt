@@ -1,4 +1,4 @@
-ghost use Rattle.pb_estimate.specs.Spelling.{IsWidthOf};
+ghost use Rattle.pb_estimate.specs.Spelling.{IsSpelling};
 
 use crate::halves::Halves;
 use pb_cert::{Certificate, Plan, trace};
@@ -76,26 +76,45 @@ fn bundle_of(alloc: Global, rows: &[(u32, u64, Status)]) -> Result<Bundle, Alloc
     Ok(bundle)
 }
 
-// The certificate of a store, of this version and with so many digits a state. It has no clause
-// that says what it is, so a caller's proof stays short.
+// How a map's certificate of version 1 is spelled.
+fn version_1() -> Spelling
+    ensures { IsSpelling result }
+{
+    Spelling {
+        kind: Kind::Grid,
+        version: Version::One,
+        width: 64,
+        stated: Stated {
+            choice: Choice::Plain,
+        },
+    }
+}
+
+// How one of version 2 is spelled, with six digits a state.
+fn version_2() -> Spelling
+    ensures { IsSpelling result }
+{
+    Spelling {
+        kind: Kind::Grid,
+        version: Version::Two,
+        width: 6,
+        stated: Stated {
+            choice: Choice::Plain,
+        },
+    }
+}
+
+// The certificate of a store, spelled so. It has no clause that says what it is, so a caller's
+// proof stays short.
 fn certificate_of<'a, S: Store>(
     alloc: Global,
-    version: Version,
-    width: u32,
+    spelling: Spelling,
     plan: Option<Plan>,
     store: &'a S,
 ) -> Result<Certificate<'a>, AllocError>
     requires whole { S.is_whole store.now }
-    requires width { IsWidthOf version width }
+    requires spelling { IsSpelling spelling }
 {
-    let spelling = Spelling {
-        kind: Kind::Grid,
-        version,
-        width,
-        stated: Stated {
-            choice: Choice::Plain,
-        },
-    };
     Certificate::of(alloc, spelling, plan, store)
 }
 
@@ -146,15 +165,14 @@ fn save(alloc: Global, certificate: &Certificate<'_>) -> Result<Saved, Memory> {
 // The certificate of one bundle, saved.
 fn save_one(
     alloc: Global,
-    version: Version,
-    width: u32,
+    spelling: Spelling,
     rows: &[(u32, u64, Status)],
     plan: Option<Plan>,
 ) -> Result<Saved, Memory>
-    requires { IsWidthOf version width }
+    requires { IsSpelling spelling }
 {
     let bundle = bundle_of(alloc, rows)?;
-    let certificate = certificate_of(alloc, version, width, plan, &bundle)?;
+    let certificate = certificate_of(alloc, spelling, plan, &bundle)?;
     save(alloc, &certificate)
 }
 
@@ -170,7 +188,7 @@ fn save_two(
         first: bundle_of(alloc, first)?,
         second: bundle_of(alloc, second)?,
     };
-    let certificate = certificate_of(alloc, Version::Two, 6, plan, &store)?;
+    let certificate = certificate_of(alloc, version_2(), plan, &store)?;
     save(alloc, &certificate)
 }
 
@@ -229,11 +247,11 @@ fn plan_of_four(alloc: Global) -> Result<Plan, AllocError> {
 #[test]
 fn certificates_are_saved(rt: HostRuntime) -> Result<(), Fail> {
     let alloc = rt.alloc();
-    let one = save_one(alloc, Version::Two, 6, &ALL, Some(plan_of_four(alloc)?))?;
+    let one = save_one(alloc, version_2(), &ALL, Some(plan_of_four(alloc)?))?;
     assert!(rt; is_whole(&one, true, OPEN_SQUARE));
     let two = save_two(alloc, &FIRST, &SECOND, Some(plan_of_four(alloc)?))?;
     assert!(rt; is_whole(&two, true, OPEN_SQUARE));
-    let none = save_one(alloc, Version::One, 64, &ROW, None)?;
+    let none = save_one(alloc, version_1(), &ROW, None)?;
     assert!(rt; is_whole(&none, false, WALL));
     Ok(())
 }

@@ -1,5 +1,7 @@
-ghost use Rattle.std.specs.Prelude.{◌≡◌, ◌⊎◌, None, Some, IsTrue, IsFalse, OnOk, OnErr};
+ghost use Rattle.std.specs.Prelude.{◌≡◌, ◌⊎◌, None, Some, IsTrue, IsFalse, OnOk, OnErr, option_map, option_copied};
+ghost use Rattle.std.specs.Arc.{arc_value};
 ghost use Rattle.pb_machine.specs.declared.event.End.TheVariants.{Quiet, Budget, Memory};
+ghost use Rattle.pb_estimate.specs.Tables.{HasTable};
 ghost use Rattle.pb_lease.specs.GraphValue.{counts_in};
 ghost use Rattle.pb_lease.specs.Choices.{is_out_in};
 ghost use Rattle.pb_workers.specs.Runs.{IsSameSearch, IsAnyMoment, RunsOn};
@@ -13,20 +15,23 @@ use pb_abstract::AbsGraph;
 use pb_lease::{LeaseGraph, LeaseReply};
 use pb_machine::End;
 use pb_outside::Gate;
+use pb_pattern::Table;
 use pb_task::Task;
 use std::alloc::{AllocError, Global};
+use std::sync::Arc;
 
 /// Searches as the only worker of the graph, from whatever moment it is at, until the search ends.
 /// It leases blocks, best first, works on each and brings it back, and signs off. It waits for
 /// nobody. The gate is told each time that a block was leased, and each time before a lease is
-/// renewed or comes back. An error is out of memory: then nothing was leased, or the search ended
-/// because of it.
+/// renewed or comes back. The table is what the graph's estimate looks up, if it looks up any. An
+/// error is out of memory: then nothing was leased, or the search ended because of it.
 pub fn run_alone<G: Gate>(
     alloc: Global,
     task: &Task,
     abstraction: &AbsGraph,
     graph: &mut LeaseGraph,
     gate: &G,
+    table: Option<&Arc<Table>>,
 ) -> Result<(), AllocError>
     requires task { graph.old.task ≡ task.now }
     requires abstraction { graph.old.table.graph ≡ abstraction.now }
@@ -34,6 +39,8 @@ pub fn run_alone<G: Gate>(
     requires moment { IsAnyMoment graph.old }
     requires home { IsFalse (is_out_in graph.old) }
     requires stays { IsFalse ((counts_in graph.old).signed_off 0) }
+    requires table { HasTable task.now graph.old.choice
+        (option_map arc_value (option_copied table)) }
 
     // If the graph was a moment of a machine, a run in order leads on from that machine. Its events
     // are those that the journal got, and the graph is now at its end.
@@ -54,7 +61,7 @@ pub fn run_alone<G: Gate>(
     ensures same { IsSameSearch graph.old graph.new }
 {
     let _ = graph.abstraction();
-    let tools = Tools::new(alloc, task, graph.choice())?;
+    let tools = Tools::new(alloc, task, graph.choice(), table)?;
     let mut worker = Worker::new(task, abstraction, tools);
     let end = search(&mut worker, graph, gate);
     sign_off(graph, end)

@@ -1,8 +1,9 @@
 //! What a worker takes with it to its leases.
-ghost use Rattle.std.specs.Prelude.{◌≡◌, ◌↔◌, ◌-◌, ◌≤◌, IfOk, IfSome, vec_capacity};
+ghost use Rattle.std.specs.Prelude.{◌≡◌, ◌↔◌, ◌-◌, ◌≤◌, IfOk, IfSome, option_map, option_copied, vec_capacity};
+ghost use Rattle.std.specs.Arc.{arc_value};
 ghost use Rattle.pb_model.specs.Store.{HasOpened};
 ghost use Rattle.pb_task.specs.Parts.{space_of, max_degree_of};
-ghost use Rattle.pb_estimate.specs.Tables.{IsOfTask};
+ghost use Rattle.pb_estimate.specs.Tables.{IsOfTask, HasTable};
 ghost use Rattle.pb_abstract.specs.Graph.{IsGraphOf};
 ghost use Rattle.pb_lease.specs.LeaseValue.{leased_store, IsSameLease};
 ghost use Rattle.pb_lease.specs.Leased.{guide_of, HasScope};
@@ -18,8 +19,10 @@ use pb_estimate::{Choice, Estimator};
 use pb_expand::{Watch, Worked, work, work_watched};
 use pb_lease::Lease;
 use pb_model::Succ;
+use pb_pattern::Table;
 use pb_task::Task;
 use std::alloc::{AllocError, Global};
+use std::sync::Arc;
 
 /// What a worker needs memory for: an estimator, and a list for successors.
 #[derive(Drop)]
@@ -29,11 +32,18 @@ pub struct Tools {
 }
 
 impl Tools {
-    /// Tools for this task, with the estimates of this choice. An error is out of memory.
-    pub fn new(alloc: Global, task: &Task, choice: &Choice) -> Result<Tools, AllocError>
+    /// Tools for this task, with the estimates of this choice and the table that they need. An
+    /// error is out of memory.
+    pub fn new(
+        alloc: Global,
+        task: &Task,
+        choice: &Choice,
+        table: Option<&Arc<Table>>,
+    ) -> Result<Tools, AllocError>
+        requires { HasTable task.now choice.now (option_map arc_value (option_copied table)) }
         ensures { IfOk result (AreFor task.now choice.now) }
     {
-        let estimator = Estimator::of(alloc, task, choice)?;
+        let estimator = Estimator::by(alloc, task, choice, table)?;
         let succs = Vec::with_capacity(alloc, task.max_degree() as usize)?;
         Ok(Tools { estimator, succs })
     }

@@ -1,8 +1,10 @@
 //! Workers that search together, each in a thread of its own.
-ghost use Rattle.std.specs.Prelude.{◌≡◌, ◌+◌, [], None, IsTrue, vec_len, IfOk, IfErr};
+ghost use Rattle.std.specs.Prelude.{◌≡◌, ◌+◌, [], None, IsTrue, vec_len, IfOk, IfErr, option_map, option_copied};
+ghost use Rattle.std.specs.Arc.{arc_value};
 ghost use Rattle.std.specs.List.{list_any};
 ghost use Rattle.std.specs.Thread.{IsSync};
 ghost use Rattle.pb_machine.specs.History.{is_off};
+ghost use Rattle.pb_estimate.specs.Tables.{HasTable};
 ghost use Rattle.pb_abstract.specs.Graph.{IsGraphOf};
 ghost use Rattle.pb_yard.specs.Passes.{view_of, worker_of, parts_of, all_parts, IsOf};
 ghost use Rattle.pb_yard.specs.Calls.{IsActive, AllSignedOff};
@@ -16,10 +18,11 @@ use crate::yard_search::run_worker;
 use pb_abstract::AbsGraph;
 use pb_estimate::Choice;
 use pb_outside::Gate;
+use pb_pattern::Table;
 use pb_task::Task;
 use pb_yard::{Pass, Yard};
 use std::alloc::{AllocError, Global};
-use std::sync::Wait;
+use std::sync::{Arc, Wait};
 use std::thread::{Threads, join};
 
 // Tools for so many workers.
@@ -28,13 +31,15 @@ fn tools_for(
     task: &Task,
     choice: &Choice,
     workers: u32,
+    table: Option<&Arc<Table>>,
 ) -> Result<Vec<Tools>, AllocError>
+    requires { HasTable task.now choice.now (option_map arc_value (option_copied table)) }
     ensures tools { IfOk result (λ v. AllAreFor task.now choice.now v.items) }
     ensures count { IfOk result (λ v. vec_len v ≡ workers) }
 {
     let mut tools = Vec::with_capacity(alloc, workers as usize)?;
     for _i in 0..workers {
-        tools.push_reserved(Tools::new(alloc, task, choice)?);
+        tools.push_reserved(Tools::new(alloc, task, choice, table)?);
     }
     Ok(tools)
 }
@@ -106,8 +111,9 @@ fn run_all<R: Threads + Wait + Sync, G: Gate>(
 /// Searches with as many workers as the yard's settings have, each in a thread of its own, until
 /// all have signed off. A worker leases blocks, works on each and brings it back; if it gets none,
 /// it sleeps until a lease came back or a worker signed off. The gate is told each time that a
-/// block was leased, and each time before a lease is renewed or comes back. An error is out of
-/// memory, before any pass was split: nothing was leased.
+/// block was leased, and each time before a lease is renewed or comes back. The workers share the
+/// table that the estimate looks up, if it looks up any. An error is out of memory, before any pass
+/// was split: nothing was leased.
 pub fn run_workers<R: Threads + Wait + Sync, G: Gate>(
     rt: &R,
     alloc: Global,
@@ -118,6 +124,7 @@ pub fn run_workers<R: Threads + Wait + Sync, G: Gate>(
     gate: &G,
     pass: Pass,
     workers: u32,
+    table: Option<&Arc<Table>>,
 ) -> Result<Pass, (AllocError, Pass)>
     requires own { IsOf yard.now pass }
     requires first { worker_of pass ≡ 0 }
@@ -129,6 +136,7 @@ pub fn run_workers<R: Threads + Wait + Sync, G: Gate>(
     requires choice { (view_of pass).choice ≡ choice.now }
     requires vacant { (view_of pass).lent ≡ None }
     requires stays { IsActive (view_of pass) }
+    requires table { HasTable task.now choice.now (option_map arc_value (option_copied table)) }
 
     // So the yard may be closed with this pass if it had all parts.
     ensures own { IfOk result (IsOf yard.now) }
@@ -139,10 +147,10 @@ pub fn run_workers<R: Threads + Wait + Sync, G: Gate>(
 
     ensures err { IfErr result (λ e. e.1 ≡ pass) }
 {
-    let Ok(first) = Tools::new(alloc, task, choice) else {
+    let Ok(first) = Tools::new(alloc, task, choice, table) else {
         return Err((AllocError, pass));
     };
-    let Ok(others) = tools_for(alloc, task, choice, workers.wrapping_sub(1)) else {
+    let Ok(others) = tools_for(alloc, task, choice, workers.wrapping_sub(1), table) else {
         return Err((AllocError, pass));
     };
     let count = EventCount::new();

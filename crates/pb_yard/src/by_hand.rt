@@ -102,6 +102,9 @@ fn offer<R: Abort>(
         (estimate_by task.now lease.old.choice succ.now.state) (Some parent.now) succ.now.action }
     ensures changes { ChangesRows lease.old lease.new }
 {
+    if !lease.choice().suits(task) {
+        panic!(rt; "a choice that suits the task");
+    }
     let mut estimator = Estimator::of(alloc, task, lease.choice()).expect(rt, "memory");
     let estimate = estimator.estimate(task, &succ.state);
     let bundle = lease.bundle_mut(block);

@@ -6,4 +6,4 @@ returns-in-One c = no_width_put c.args.out.now c.args.out.now c.args.spelling.no
 
 pub returns-in-Two : goal.returns-in-Two
 returns-in-Two c = λ within.
-    one_width_put c.args.out.now c.put_numbered.new.out c.args.spelling.now.version c.args.spelling.now.width c.args._at c.from.result c.in-Two.is c.from.ensures within c.put_numbered.ensures.line c.put_numbered.ensures.short
+    one_width_put c.args.out.now c.put_numbered.new.out c.args.spelling.now.version c.args.spelling.now.width c.args._at c.from.result c.from.ensures within c.put_numbered.ensures.line c.put_numbered.ensures.short

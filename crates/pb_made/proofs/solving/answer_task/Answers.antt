@@ -1,11 +1,9 @@
-use Rattle.std.proofs.Common.{◌≡◌, IsTrue, IfOk, Some, ap, sym, subst}
+use Rattle.std.proofs.Common.{◌≡◌, IfOk, Some, ap, sym, subst}
 use Rattle.std.specs.Arc.{arc_value}
 use Rattle.pb_machine.specs.declared.event.End.TheVariants.{Quiet, Budget}
 use Rattle.pb_machine.specs.declared.settings.Settings.{Settings}
 use Rattle.pb_task.specs.declared.parts.TaskParts.{TaskParts}
-use Rattle.pb_lease.specs.GraphValue.{GraphValue}
-use Rattle.pb_search.specs.Ends.{IsBestOf, EndsQuietly, StopsWith, MarksNothing}
-use Rattle.pb_search.specs.Searches.{SearchEnds, LeavesQuiet}
+use Rattle.pb_search.specs.Searches.{LeavesQuiet}
 use Rattle.pb_made.specs.Answers.{made_settings, IsAnswered}
 use Rattle.pb_search.proofs.Callers.{leaves_quiet, search_stops}
 use Rattle.pb_made.proofs.solving.answer_task.Goals as goal

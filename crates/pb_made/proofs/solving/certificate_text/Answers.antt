@@ -1,7 +1,9 @@
 use Rattle.std.proofs.Common.{◌∙◌, ap, arith, refl}
 use Rattle.pb_estimate.specs.declared.choice.Choice.{Choice}
+use Rattle.pb_estimate.specs.declared.choice.Choice.TheVariants.{Plain}
+use Rattle.pb_estimate.specs.Estimates.{estimate_by}
 use Rattle.pb_estimate.specs.Spelling.{spelling_of}
-use Rattle.pb_search.specs.Ends.{choice_of, searched_guide}
+use Rattle.pb_search.specs.Ends.{searched_guide}
 use Rattle.pb_workers.specs.Ends.{home_store}
 use Rattle.pb_search.proofs.Callers.{quiet_end}
 use Rattle.pb_cert.proofs.Callers.{is_certificate}
@@ -15,11 +17,13 @@ returns c =
     (home_store c.args.graph.now)
     (quiet_end c.args.task.now c.args.graph.now.table.settings c.args.graph.now c.requires.quiet)
     c.max_degree-lawful.ensures.lawful
-    (choice_of c.args.graph.now.table.settings) refl refl unweighted c.requires.weight (omega arith)
+    Plain (ap (λ (choice : Choice). estimate_by c.args.task.now choice) c.requires.choice) refl
+    unweighted c.requires.weight (omega arith)
     (omega arith) c.in_ok-certificate.certificate c.args.plan _ c.in_ok-text.ensures
     (c.in_ok-certificate.ensures.spelling ∙ c.of-spelling.ensures.spelling
     ∙ ap (λ (choice : Choice). spelling_of c.args.task.now choice)
-    (c.in_ok-clone.ensures.cases ∙ c.choice.ensures.choice ∙ c.requires.quiet.best.choice))
+    (c.in_ok-clone.ensures.cases ∙ c.choice.ensures.choice ∙ c.requires.quiet.best.choice
+    ∙ c.requires.choice))
     c.in_ok-certificate.ensures.weight c.in_ok-certificate.ensures.plan
     c.in_ok-certificate.ensures.count c.in_ok-certificate.ensures.lines
     c.in_ok-certificate.ensures.valid c.requires.plan

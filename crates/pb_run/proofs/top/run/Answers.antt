@@ -81,7 +81,7 @@ returns-clause-calls g c = clauses.calls (words g c) (status g c) (files g c) (f
 
 pub returns-clause-answered : goal.returns-clause-answered
 returns-clause-answered g c = clauses.answered (words g c) (status g c) (files g c) (files_after g c) (calls g c) (calls_after g c) (puts g c) (puts_after g c) c.carry_out-status.ensures.goes c.number.result c.number.ensures
-    (g.H.Shelf.can_load c.args.shelf.now) (g.H.Shelf.can_hold c.args.shelf.now) (g.K.Sink.can_take c.args.out.now) c.carry_out-status.ensures.sure
+    (g.H.Shelf.can_load c.args.shelf.now) (g.H.Shelf.can_hold c.args.shelf.now) (g.K.Sink.can_take c.args.out.now) c.carry_out-status.ensures.sure c.carry_out-status.ensures.fits
 
 pub returns-clause-broken : goal.returns-clause-broken
 returns-clause-broken g c = clauses.broken (words g c) (status g c) (files g c) (files_after g c) (calls g c) (calls_after g c) (puts g c) (puts_after g c) c.carry_out-status.ensures.goes c.number.result c.number.ensures

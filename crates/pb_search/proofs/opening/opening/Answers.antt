@@ -16,8 +16,8 @@ estimate-estimate-requires-clause-state c =
 
 pub estimate-estimate-requires-clause-task : goal.estimate-estimate-requires-clause-task
 estimate-estimate-requires-clause-task c = (
-  c.choice_of-choice.result,
-  subst (λ (p : TaskParts). IsOfTask c.in_ok-estimator.estimator p c.choice_of-choice.result) (c.deref-2.ensures ∙ sym c.deref-3.ensures) c.in_ok-estimator.ensures,
+  c.args.choice,
+  subst (λ (p : TaskParts). IsOfTask c.in_ok-estimator.estimator p c.args.choice) (c.deref-2.ensures ∙ sym c.deref-3.ensures) c.in_ok-estimator.ensures,
 )
 
 pub returns : goal.returns
@@ -27,7 +27,7 @@ returns c =
     record {
       task = c.in_ok-graph.ensures.task ∙ task;
       graph_is = c.in_ok-graph.ensures.graph ∙ abstraction;
-      choice_is = c.in_ok-graph.ensures.choice ∙ c.choice_of-choice.ensures;
+      choice_is = c.in_ok-graph.ensures.choice ∙ c.requires.choice;
       settings_are = c.in_ok-graph.ensures.settings;
       counts = c.in_ok-graph.ensures.counts;
       past = c.in_ok-graph.ensures.past;

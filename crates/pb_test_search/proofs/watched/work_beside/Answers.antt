@@ -24,6 +24,13 @@ work_watched-worked-requires-clause-search g c =
     let w = c.args.watch.now in let t = c.args.task.now in let a = c.args.graph.now in let l = c.requires.leased in
     of_search t a (view_of w.pass) w.pass.is_live c.args.lease l
 
+pub work_watched-worked-requires-clause-tables : goal.work_watched-worked-requires-clause-tables
+work_watched-worked-requires-clause-tables g c =
+    let v = view_of c.args.watch.now.pass in let l = c.requires.leased in let y = l.at.yard in
+    let of_view = y.each l.at.seat v l.at.mine c.args.watch.now.pass.is_live in
+    let same = of_view.search.choice ∙ sym (y.lent_is v.journal.own.worker c.args.lease (of_view.lent ∙ l.lent)).of_graph.choice in
+    subst (IsOfTask c.args.estimator.now c.args.task.now) same c.requires.tools
+
 pub returns-clause-tools : goal.returns-clause-tools
 returns-clause-tools g c =
     let v = view_of c.args.watch.now.pass in let l = c.requires.leased in let y = l.at.yard in

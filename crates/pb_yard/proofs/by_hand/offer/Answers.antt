@@ -12,13 +12,13 @@ use Rattle.pb_yard.proofs.by_hand.offer.Goals as goal
 pub returns-clause-rows : goal.returns-clause-rows
 returns-clause-rows g c =
     subst (λ (h : Estimate). OffersAt c.args.lease.now (with_bundle c.args.lease.now c.args.block c.offer.new.self) c.args.block c.args.succ.now.state c.args.g h (Some c.args.parent.now) c.args.succ.now.action)
-    (c.estimate-estimate.ensures.estimate c.choice.result.now (when_found (λ e. IsOfTask e c.args.task.now c.choice.result.now) c.of.result c.expect-estimator.result c.expect-estimator.ensures c.of.ensures)
-    ∙ ap (λ h. estimate_by c.args.task.now h c.args.succ.now.state) c.choice.ensures)
+    (c.estimate-estimate.ensures.estimate c.choice-2.result.now (when_found (λ e. IsOfTask e c.args.task.now c.choice-2.result.now) c.of.result c.expect-estimator.result c.expect-estimator.ensures c.of.ensures)
+    ∙ ap (λ h. estimate_by c.args.task.now h c.args.succ.now.state) c.choice-2.ensures)
     (offered c.args.lease.now c.args.block c.bundle_mut-bundle.result.now c.offer.new.self c.bundle_mut-bundle.ensures.value c.args.succ.now.state c.args.g c.estimate-estimate.result
     (Some c.args.parent.now) c.args.succ.now.action (when_ok c.offer.result c.expect.result c.expect.ensures c.offer.ensures.sets))
 
 pub estimate-estimate-requires-clause-task : goal.estimate-estimate-requires-clause-task
-estimate-estimate-requires-clause-task g c = (c.choice.result.now, when_found (λ e. IsOfTask e c.args.task.now c.choice.result.now) c.of.result c.expect-estimator.result c.expect-estimator.ensures c.of.ensures)
+estimate-estimate-requires-clause-task g c = (c.choice-2.result.now, when_found (λ e. IsOfTask e c.args.task.now c.choice-2.result.now) c.of.result c.expect-estimator.result c.expect-estimator.ensures c.of.ensures)
 
 pub returns-clause-changes : goal.returns-clause-changes
 returns-clause-changes g c =

@@ -1,61 +1,50 @@
-use Rattle.std.proofs.Common.{subst, sym, ◌∙◌}
-use Rattle.pb_task.specs.declared.parts.TaskParts.{TaskParts}
-use Rattle.pb_task.specs.declared.parts.TaskParts.TheVariants as parts
-use Rattle.pb_estimate.specs.declared.estimator.Tables.{Tables}
-use Rattle.pb_estimate.specs.declared.estimator.Tables.TheVariants as tables
+use Rattle.std.proofs.Common.{subst, sym, ap, ap₂, ◌∙◌, option_map}
+use Rattle.std.specs.Arc.{arc_value}
+use Rattle.pb_model.specs.declared.row.Estimate.{Estimate}
+use Rattle.pb_pattern.specs.Patterns.{pattern_value}
+use Rattle.pb_pattern.specs.Tables.{TableValue, IsOfTask as IsTableOf}
+use Rattle.pb_estimate.specs.declared.choice.Choice.{Choice}
 use Rattle.pb_estimate.specs.declared.estimator.Estimator.TheInside.{Inside}
-use Rattle.pb_estimate.specs.declared.choice.Choice.TheVariants.{Plain}
-use Rattle.pb_estimate.specs.Tables.{IsOfTask}
-use Rattle.pb_estimate.proofs.Choices.{is_plain}
+use Rattle.pb_estimate.specs.Estimates.{estimate_by, greater}
+use Rattle.pb_estimate.specs.Tables.{EstimatorValue, AreOfTask, IsOfTask}
+use Rattle.pb_estimate.proofs.Choices.{keeps_plain, looks_up, is_plain, stays}
 use Rattle.pb_estimate.proofs.estimator.Estimator.estimate.Goals as goal
-use Rattle.pb_estimate.proofs.estimator.Estimator.estimate.Goals.{in-Grid-default, in-Tiles-Tiles, in-Strips-Strips}
+use Rattle.pb_estimate.proofs.estimator.Estimator.estimate.Goals.{in-None, in-Some}
 
-pub distance-requires-in-Tiles-Tiles-clause-ways : goal.distance-requires-in-Tiles-Tiles-clause-ways
-unfolding IsOfTask
-distance-requires-in-Tiles-Tiles-clause-ways c =
-    subst (λ (e : Tables). IsOfTask e (parts.Tiles c.in-Tiles-Tiles.parts) Plain) (sym c.self.view_is ∙ c.in-Tiles-Tiles.is-1)
-    (subst (λ (task : TaskParts). IsOfTask c.args.self.now task Plain) (sym c.parts.ensures.parts ∙ c.in-Tiles-Tiles.is-0) (is_plain c.args.self.now c.args.task.now c.requires.task))
+pub estimate-plain-requires-clause-task : goal.estimate-plain-requires-clause-task
+estimate-plain-requires-clause-task c =
+    subst (λ (e : EstimatorValue). AreOfTask e.plain c.args.task.now) (sym c.self.view_is)
+    (keeps_plain c.args.self.now c.args.task.now c.requires.task.0 c.requires.task.1)
 
-pub unreachable-requires : goal.unreachable-requires
-unfolding IsOfTask
-unreachable-requires c =
-    subst (λ (e : Tables). IsOfTask e (parts.Tiles c.in-Tiles-Grid.field-0-0) Plain) (sym c.self.view_is ∙ c.in-Tiles-Grid.is-1)
-    (subst (λ (task : TaskParts). IsOfTask c.args.self.now task Plain) (sym c.parts.ensures.parts ∙ c.in-Tiles-Grid.is-0) (is_plain c.args.self.now c.args.task.now c.requires.task))
+pub least-requires-clause-task : goal.least-requires-clause-task
+least-requires-clause-task c =
+    let is =
+    looks_up c.args.self.now c.args.task.now c.requires.task.0 c.requires.task.1 (arc_value c.in-Some.table)
+    (ap (λ (e : EstimatorValue). e.table) (sym c.self.view_is) ∙ ap (λ t. option_map arc_value t) c.in-Some.is) in
+    subst (λ (t : TableValue). IsTableOf t c.args.task.now) (sym c.deref.ensures) is.0
 
-pub unreachable-requires-in-Tiles-Strips : goal.unreachable-requires-in-Tiles-Strips
-unfolding IsOfTask
-unreachable-requires-in-Tiles-Strips c =
-    subst (λ (e : Tables). IsOfTask e (parts.Tiles c.in-Tiles-Strips.field-0-0) Plain) (sym c.self.view_is ∙ c.in-Tiles-Strips.is-1)
-    (subst (λ (task : TaskParts). IsOfTask c.args.self.now task Plain) (sym c.parts.ensures.parts ∙ c.in-Tiles-Strips.is-0) (is_plain c.args.self.now c.args.task.now c.requires.task))
-
-pub estimate-requires-clause-counters : goal.estimate-requires-clause-counters
-unfolding IsOfTask
-estimate-requires-clause-counters c =
-    subst (λ (e : Tables). IsOfTask e (parts.Strips c.in-Strips-Strips.parts) Plain) (sym c.self.view_is ∙ c.in-Strips-Strips.is-1)
-    (subst (λ (task : TaskParts). IsOfTask c.args.self.now task Plain) (sym c.parts.ensures.parts ∙ c.in-Strips-Strips.is-0) (is_plain c.args.self.now c.args.task.now c.requires.task))
-
-pub unreachable-requires-in-Strips-Grid : goal.unreachable-requires-in-Strips-Grid
-unfolding IsOfTask
-unreachable-requires-in-Strips-Grid c =
-    subst (λ (e : Tables). IsOfTask e (parts.Strips c.in-Strips-Grid.field-0-0) Plain) (sym c.self.view_is ∙ c.in-Strips-Grid.is-1)
-    (subst (λ (task : TaskParts). IsOfTask c.args.self.now task Plain) (sym c.parts.ensures.parts ∙ c.in-Strips-Grid.is-0) (is_plain c.args.self.now c.args.task.now c.requires.task))
-
-pub unreachable-requires-in-Strips-Tiles : goal.unreachable-requires-in-Strips-Tiles
-unfolding IsOfTask
-unreachable-requires-in-Strips-Tiles c =
-    subst (λ (e : Tables). IsOfTask e (parts.Strips c.in-Strips-Tiles.field-0-0) Plain) (sym c.self.view_is ∙ c.in-Strips-Tiles.is-1)
-    (subst (λ (task : TaskParts). IsOfTask c.args.self.now task Plain) (sym c.parts.ensures.parts ∙ c.in-Strips-Tiles.is-0) (is_plain c.args.self.now c.args.task.now c.requires.task))
+pub returns-clause-estimate : goal.returns-clause-estimate
+returns-clause-estimate c choice of_task = elim c.match-self.branch [
+  | in-None w ↦
+      let plain =
+      is_plain c.args.self.now c.args.task.now choice of_task
+      (ap (λ (e : EstimatorValue). e.table) (sym c.self.view_is) ∙ ap (λ t. option_map arc_value t) w.in-None.is) in
+      w.result-is ∙ c.estimate-plain.ensures.estimate ∙ sym (ap (λ (x : Choice). estimate_by c.args.task.now x c.args.state.now) plain)
+  | in-Some w ↦
+      let is =
+      looks_up c.args.self.now c.args.task.now choice of_task (arc_value w.in-Some.table)
+      (ap (λ (e : EstimatorValue). e.table) (sym c.self.view_is) ∙ ap (λ t. option_map arc_value t) w.in-Some.is) in
+      w.result-is ∙ w.greater.ensures
+      ∙ ap₂ (λ (one other : Estimate). greater one other) c.estimate-plain.ensures.estimate
+      (w.least.ensures ∙ ap (λ (t : TableValue). pattern_value c.args.task.now t.pattern c.args.state.now) w.deref.ensures)
+      ∙ sym (ap (λ (x : Choice). estimate_by c.args.task.now x c.args.state.now) is.1)
+]
 
 pub returns-clause-task : goal.returns-clause-task
-unfolding IsOfTask
-returns-clause-task c Plain of_task = elim c.match-parts.branch [
-  | in-Grid-default w ↦
-      subst (λ (i : Inside). IsOfTask i.tables c.args.task.now Plain) (sym w.self-inside-is) (subst (λ (e : Tables). IsOfTask e c.args.task.now Plain) (sym c.self.view_is) of_task)
-  | in-Tiles-Tiles w ↦
-      subst (λ (i : Inside). IsOfTask i.tables c.args.task.now Plain) (sym w.self-inside-is)
-      (subst (λ (e : Tables). IsOfTask e c.args.task.now Plain) (sym c.self.view_is ∙ w.in-Tiles-Tiles.is-1) of_task)
-  | in-Strips-Strips w ↦
-      let kept : IsOfTask (tables.Strips w.estimate.new.counters) (parts.Strips w.in-Strips-Strips.parts) Plain = w.estimate.ensures.counters in
-      subst (λ (i : Inside). IsOfTask i.tables c.args.task.now Plain) (sym w.self-inside-is)
-      (subst (λ (task : TaskParts). IsOfTask (tables.Strips w.estimate.new.counters) task Plain) (sym w.in-Strips-Strips.is-0 ∙ c.parts.ensures.parts) kept)
-]
+returns-clause-task c choice of_task =
+    let viewed = subst (λ (e : EstimatorValue). IsOfTask e c.args.task.now choice) (sym c.self.view_is) of_task in
+    let kept = stays _ c.args.task.now choice viewed c.estimate-plain.new.self c.estimate-plain.ensures.task in
+    elim c.match-self.branch [
+      | in-None w ↦ subst (λ (i : Inside). IsOfTask (record { plain = i.plain; table = option_map arc_value i.table }) c.args.task.now choice) (sym w.self-inside-is) kept
+      | in-Some w ↦ subst (λ (i : Inside). IsOfTask (record { plain = i.plain; table = option_map arc_value i.table }) c.args.task.now choice) (sym w.self-inside-is) kept
+    ]

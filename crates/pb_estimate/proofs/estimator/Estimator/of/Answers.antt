@@ -1,6 +1,6 @@
 use Rattle.std.proofs.Common.{rules}
 use Rattle.pb_estimate.specs.Tables.{IsOfTask}
-use Rattle.pb_estimate.proofs.estimator.plain_tables.Goals as goal
+use Rattle.pb_estimate.proofs.estimator.Estimator.of.Goals as goal
 
 pub returns : goal.returns
 unfolding IsOfTask

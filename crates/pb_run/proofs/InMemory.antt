@@ -1,0 +1,37 @@
+-- What is asked of files and output in memory is that they have room.
+use Rattle.std.proofs.Common.{◌≡◌, inl, inr, ℕ, Some, List, [], ◌∷◌}
+use Rattle.pb_outside.specs.Memory.{ShelfView, SinkView, file_of, HasFile, HasRoom, CanTake}
+use Rattle.pb_command.specs.Meaning.{Reading}
+use Rattle.pb_answer.specs.Outputs.{Output}
+use Rattle.pb_run.specs.Asked.{Wanted, files_of, CanLoad}
+use Rattle.pb_run.specs.Calls.{CanHold}
+use Rattle.pb_run.specs.Served.{IsHandedOutIfItFits, AnswersWhatFits}
+use Rattle.pb_run.specs.InMemory.{HaveFiles, HasRoomFor, HasRoomToPut}
+
+module _ (shelf : ShelfView) (sink : SinkView) (listed : shelf.calls.listed ≡ [])
+    (sink_listed : sink.calls.listed ≡ []) where
+  pub can_load : (files : List Wanted) → HaveFiles shelf files → CanLoad (HasFile shelf) files
+  can_load [] have = tt
+  can_load (file ∷ files) have = ((listed, have.0), can_load files have.1)
+
+  pub can_hold : (outputs : List Output) → CanHold (HasRoomFor shelf) outputs
+      → CanHold (HasRoom shelf) outputs
+  can_hold [] holds = tt
+  can_hold (first ∷ outputs) holds = ((listed, holds.0), can_hold outputs holds.1)
+
+  pub handed_out_if_it_fits : (reading : Reading) (status : ℕ) → HaveFiles shelf (files_of reading)
+      → AnswersWhatFits reading status (Some (file_of shelf)) (HasFile shelf) (HasRoom shelf)
+      (CanTake sink)
+      → IsHandedOutIfItFits reading (file_of shelf) status (HasRoomFor shelf) (HasRoomToPut sink)
+  handed_out_if_it_fits reading status have fits = go (fits (can_load (files_of reading) have))
+    where
+      go : IsHandedOutIfItFits reading (file_of shelf) status (HasRoom shelf) (CanTake sink)
+          → IsHandedOutIfItFits reading (file_of shelf) status (HasRoomFor shelf) (HasRoomToPut sink)
+      go (inl memory) = inl memory
+      go (inr (texts, loaded, said, answers, all)) = inr (
+        texts,
+        loaded,
+        said,
+        answers,
+        λ holds takes. all (can_hold said.outputs holds) (sink_listed, takes),
+      )

@@ -1,0 +1,99 @@
+-- What a saved certificate states of the estimate of its search.
+use Rattle.std.proofs.Common.{◌≡◌, ◌⊎◌, inl, inr, ℕ, ◌==◌, Bool, true, false, Option, None, Some, List, [], ◌∷◌, ◌++◌, Ok, if◌then◌else◌, codes, refl, sym, ap, subst, ◌∙◌, append_assoc}
+use Rattle.std.specs.Fmt.{decimal}
+use Rattle.pb_model.specs.Plan.{Plan}
+use Rattle.pb_model.specs.Texts.{line, lines, spaced, weight_text, plan_text, rows_text}
+use Rattle.pb_task.specs.declared.kind.Kind.{Kind}
+use Rattle.pb_task.specs.Kinds.{kind_of, kind_name}
+use Rattle.pb_task.specs.Widths.{width_of}
+use Rattle.pb_task.specs.declared.parts.TaskParts.{TaskParts}
+use Rattle.pb_estimate.specs.declared.choice.Choice.TheVariants.{Plain, Pattern}
+use Rattle.pb_estimate.specs.Estimates.{choice_with}
+use Rattle.pb_estimate.specs.Spelling.{head_of, spelling_of}
+use Rattle.pb_command.specs.Meaning.{Reading, Read, Solve, SolveMeaning}
+use Rattle.pb_command.specs.Options.{SolveReadsOptions, kind_word}
+use Rattle.pb_answer.specs.Outputs.{Output, output}
+use Rattle.pb_answer.specs.Loaded.{solve_task}
+use Rattle.pb_answer.specs.Searches.{settings_of, choice_asked, weight_asked}
+use Rattle.pb_answer.specs.Claims.{IsCertificate, journal_outputs_if_any, Certifies}
+use Rattle.pb_answer.specs.Answer.{Saves}
+use Rattle.pb_answer.proofs.Callers.{input_kind}
+use Rattle.pb_run.specs.Outcome.{Outcome, IfSolve}
+use Rattle.pb_run.specs.Headline.{CertificateHolds}
+use Rattle.pb_run.specs.Commands.{SolveHolds}
+use Rattle.pb_run.specs.Laws.{IsSavedFirst, BeginsWithLines, first_lines, CertificatesStateTheirPattern}
+use Rattle.pb_run.proofs.Accepted.{none_of, first_text}
+
+-- ---- the first lines
+
+-- those of a certificate by this number of a pattern
+head_is : (task : TaskParts) (pattern : ℕ) → head_of (spelling_of task (choice_with pattern))
+    ≡ first_lines (kind_name (kind_of task)) (width_of task) pattern
+head_is task pattern = go (pattern == 0)
+  where
+    go : (none : Bool) → head_of (spelling_of task (if none then Plain else Pattern pattern))
+        ≡ (if none then codes "pbnf-certificate 2"
+        ∷ spaced (codes "kind") (kind_name (kind_of task))
+        ∷ spaced (codes "width") (decimal (width_of task)) ∷ []
+        else codes "pbnf-certificate 3"
+        ∷ spaced (codes "kind") (kind_name (kind_of task))
+        ∷ spaced (codes "width") (decimal (width_of task))
+        ∷ spaced (codes "pattern") (decimal pattern) ∷ [])
+    go true = refl
+    go false = refl
+
+-- the first lines of a text, and all behind them
+regroup : (head weight plan rows end : List ℕ)
+    → (((head ++ weight) ++ plan) ++ rows) ++ end ≡ head ++ (weight ++ (plan ++ (rows ++ end)))
+regroup head weight plan rows end =
+    append_assoc ((head ++ weight) ++ plan) rows end ∙ append_assoc (head ++ weight) plan (rows ++ end)
+    ∙ append_assoc head weight (plan ++ (rows ++ end))
+
+module _ (solve : SolveMeaning) (ran : Outcome) (name text : List ℕ)
+    (named : solve.certificate ≡ Some name) (saved : IsSavedFirst ran.said name text) where
+  -- the text is that of the certificate, under its first lines
+  begins : (task : TaskParts) (plan : Option Plan) → Certifies (Saves ran.said) solve task plan
+      → BeginsWithLines (head_of (spelling_of task (choice_asked solve))) text
+  begins task plan (left, searched, found, outputs, certificate, saves) =
+      let mine = subst (λ (n : Option (List ℕ)). IsCertificate n task (choice_asked solve)
+      (weight_asked solve) left.guide left.store plan outputs) named certificate in
+      let journals = journal_outputs_if_any solve.journal (settings_of solve) left.journal in
+      let all : output name text ∷ saved.0 ≡ (output name mine.0 ∷ []) ++ journals =
+      sym saved.1 ∙ saves ∙ ap (λ (os : List Output). os ++ journals) mine.2 in (
+        _,
+        ap first_text all ∙ mine.1.text_is
+            ∙ regroup (lines (head_of (spelling_of task (choice_asked solve))))
+            (weight_text (weight_asked solve)) (plan_text plan) (rows_text (width_of task) mine.1.lines)
+            (line (codes "end")),
+      )
+
+  abbrev pub States : Type 0
+  States = (task : TaskParts) × (solve_task solve ran.texts ≡ Ok task)
+      × BeginsWithLines (first_lines (kind_word solve.input) (width_of task) solve.settings.pattern)
+      text
+
+  states : (task : TaskParts) (plan : Option Plan) → solve_task solve ran.texts ≡ Ok task
+      → Certifies (Saves ran.said) solve task plan → States
+  states task plan is certifies =
+      let first = begins task plan certifies in
+      let kinds = input_kind task solve.input solve.options 0 ran.texts is in (
+        task,
+        is,
+        subst (λ (lines : List (List ℕ)). BeginsWithLines lines text)
+            (head_is task solve.settings.pattern
+            ∙ ap (λ (k : Kind). first_lines (kind_name k) (width_of task) solve.settings.pattern) kinds)
+            first,
+      )
+
+  pub either : (ran.said.status ≡ 0) ⊎ (ran.said.status ≡ 1) → ran.asked ≡ Read (Solve solve)
+      → SolveHolds solve ran → CertificateHolds ran → States
+  either (inl zero) is all certified =
+      let found = all.one_plan zero in states found.0 (Some found.2.0) found.1 found.2.6
+  either (inr one) is all certified =
+      let found = none_of solve ran is certified one in states found.0 None found.1 found.2
+
+pub certificates_state_their_pattern : SolveReadsOptions → CertificatesStateTheirPattern
+certificates_state_their_pattern reads input name text arguments solved are weight names named kept answered saved =
+    let asked = kept.asked ∙ reads input arguments are weight names in
+    either _ solved name text named saved answered asked
+    (subst (λ (r : Reading). IfSolve r (λ s. SolveHolds s solved)) asked kept.solve) kept.certified

@@ -1,0 +1,34 @@
+//! The program over files and output in memory: what it answers is handed out if it has room there.
+ghost use Rattle.std.specs.Prelude.{◌≡◌, [], map, string_bytes};
+ghost use Rattle.pb_command.specs.Meaning.{reading_of_words};
+ghost use Rattle.pb_outside.specs.Memory.{file_of};
+ghost use Rattle.pb_run.specs.Asked.{files_of};
+ghost use Rattle.pb_run.specs.InMemory.{HaveFiles, HasRoomFor, HasRoomToPut};
+ghost use Rattle.pb_run.specs.Served.{IsHandedOutIfItFits};
+
+use crate::top::run;
+use pb_outside::{Gate, MemShelf, MemSink};
+use std::alloc::Global;
+use std::sync::Wait;
+use std::thread::Threads;
+
+/// `run` over files and output in memory, of which no call is to fail, and where each file is that
+/// the words name. Whatever is answered, the status is that of the answer if each file that is to
+/// be saved has room under its name, and the report has room. Or memory ran out.
+pub fn run_in_memory<R: Threads + Wait + Sync, G: Gate>(
+    rt: &R,
+    alloc: Global,
+    words: &[String],
+    shelf: &mut MemShelf,
+    out: &mut MemSink,
+    gate: &G,
+) -> u8
+    requires shelf { shelf.old.calls.listed ≡ [] }
+    requires sink { out.old.calls.listed ≡ [] }
+    requires files { HaveFiles shelf.old
+        (files_of (reading_of_words (map string_bytes words.now))) }
+    ensures { IsHandedOutIfItFits (reading_of_words (map string_bytes words.now))
+        (file_of shelf.old) result (HasRoomFor shelf.old) (HasRoomToPut out.old) }
+{
+    run(rt, alloc, words, shelf, out, gate)
+}
