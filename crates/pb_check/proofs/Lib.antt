@@ -16,6 +16,9 @@ mod Validity
 mod Completeness
 mod Claims
 mod Known
+mod Before
+mod Firsts
+mod Shares
 mod FirstLines
 mod FirstUnspelled
 mod CaseOf

@@ -11,5 +11,6 @@ pub mod Numbers
 pub mod Rows
 pub mod Spelling
 pub mod Judging
+pub mod Pieces
 pub mod Shown
 pub mod Cases

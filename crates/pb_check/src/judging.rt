@@ -7,7 +7,7 @@ ghost use Rattle.pb_estimate.specs.Estimates.{estimate_by, suits};
 ghost use Rattle.pb_estimate.specs.Tables.{IsOfTask};
 ghost use Rattle.pb_check.specs.Faults.{Gives};
 ghost use Rattle.pb_check.specs.Reading.{suiting};
-ghost use Rattle.pb_check.specs.Judging.{passes, unless, same_kind, width_fault, stated_fault, is_weight, walk, plan_fault, plan_fault_if_any, order_fault, rows_order_fault, first_fault_by, state_fault, g_of, is_zero, target_fault, step_fault, steps_fault, may_be_cut, row_fault, bound_of, verdict_of, judged, Rise};
+ghost use Rattle.pb_check.specs.Judging.{passes, unless, same_kind, width_fault, stated_fault, is_weight, walk, plan_fault, plan_fault_if_any, order_fault, rows_order_fault, first_fault_by, state_fault, g_of, is_zero, target_fault, step_fault, steps_fault, may_be_cut, row_fault, bound_of, verdict_of, judged, judged_before, Rise};
 
 use crate::fault::{CertificateFault, CheckError, Claim, Verdict};
 use crate::rows::{StatedRow, StatedRows};
@@ -18,7 +18,7 @@ use pb_packed::Packed;
 use pb_task::{Kind, Task};
 use std::alloc::Global;
 
-fn pass(fault: Option<CertificateFault>) -> Result<bool, CheckError>
+pub(crate) fn pass(fault: Option<CertificateFault>) -> Result<bool, CheckError>
     ensures gives { Gives (λ x. x) result (passes fault) }
     ensures none { IfOk result (λ x. fault ≡ None) }
 {
@@ -291,7 +291,7 @@ fn may_be_cut(weight: &StatedWeight, best: Option<u64>, g: u64, estimate: Estima
 
 // The fault of a row, judged by itself against all rows.
 #[tactic(auto, unfolding(crate::specs::Judging::row_fault))]
-fn row_fault(
+pub(crate) fn row_fault(
     task: &Task,
     estimator: &mut Estimator,
     _choice: &Choice,
@@ -361,7 +361,7 @@ fn rows_fault(
 
 // ---- all in order
 
-fn cost_of(plan: &Option<StatedPlan>) -> Option<u64>
+pub(crate) fn cost_of(plan: &Option<StatedPlan>) -> Option<u64>
     ensures { result ≡ cost_of plan.now }
 {
     match plan {
@@ -379,7 +379,7 @@ fn bound_of(weight: &StatedWeight, cost: u64) -> u64
     least as u64
 }
 
-fn verdict_of(weight: &StatedWeight, plan: &Option<StatedPlan>) -> Claim
+pub(crate) fn verdict_of(weight: &StatedWeight, plan: &Option<StatedPlan>) -> Claim
     requires { is_weight (record { num = weight.now.num; den = weight.now.den }) ≡ true }
     ensures { result ≡ verdict_of (record { num = weight.now.num; den = weight.now.den }) plan.now }
 {
@@ -439,22 +439,17 @@ fn need_rows(
     pass(fault)
 }
 
-/// The verdict on what a text says, or its first fault. The estimator is by the choice that the
-/// text states, or by the plain one if that choice suits no task.
-#[tactic(auto, unfolding(crate::specs::Judging::judged))]
-pub fn judge(
-    alloc: Global,
-    task: &Task,
-    estimator: &mut Estimator,
-    text: &StatedText,
-) -> Result<Verdict, CheckError>
-    requires task { IsOfTask estimator.old task.now
-        (suiting text.now.spelling.stated.choice) }
+/// All that is judged before the rows themselves, in one order.
+#[tactic(auto, unfolding(crate::specs::Judging::judged_before))]
+pub fn judge_before(task: &Task, text: &StatedText) -> Result<bool, CheckError>
     requires lines { text.now.first + length text.now.certificate.lines < 2 ^ 64 }
-    ensures verdict { Gives (λ x. x) result (judged task.now text.now) }
+    ensures gives { Gives (λ x. x) result (judged_before task.now text.now) }
     ensures lawful { IsTask task.now }
-    ensures task { IsOfTask estimator.new task.now
-        (suiting text.now.spelling.stated.choice) }
+    ensures suits { IfOk result (λ x. suits task.now text.now.spelling.stated.choice ≡ true) }
+    ensures weight { IfOk result (λ x. is_weight text.now.certificate.weight ≡ true) }
+    ensures rise { IfOk result (λ x. Rise text.now.certificate.lines) }
+    ensures states { IfOk result (λ x. first_fault_by (state_fault (space_of task.now))
+        text.now.first text.now.certificate.lines ≡ None) }
 {
     let start = task.initial();
     let stated = &text.spelling.stated;
@@ -474,7 +469,28 @@ pub fn judge(
     need(
         is_zero(rows.g_of(&start, &mut 0)),
         CertificateFault::NoStart,
-    )?;
+    )
+}
+
+/// The verdict on what a text says, or its first fault. The estimator is by the choice that the
+/// text states, or by the plain one if that choice suits no task.
+pub fn judge(
+    alloc: Global,
+    task: &Task,
+    estimator: &mut Estimator,
+    text: &StatedText,
+) -> Result<Verdict, CheckError>
+    requires task { IsOfTask estimator.old task.now
+        (suiting text.now.spelling.stated.choice) }
+    requires lines { text.now.first + length text.now.certificate.lines < 2 ^ 64 }
+    ensures verdict { Gives (λ x. x) result (judged task.now text.now) }
+    ensures lawful { IsTask task.now }
+    ensures task { IsOfTask estimator.new task.now
+        (suiting text.now.spelling.stated.choice) }
+{
+    let stated = &text.spelling.stated;
+    let weight = &text.weight;
+    judge_before(task, text)?;
     need_rows(
         alloc,
         task,
@@ -482,8 +498,8 @@ pub fn judge(
         &stated.choice,
         weight,
         &text.plan,
-        rows,
-        first,
+        &text.rows,
+        text.first,
     )?;
     Ok(Verdict::on(verdict_of(weight, &text.plan)))
 }

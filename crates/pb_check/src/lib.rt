@@ -10,6 +10,7 @@ mod fault;
 mod judging;
 mod laws;
 mod numbers;
+mod pieces;
 mod reading;
 mod rows;
 mod stated;
@@ -21,4 +22,5 @@ pub use laws::{
     bounds_are_least, cases_are_refused, cut_certificates_are_refused, read_as_spelled,
     refusals_have_their_case, stated_choices_suit, texts_have_one_spelling,
 };
+pub use pieces::check_pieces;
 pub use reading::stated_choice;

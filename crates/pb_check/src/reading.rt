@@ -537,7 +537,7 @@ fn plan_lines(plan: &Option<StatedPlan>) -> u64
 pub fn text_of(alloc: Global, bytes: &[u8]) -> Result<StatedText, CheckError>
     requires { length bytes.now < 2 ^ 63 }
     ensures gives { Gives (λ x. x) result (text_of bytes.now) }
-    ensures few { IfOk result (λ x. x.first + length x.certificate.lines < 2 ^ 64) }
+    ensures few { IfOk result (λ x. x.first + length x.certificate.lines < 2 ^ 63) }
 {
     let (spelling, rest) = head_at(bytes)?;
     let line = 1 + u64::from(spelling.head_lines());

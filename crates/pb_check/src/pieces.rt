@@ -1,0 +1,433 @@
+//! Checking with the rows judged in pieces, by several workers at once.
+ghost use Rattle.std.specs.Thread.{IsSync};
+ghost use Rattle.std.specs.Prelude.{◌≡◌, ◌≤◌, ◌+◌, ◌-◌, ◌*◌, ◌/◌, ◌%◌, ◌<◌, ◌^◌, All, length, IsTrue, true, None, IfOk, Ok, Err, ℕ};
+ghost use Rattle.pb_model.specs.Certificate.{Line, cost_of};
+ghost use Rattle.pb_task.specs.Parts.{space_of, IsTask};
+ghost use Rattle.pb_estimate.specs.Estimates.{estimate_by, suits};
+ghost use Rattle.pb_estimate.specs.Tables.{IsOfTask};
+ghost use Rattle.pb_lines.specs.Words.{line_feeds};
+ghost use Rattle.pb_check.specs.declared.fault.Verdict.{Verdict};
+ghost use Rattle.pb_check.specs.declared.fault.CertificateFault.TheVariants.{Syntax};
+ghost use Rattle.pb_check.specs.Faults.{Gives};
+ghost use Rattle.pb_check.specs.Reading.{stated_choice, suiting};
+ghost use Rattle.pb_check.specs.Judging.{passes, is_weight, state_fault, row_fault, first_fault_by, judged, checked, Rise};
+ghost use Rattle.pb_check.specs.Shown.{IsAccepted, IsCutOff, ShowsClaim, VerdictHolds};
+ghost use Rattle.pb_check.specs.Pieces.{IsFirstIn, earlier, row_fault_at, found_of, IsBetween, IsOfWorkers};
+
+use crate::fault::{CertificateFault, CheckError, Verdict};
+use crate::judging::{cost_of, judge_before, pass, row_fault, verdict_of};
+use crate::reading::text_of;
+use crate::rows::StatedRows;
+use crate::stated::{StatedPlan, StatedText, StatedWeight};
+use pb_estimate::{Choice, Estimator};
+use pb_outside::Gate;
+use pb_task::Task;
+use std::alloc::{AllocError, Global};
+use std::thread::{Threads, join_mut};
+
+/// A place among the rows, and the fault of the row there.
+#[derive(Clone, Copy)]
+pub struct Found {
+    pub place: u64,
+    pub fault: CertificateFault,
+}
+
+// The earlier of two places.
+fn earlier(one: Option<Found>, other: Option<Found>) -> Option<Found>
+    ensures { found_of result ≡ earlier (found_of one) (found_of other) }
+{
+    match (one, other) {
+        (None, other) => other,
+        (Some(one), None) => Some(one),
+        (Some(one), Some(other)) => {
+            if other.place < one.place {
+                Some(other)
+            } else {
+                Some(one)
+            }
+        }
+    }
+}
+
+// The first fault of the rows from one place to another, each judged against all rows.
+fn judge_piece(
+    task: &Task,
+    estimator: &mut Estimator,
+    choice: &Choice,
+    weight: &StatedWeight,
+    best: Option<u64>,
+    rows: &StatedRows,
+    line: u64,
+    from: u64,
+    to: u64,
+    places: &mut [usize],
+) -> Option<Found>
+    requires task { IsOfTask estimator.old task.now choice.now }
+    requires weight { is_weight (record { num = weight.now.num; den = weight.now.den }) ≡ true }
+    requires rise { Rise rows.now }
+    requires states { All (λ (row : Line). IsTrue ((space_of task.now).is_state row.state))
+        rows.now }
+    requires range { from ≤ to }
+    requires inside { to ≤ length rows.now }
+    requires lines { line + length rows.now < 2 ^ 64 }
+    ensures first { IsFirstIn (row_fault_at task.now choice.now
+        (record { num = weight.now.num; den = weight.now.den }) best line rows.now)
+        (length rows.now) (IsBetween from to) (found_of result) }
+    ensures task { IsOfTask estimator.new task.now choice.now }
+{
+    for place in from..to {
+        let row = rows.at(place as usize);
+        let at = line + place;
+        let fault = row_fault(
+            task, estimator, choice, weight, best, rows, at, &row, places,
+        );
+        if let Some(fault) = fault {
+            return Some(Found { place, fault });
+        }
+    }
+    None
+}
+
+// A number as the gate gets it: mod 2^32.
+fn number_of(number: u64) -> u32 {
+    (number % 4294967296) as u32
+}
+
+// The first fault in the pieces of one worker.
+fn judge_share<G: Gate>(
+    alloc: Global,
+    gate: &G,
+    task: &Task,
+    estimator: &mut Estimator,
+    choice: &Choice,
+    weight: &StatedWeight,
+    best: Option<u64>,
+    rows: &StatedRows,
+    line: u64,
+    piece: u64,
+    worker: u64,
+    workers: u64,
+) -> Result<Option<Found>, AllocError>
+    requires task { IsOfTask estimator.old task.now choice.now }
+    requires weight { is_weight (record { num = weight.now.num; den = weight.now.den }) ≡ true }
+    requires rise { Rise rows.now }
+    requires states { All (λ (row : Line). IsTrue ((space_of task.now).is_state row.state))
+        rows.now }
+    requires lines { line + length rows.now < 2 ^ 63 }
+    requires piece { 1 ≤ piece }
+    requires worker { worker < workers }
+    requires workers { workers < 2 ^ 63 }
+    ensures first { IfOk result (λ found. IsFirstIn
+        (row_fault_at task.now choice.now
+        (record { num = weight.now.num; den = weight.now.den }) best line rows.now)
+        (length rows.now) (IsOfWorkers piece workers worker (worker + 1)) (found_of found)) }
+    ensures task { IsOfTask estimator.new task.now choice.now }
+{
+    let mut places = Vec::from_elem(alloc, 0usize, task.actions() as usize)?;
+    let count = rows.len() as u64;
+    let pieces = count.div_ceil(piece);
+    let mut at = worker;
+    while at < pieces {
+        let from = at * piece;
+        let to = from + piece.min(count - from);
+        gate.leased(number_of(worker), number_of(at));
+        let found = judge_piece(
+            task,
+            estimator,
+            choice,
+            weight,
+            best,
+            rows,
+            line,
+            from,
+            to,
+            &mut places,
+        );
+        gate.giving(number_of(worker), number_of(at));
+        if found.is_some() {
+            return Ok(found);
+        }
+        at += workers;
+    }
+    Ok(None)
+}
+
+// The first fault in the pieces of some workers, each in a thread of its own.
+fn judge_shares<R: Threads + Sync, G: Gate>(
+    rt: &R,
+    alloc: Global,
+    gate: &G,
+    task: &Task,
+    estimators: &mut [Estimator],
+    choice: &Choice,
+    weight: &StatedWeight,
+    best: Option<u64>,
+    rows: &StatedRows,
+    line: u64,
+    piece: u64,
+    first: u64,
+    workers: u64,
+) -> Result<Option<Found>, AllocError>
+    requires some { 1 ≤ length estimators.old }
+    requires task { All (λ e. IsOfTask e task.now choice.now) estimators.old }
+    requires weight { is_weight (record { num = weight.now.num; den = weight.now.den }) ≡ true }
+    requires rise { Rise rows.now }
+    requires states { All (λ (row : Line). IsTrue ((space_of task.now).is_state row.state))
+        rows.now }
+    requires lines { line + length rows.now < 2 ^ 63 }
+    requires piece { 1 ≤ piece }
+    requires last { first + length estimators.old ≤ workers }
+    requires workers { workers < 2 ^ 63 }
+    ensures first { IfOk result (λ found. IsFirstIn
+        (row_fault_at task.now choice.now
+        (record { num = weight.now.num; den = weight.now.den }) best line rows.now)
+        (length rows.now) (IsOfWorkers piece workers first (first + length estimators.old))
+        (found_of found)) }
+    ensures task { All (λ e. IsOfTask e task.now choice.now) estimators.new }
+    ensures many { length estimators.new ≡ length estimators.old }
+{
+    if estimators.len() < 2 {
+        return judge_share(
+            alloc,
+            gate,
+            task,
+            &mut estimators[0],
+            choice,
+            weight,
+            best,
+            rows,
+            line,
+            piece,
+            first,
+            workers,
+        );
+    }
+    let half = estimators.len() / 2;
+    let second = first + half as u64;
+    let (front, back) = estimators.split_at_mut(half);
+    let (one, other) = join_mut(
+        rt,
+        &mut || -> Result<Option<Found>, AllocError>
+            requires { IsSync R.row × (1 ≤ length front.now)
+                × All (λ e. IsOfTask e task.now choice.now) front.now
+                × (is_weight (record { num = weight.now.num; den = weight.now.den }) ≡ true)
+                × Rise rows.now
+                × All (λ (row : Line). IsTrue ((space_of task.now).is_state row.state)) rows.now
+                × (line + length rows.now < 2 ^ 63) × (1 ≤ piece)
+                × (first + length front.now ≤ workers) × (workers < 2 ^ 63) }
+            ensures { IfOk result (λ found. IsFirstIn
+                (row_fault_at task.entry.now choice.entry.now
+                (record { num = weight.entry.now.num; den = weight.entry.now.den }) best line
+                rows.entry.now)
+                (length rows.entry.now)
+                (IsOfWorkers piece workers first (first + length front.entry.now))
+                (found_of found))
+                × All (λ e. IsOfTask e task.entry.now choice.entry.now) front.exit.now
+                × (length front.exit.now ≡ length front.entry.now) }
+        {
+            judge_shares(
+                rt, alloc, gate, task, front, choice, weight, best, rows, line, piece, first,
+                workers,
+            )
+        },
+        &mut || -> Result<Option<Found>, AllocError>
+            requires { IsSync R.row × (1 ≤ length back.now)
+                × All (λ e. IsOfTask e task.now choice.now) back.now
+                × (is_weight (record { num = weight.now.num; den = weight.now.den }) ≡ true)
+                × Rise rows.now
+                × All (λ (row : Line). IsTrue ((space_of task.now).is_state row.state)) rows.now
+                × (line + length rows.now < 2 ^ 63) × (1 ≤ piece)
+                × (second + length back.now ≤ workers) × (workers < 2 ^ 63) }
+            ensures { IfOk result (λ found. IsFirstIn
+                (row_fault_at task.entry.now choice.entry.now
+                (record { num = weight.entry.now.num; den = weight.entry.now.den }) best line
+                rows.entry.now)
+                (length rows.entry.now)
+                (IsOfWorkers piece workers second (second + length back.entry.now))
+                (found_of found))
+                × All (λ e. IsOfTask e task.entry.now choice.entry.now) back.exit.now
+                × (length back.exit.now ≡ length back.entry.now) }
+        {
+            judge_shares(
+                rt, alloc, gate, task, back, choice, weight, best, rows, line, piece, second,
+                workers,
+            )
+        },
+    );
+    Ok(earlier(one?, other?))
+}
+
+// The first fault of the rows, judged in pieces of so many by as many workers as there are
+// estimators, each in a thread of its own.
+fn rows_fault_by_pieces<R: Threads + Sync, G: Gate>(
+    rt: &R,
+    alloc: Global,
+    gate: &G,
+    task: &Task,
+    estimators: &mut [Estimator],
+    choice: &Choice,
+    weight: &StatedWeight,
+    best: Option<u64>,
+    rows: &StatedRows,
+    line: u64,
+    piece: u64,
+) -> Result<Option<CertificateFault>, AllocError>
+    requires some { 1 ≤ length estimators.old }
+    requires task { All (λ e. IsOfTask e task.now choice.now) estimators.old }
+    requires weight { is_weight (record { num = weight.now.num; den = weight.now.den }) ≡ true }
+    requires rise { Rise rows.now }
+    requires states { All (λ (row : Line). IsTrue ((space_of task.now).is_state row.state))
+        rows.now }
+    requires lines { line + length rows.now < 2 ^ 63 }
+    requires piece { 1 ≤ piece }
+    ensures fault { IfOk result (λ fault. fault ≡ first_fault_by
+        (row_fault (space_of task.now) (estimate_by task.now choice.now)
+        (record { num = weight.now.num; den = weight.now.den }) best rows.now) line rows.now) }
+    ensures task { All (λ e. IsOfTask e task.now choice.now) estimators.new }
+{
+    let workers = estimators.len() as u64;
+    let found = judge_shares(
+        rt, alloc, gate, task, estimators, choice, weight, best, rows, line, piece, 0, workers,
+    )?;
+    match found {
+        Some(found) => Ok(Some(found.fault)),
+        None => Ok(None),
+    }
+}
+
+// Goes on only if no row has a fault. The estimators are by the stated choice, which suits.
+fn need_rows<R: Threads + Sync, G: Gate>(
+    rt: &R,
+    alloc: Global,
+    gate: &G,
+    task: &Task,
+    estimators: &mut [Estimator],
+    choice: &Choice,
+    weight: &StatedWeight,
+    plan: &Option<StatedPlan>,
+    rows: &StatedRows,
+    line: u64,
+    piece: u64,
+) -> Result<bool, CheckError>
+    requires some { 1 ≤ length estimators.old }
+    requires suits { suits task.now choice.now ≡ true }
+    requires task { All (λ e. IsOfTask e task.now (suiting choice.now)) estimators.old }
+    requires weight { is_weight (record { num = weight.now.num; den = weight.now.den }) ≡ true }
+    requires rise { Rise rows.now }
+    requires states { first_fault_by (state_fault (space_of task.now)) line rows.now ≡ None }
+    requires lines { line + length rows.now < 2 ^ 63 }
+    requires piece { 1 ≤ piece }
+    ensures gives { Gives (λ x. x) result
+        (passes (first_fault_by (row_fault (space_of task.now) (estimate_by task.now choice.now)
+        (record { num = weight.now.num; den = weight.now.den }) (cost_of plan.now) rows.now)
+        line rows.now)) }
+    ensures task { All (λ e. IsOfTask e task.now (suiting choice.now)) estimators.new }
+{
+    let best = cost_of(plan);
+    let fault = rows_fault_by_pieces(
+        rt, alloc, gate, task, estimators, choice, weight, best, rows, line, piece,
+    )?;
+    pass(fault)
+}
+
+// The verdict on what a text says, or its first fault.
+fn judge<R: Threads + Sync, G: Gate>(
+    rt: &R,
+    alloc: Global,
+    gate: &G,
+    task: &Task,
+    estimators: &mut [Estimator],
+    text: &StatedText,
+    piece: u64,
+) -> Result<Verdict, CheckError>
+    requires some { 1 ≤ length estimators.old }
+    requires task { All (λ e. IsOfTask e task.now (suiting text.now.spelling.stated.choice))
+        estimators.old }
+    requires lines { text.now.first + length text.now.certificate.lines < 2 ^ 63 }
+    requires piece { 1 ≤ piece }
+    ensures verdict { Gives (λ x. x) result (judged task.now text.now) }
+    ensures lawful { IsTask task.now }
+    ensures task { All (λ e. IsOfTask e task.now (suiting text.now.spelling.stated.choice))
+        estimators.new }
+{
+    judge_before(task, text)?;
+    need_rows(
+        rt,
+        alloc,
+        gate,
+        task,
+        estimators,
+        &text.spelling.stated.choice,
+        &text.weight,
+        &text.plan,
+        &text.rows,
+        text.first,
+        piece,
+    )?;
+    Ok(Verdict::on(verdict_of(&text.weight, &text.plan)))
+}
+
+#[tactic(auto, unfolding(crate::specs::Judging::checked))]
+fn first_fault<R: Threads + Sync, G: Gate>(
+    rt: &R,
+    alloc: Global,
+    task: &Task,
+    estimators: &mut [Estimator],
+    bytes: &[u8],
+    piece: u64,
+    gate: &G,
+) -> Result<Verdict, CheckError>
+    requires some { 1 ≤ length estimators.old }
+    requires task { All (λ e. IsOfTask e task.now (stated_choice bytes.now)) estimators.old }
+    requires bytes { length bytes.now < 2 ^ 63 }
+    requires piece { 1 ≤ piece }
+    ensures exact { Gives (λ x. x) result (checked task.now bytes.now) }
+    ensures lawful { IfOk result (λ verdict. IsTask task.now) }
+    ensures task { All (λ e. IsOfTask e task.now (stated_choice bytes.now)) estimators.new }
+{
+    let text = text_of(alloc, bytes)?;
+    judge(rt, alloc, gate, task, estimators, &text, piece)
+}
+
+/// As `check`, with the rows judged in pieces of `piece` rows each, by as many workers as there are
+/// estimators, each in a thread of its own. Each row is judged against all rows, and the first fault
+/// in the text's order decides, whichever piece is judged first. Of W workers the one of number i
+/// has the pieces i, i + W, i + 2 W, and so on, up to its first fault.
+///
+/// The gate is told before a piece is judged (`leased`) and after it (`giving`), with the worker's
+/// number and the piece's, from 0 on and mod 2^32.
+///
+/// The estimators are ones of this task by `stated_choice` of the certificate.
+pub fn check_pieces<R: Threads + Sync, G: Gate>(
+    rt: &R,
+    alloc: Global,
+    task: &Task,
+    estimators: &mut [Estimator],
+    bytes: &[u8],
+    piece: u64,
+    gate: &G,
+) -> Result<Verdict, CheckError>
+    requires some { 1 ≤ length estimators.old }
+    requires task { All (λ e. IsOfTask e task.now (stated_choice bytes.now)) estimators.old }
+    requires bytes { length bytes.now < 2 ^ 63 }
+    requires piece { 1 ≤ piece }
+    // Which verdict or fault it is, unless memory ran out: that of `check`, for each number of
+    // workers and each size of pieces.
+    ensures exact { Gives (λ x. x) result (checked task.now bytes.now) }
+    // What is accepted spells a valid certificate of the task.
+    ensures valid { IfOk result (λ verdict. IsAccepted task.now bytes.now verdict) }
+    // What spells a valid certificate of the task is accepted, unless memory ran out.
+    ensures only { (verdict : Verdict) → IsAccepted task.now bytes.now verdict
+        → Gives (λ x. x) result (Ok verdict) }
+    // What is accepted shows that no plan costs less than the plan's cost divided by the weight, or
+    // that there is none.
+    ensures claim { IfOk result (λ verdict. ShowsClaim task.now bytes.now verdict) }
+    // So what the verdict says is true of the task.
+    ensures holds { IfOk result (λ verdict. VerdictHolds (space_of task.now) verdict) }
+    // A certificate that is cut off is refused in the line that it ends in, unless memory ran out.
+    ensures cut { IsCutOff bytes.now → Gives (λ x. x) result
+        (Err (Syntax (1 + line_feeds bytes.now))) }
+    ensures task { All (λ e. IsOfTask e task.now (stated_choice bytes.now)) estimators.new }
+{
+    first_fault(rt, alloc, task, estimators, bytes, piece, gate)
+}
