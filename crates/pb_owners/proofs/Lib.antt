@@ -1,0 +1,11 @@
+mod Pairs
+mod Starting
+mod Meetings
+mod Rounding
+mod Searching
+mod Parting
+mod Assembling
+mod Ending
+mod Loops
+mod Listing
+mod Owning

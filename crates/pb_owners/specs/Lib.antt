@@ -1,0 +1,10 @@
+pub use Rattle.pb_hashed.specs.Mailed
+pub use Rattle.pb_hashed.specs.MailWork
+pub use Rattle.pb_owner.specs.Shares as OwnerShares
+pub mod Plans
+pub mod Seats
+pub mod Passing
+pub mod Rounds
+pub mod Between
+pub mod Shares
+pub mod Owners

@@ -1,0 +1,20 @@
+//! The rounds of a hash-distributed search (Kishimoto, Fukunaga and Botea 2009). In a round all
+//! owners work at once, each in a thread of its own, and then all take their letters in at once.
+//! After each of the two they are joined.
+#![tactic(auto)]
+
+mod agreeing;
+mod clearing;
+mod drawing;
+mod meeting;
+mod owners;
+mod part;
+mod plan;
+mod round;
+mod rounds;
+mod seat;
+mod seating;
+mod together;
+
+pub use owners::Owners;
+pub use rounds::run_owners;
