@@ -9,7 +9,8 @@ WORDS_OF_FORMATS = [word.encode() for word in (
     "octile height width map version ( ) - = () ?x ?y and not or when define domain problem "
     ":action :parameters :precondition :effect :init :goal :objects :types :predicates "
     ":constants :requirements :strips :typing :functions :metric total-cost number minimize "
-    "maximize increase decrease object either 0 1 2 3 4 6 7 15 16 64 256 257 00 01 -1 +1 width "
+    "maximize increase decrease object either 0 1 2 3 4 6 7 12 13 15 16 64 256 257 00 01 -1 +1 "
+    "width pattern "
     "1048576 1048577 9223372036854775807 9223372036854775808 4294967296 1000 1001 999999999 "
     "1000000000").split()]
 
@@ -86,23 +87,34 @@ def change_lines(random, text):
 def change_certificate(random, text):
     """One drawn change of a certificate, of which most keep it spelled as one."""
     ways = [change_text, change_text, drop_row, drop_row, add_row, change_g, change_g, turn_row,
-            turn_row, change_plan, change_weight, change_width]
+            turn_row, change_plan, change_weight, change_width, change_pattern]
     return random.choice(ways)(random, text)
 
 
 def change_width(random, text):
-    """The certificate in the other version, or with another width: its states', or stated alone."""
+    """The certificate in another version, or with another width: its states', or stated alone."""
     found = versions.digits_of(text)
     if found is None:
         return change_text(random, text)
     version, digits, _ = found
     other = random.choice([digits - 1, digits + 1, digits + 1, 2 * digits, 0, 1, 2, 4, 6, 9, 12, 16,
                            17, 63, 64, 65, 255, 256, 257])
-    if version == 2 and random.random() < 0.3:
+    if version >= 2 and random.random() < 0.3:
         return text.replace(b"\nwidth %d\n" % digits, b"\nwidth %d\n" % max(other, 0), 1)
-    if version == 2 and random.random() < 0.3:
+    if version >= 2 and random.random() < 0.3:
         return versions.as_version(text, 1, 64) or change_text(random, text)
-    return versions.as_version(text, 2, max(other, 0)) or change_text(random, text)
+    version = random.choice([2, 3]) if version == 1 else version
+    return versions.as_version(text, version, max(other, 0)) or change_text(random, text)
+
+
+def change_pattern(random, text):
+    """The certificate with another pattern number, or in version 2 without one."""
+    pattern = versions.pattern_of(text)
+    if pattern and random.random() < 0.1:
+        return text.replace(b"\npattern %d\n" % pattern, b"\npattern 0\n", 1)
+    less = [pattern - 1, pattern - 1, 0] if pattern else []
+    numbers = [1, 2, 3, 4, 5, 6, 8, 11, 12, 12, 13, 2**32, 2**62, *less]
+    return versions.with_pattern(text, random.choice(numbers))
 
 
 def rows_of(text):
@@ -180,9 +192,10 @@ def change_plan(random, text):
 
 
 def weight_of(text):
-    """The place of a certificate's weight among its lines: behind the width, if one is stated."""
+    """The place of a certificate's weight among its lines: behind the width and the pattern number,
+    if these are stated."""
     found = versions.digits_of(text)
-    return 3 if found and found[0] == 2 else 2
+    return found[0] + 1 if found else 2
 
 
 def change_weight(random, text):

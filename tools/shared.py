@@ -73,6 +73,11 @@ class Task:
             (pathlib.Path(folder) / name).write_bytes(text)
 
 
+def drawn_pattern(random):
+    """A pattern number for `solve`, in half of the cases none."""
+    return str(random.choice([0] * 8 + [1, 2, 3, 3, 4, 6, 9, 12]))
+
+
 @dataclasses.dataclass
 class Run:
     """How a run ended: its status (negative: a signal; None: the time ran out) and what it said."""

@@ -6,7 +6,8 @@ Nothing is judged: the lines are taken as docs/FORMATS.md has them, and another 
 import itertools
 import re
 
-HEAD = re.compile(rb"pbnf-certificate (?:1\nkind \w+\n|2\nkind \w+\nwidth ([0-9]{1,4})\n)")
+HEAD = re.compile(rb"pbnf-certificate (?:1\nkind \w+\n|2\nkind \w+\nwidth ([0-9]{1,4})\n"
+                  rb"|3\nkind \w+\nwidth ([0-9]{1,4})\npattern [0-9]{1,20}\n)")
 
 ROW = re.compile(rb"0*([0-9a-f]+) ([0-9]+ (?:closed|cut)\n)")
 
@@ -17,11 +18,30 @@ def digits_of(text):
     found = HEAD.match(text)
     if found is None:
         return None
-    return (2, int(found[1]), found.end()) if found[1] else (1, 64, found.end())
+    version = int(text[17:18])
+    return version, int(found[1] or found[2] or 64), found.end()
+
+
+def pattern_of(text):
+    """The pattern number of a certificate of version 3, and 0 of another text."""
+    found = digits_of(text)
+    return int(text.split(b"\n", 4)[3].split()[1]) if found and found[0] == 3 else 0
+
+
+def with_pattern(text, pattern):
+    """The certificate in version 3 with this pattern number, or in version 2 if it is 0. One of
+    version 1 keeps its states' digits; the text itself if it doesn't begin as a certificate."""
+    found = digits_of(text)
+    if found is None:
+        return text
+    kind = text.split(b"\n", 2)[1]
+    head = b"pbnf-certificate %d\n%s\nwidth %d\n" % (3 if pattern else 2, kind, found[1])
+    return head + (b"pattern %d\n" % pattern if pattern else b"") + text[found[2]:]
 
 
 def as_version(text, version, digits):
     """The certificate in this version, its states with so many digits, which is 64 in version 1.
+    In version 3 it keeps its pattern number, and has 1 if it had none.
 
     None if a state needs more digits; the text itself if it doesn't begin as a certificate."""
     found = digits_of(text)
@@ -29,7 +49,8 @@ def as_version(text, version, digits):
         return text
     kind = text.split(b"\n", 2)[1]
     head = b"pbnf-certificate %d\n%s\n" % (version, kind)
-    head += b"width %d\n" % digits if version == 2 else b""
+    head += b"width %d\n" % digits if version >= 2 else b""
+    head += b"pattern %d\n" % (pattern_of(text) or 1) if version == 3 else b""
     rest, rows = text[found[2]:], []
     begin = rest.find(b"\nrows ")
     if begin < 0:
@@ -46,11 +67,12 @@ def as_version(text, version, digits):
 
 
 def are_same(first, second):
-    """Whether two files have certificates that state the same, in whatever versions."""
+    """Whether two files have certificates that state the same, in whatever versions. A pattern
+    number is a part of what is stated."""
     with open(first, "rb") as one, open(second, "rb") as other:
         heads = [[file.readline(), file.readline()] for file in (one, other)]
         for file, (version, _) in zip((one, other), heads):
-            if version == b"pbnf-certificate 2\n":
+            if version in (b"pbnf-certificate 2\n", b"pbnf-certificate 3\n"):
                 file.readline()
         pairs = itertools.zip_longest(one, other, fillvalue=b"")
         return heads[0][1] == heads[1][1] and all(

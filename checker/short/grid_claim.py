@@ -3,8 +3,7 @@
 import sys
 
 def demand(holds, fault):
-    if not holds:
-        sys.exit(f"refused: {fault}")
+    return holds or sys.exit(f"refused: {fault}")
 
 names = [word for word in sys.argv[1:] if not word.startswith("--")]
 row = sum(int(word[6:]) for word in sys.argv if word.startswith("--row="))

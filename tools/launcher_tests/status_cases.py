@@ -98,6 +98,16 @@ def refused_certificate(place):
     wide = text.replace("width 6", "width 7").replace("\n00", "\n000")
     place.run("check", "grid", place.file("wide.cert", wide), *grid).wants(
         3, "refused Width 7 6\n", [":3: ", "of 7 digits, and those of the task take 6", "width 7"])
+    new = text.replace("-certificate 2", "-certificate 3")
+    for line, out, err in (("pattern 0", "refused Pattern\n", [":4: the number", "pattern 0"]),
+                           ("pattern 03", "refused Syntax 4\n", [":4: the fourth line is"])):
+        other = place.file("new.cert", new.replace("width 6\n", f"width 6\n{line}\n"))
+        place.run("check", "grid", other, *grid).wants(3, out, err)
+    right = place.file("right.cert", new.replace("width 6\n", "width 6\npattern 3\n"))
+    place.run("check", "grid", right, *grid).wants(0, None)
+    dear = new.replace("width 6\n", "width 6\npattern 3\n").replace("cost 4", "cost 5")
+    place.run("check", "grid", place.file("dear.cert", dear), *grid).wants(
+        3, "refused Cost 5 4\n", [":11: ", "costs 5, and it costs 4"])
     old = text.replace("-certificate 2", "-certificate 1").replace("width 6\n", "")
     old = old.replace("\n00", "\n" + 60 * "0")
     place.run("check", "grid", place.file("old.cert", old), *grid).wants(0, None)

@@ -253,15 +253,17 @@ def read_certificate(name, take):
 
 
 def _read_certificate(lines, take):
-    version = re.fullmatch(rb"pbnf-certificate ([12])\n", lines.next())
+    version = re.fullmatch(rb"pbnf-certificate ([123])\n", lines.next())
     if version is None:
-        lines.refuse("neither `pbnf-certificate 1` nor `pbnf-certificate 2`")
+        lines.refuse("expected `pbnf-certificate` and 1, 2 or 3")
     kind = re.fullmatch(rb"kind (grid|tiles|strips)\n", lines.next())
     if kind is None:
         lines.refuse("expected `kind` and grid, tiles or strips")
     digits = 64 if version.group(1) == b"1" else lines.words([b"width"], 1)[0]
     if not 1 <= digits <= 256:
         lines.refuse("the width isn't 1 to 256")
+    if version.group(1) == b"3" and not 1 <= lines.words([b"pattern"], 1)[0] <= 12:
+        lines.refuse("the pattern number isn't 1 to 12")
     weight = lines.words([b"weight"], 2)
     if not 1 <= weight[1] <= weight[0] <= 1000:
         lines.refuse("the weight isn't 1 to 1000")

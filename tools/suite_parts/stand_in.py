@@ -1,6 +1,7 @@
 #!/usr/bin/env python3
 """A stand-in for the built program in the tests of tools/suite: `solve` by a plain A* over the tasks
-of the second checker, with certificate and journal, and `check` by that checker.
+of the second checker, with certificate and journal, and `check` by that checker. It knows
+`--pattern`.
 
 Some lots make it behave badly on purpose: 2001 never ends, 2002 takes memory without end, 2003 ends
 by a signal, 2004 saves a certificate with another cost. The file that STAND_IN_LOG names gets a line
@@ -30,7 +31,7 @@ def options_of(words):
     parser.add_argument("kind")
     parser.add_argument("files", nargs="+")
     for name, default in (("row", 0), ("lot", 256), ("budget", 2**24), ("workers", 1), ("num", 1),
-                          ("den", 1), ("blocks", 256)):
+                          ("den", 1), ("blocks", 256), ("pattern", 0)):
         parser.add_argument(f"--{name}", type=int, default=default)
     parser.add_argument("--swamp", action="store_true")
     parser.add_argument("--plain", action="store_true")
@@ -43,11 +44,11 @@ def options_of(words):
         sys.exit(64)
 
 
-def search(task, budget):
+def search(task, budget, estimate):
     """Rows by state, the goal if one was reached, and how many expansions were made. None if the
     budget is used up."""
     rows, parents, closed, made = {task.start: 0}, {}, set(), 0
-    queue = [(task.estimate(task.start), task.start)]
+    queue = [(estimate(task.start), task.start)] * (estimate(task.start) < float("inf"))
     while queue:
         _, state = heapq.heappop(queue)
         if state in closed:
@@ -64,8 +65,8 @@ def search(task, budget):
             if to is not None and g < rows.get(to, float("inf")):
                 rows[to], parents[to] = g, (state, action)
                 closed.discard(to)
-                if task.estimate(to) < float("inf"):
-                    heapq.heappush(queue, (g + task.estimate(to), to))
+                if estimate(to) < float("inf"):
+                    heapq.heappush(queue, (g + estimate(to), to))
     return rows, closed, parents, None, made
 
 
@@ -77,8 +78,9 @@ def plan_to(state, parents):
     return actions[::-1]
 
 
-def certificate_of(task, plan, cost, rows, closed):
-    lines = ["pbnf-certificate 2", f"kind {task.kind}", f"width {task.digits}", "weight 1 1"]
+def certificate_of(task, pattern, plan, cost, rows, closed):
+    lines = [f"pbnf-certificate {3 if pattern else 2}", f"kind {task.kind}",
+             f"width {task.digits}", *[f"pattern {pattern}"] * (pattern > 0), "weight 1 1"]
     lines += ["none"] if plan is None else [f"plan {len(plan)}", *map(str, plan), f"cost {cost}"]
     lines.append(f"rows {len(rows)}")
     lines += [f"{state:0{task.digits}x} {g} {'closed' if state in closed else 'cut'}"
@@ -94,7 +96,7 @@ def solve(options):
         print("input", *refused.args)
         return 65
     misbehave(options.lot)
-    found = search(task, options.budget)
+    found = search(task, options.budget, pbnf_check.estimate_by(task, options.pattern))
     if found is None:
         print(f"stopped budget {options.budget}")
         return 2
@@ -104,7 +106,7 @@ def solve(options):
     if options.cert:
         said = cost + 1 if options.lot == WRONG else cost
         pathlib.Path(options.cert).write_text(
-            certificate_of(task, plan, said, rows, closed))
+            certificate_of(task, options.pattern, plan, said, rows, closed))
     if options.trace:
         pathlib.Path(options.trace).write_text(f"pbnf-journal 1\nrelease 0 {made} ok\n")
     report(task, plan, cost)
