@@ -1,10 +1,10 @@
 -- The marks of swamp: how loops add them, and that they are those of the rows that a map has.
-use Rattle.std.proofs.Common.{◌≡◌, ℕ, zero, suc, ◌+◌, ◌-◌, ◌<◌, ◌≤◌, Bool, List, [], ◌∷◌, ◌++◌, length, take, drop, map, get_or, refl, sym, ap, ◌∙◌, arith, append_assoc}
+use Rattle.std.proofs.Common.{◌≡◌, ℕ, suc, ◌+◌, ◌-◌, ◌<◌, ◌≤◌, Bool, List, [], ◌∷◌, ◌++◌, length, take, drop, map, get_or, sym, ap, ◌∙◌, arith, append_assoc}
 use Rattle.std.specs.List.{concat}
 use Rattle.std.proofs.lemmas.List.{append-nil, drop_more, drop_all, map-append}
 use Rattle.std.proofs.Math.Seq.{take-append_seam}
 use Rattle.pb_task.specs.declared.parts.Class.{Class}
-use Rattle.pb_grid.specs.Lines.{lines_of, line_at}
+use Rattle.pb_grid.specs.Lines.{lines_of}
 use Rattle.pb_grid.specs.Reading.{is_swamp_byte, swamp_of}
 use Rattle.pb_grid.specs.Form.{SpellsMap}
 
@@ -20,23 +20,18 @@ marks_done f before total row i le so_far = sym (append-nil before) ∙ (sym (ap
 
 -- ---- the marks of rows
 
-first_row : (count : ℕ) (lines : List (List ℕ)) → concat (take (suc count) lines) ≡ line_at lines 1 ++ concat (take count (drop 1 lines))
-first_row zero [] = refl
-first_row (suc count) [] = refl
-first_row count (line ∷ lines) = refl
-
-pub row_added : (f : ℕ → Bool) (before total : List Bool) (height y : ℕ) (lines behind : List (List ℕ)) (row : List ℕ) → y < height → row ≡ line_at lines 1 → behind ≡ drop 1 lines
+pub row_added : (f : ℕ → Bool) (before total : List Bool) (height y : ℕ) (lines behind : List (List ℕ)) (row : List ℕ) → y < height → lines ≡ row ∷ behind
     → before ++ map f (concat (take (height - y) lines)) ≡ total → (before ++ map f row) ++ map f (concat (take (height - (y + 1)) behind)) ≡ total
-row_added f before total height y lines behind row less row_is behind_is so_far =
+row_added f before total height y lines behind row less lines_are so_far =
     let left : ℕ = height - (y + 1) in
     let one_more : height - y ≡ suc (height - (y + 1)) = omega arith in
     let bytes : row ++ concat (take left behind) ≡ concat (take (height - y) lines) =
-    (λ i. row_is i ++ concat (take left (behind_is i))) ∙ (sym (first_row left lines) ∙ ap (λ n. concat (take n lines)) (sym one_more)) in
+    ap (λ n. concat (take n (row ∷ behind))) (sym one_more) ∙ ap (λ (ls : List (List ℕ)). concat (take (height - y) ls)) (sym lines_are) in
     append_assoc before (map f row) (map f (concat (take left behind)))
     ∙ (ap (λ (marks : List Bool). before ++ marks) (sym (map-append f row (concat (take left behind))) ∙ ap (map f) bytes) ∙ so_far)
 
-pub rows_done : (f : ℕ → Bool) (before total : List Bool) (height y : ℕ) (lines : List (List ℕ)) → height ≤ y → before ++ map f (concat (take (height - y) lines)) ≡ total → before ≡ total
-rows_done f before total height y lines le so_far =
+pub rows_marked : (f : ℕ → Bool) (before total : List Bool) (height y : ℕ) (lines : List (List ℕ)) → height ≤ y → before ++ map f (concat (take (height - y) lines)) ≡ total → before ≡ total
+rows_marked f before total height y lines le so_far =
     let none : height - y ≡ 0 = omega (arith, le) in sym (append-nil before) ∙ (ap (λ n. before ++ map f (concat (take n lines))) (sym none) ∙ so_far)
 
 -- ---- the rows of a map that is spelled

@@ -12,7 +12,6 @@ mod lines;
 mod map;
 mod reader;
 mod scenario;
-mod swamp;
 mod words;
 
 pub use error::GridError;

@@ -1,12 +1,15 @@
-ghost use Rattle.std.specs.Prelude.{◌≡◌, ◌≤◌, ◌^◌, ◌&&◌, true, drop, IfOk};
+//! The map that a text spells, read in one pass: each byte gives its cell's class and its mark of
+//! swamp.
+ghost use Rattle.std.specs.Prelude.{◌≡◌, ◌≤◌, ◌^◌, ◌&&◌, ◌++◌, true, take, drop, map, IfOk};
+ghost use Rattle.std.specs.List.{concat};
 ghost use Rattle.pb_grid.specs.Lines.{lines_of};
-ghost use Rattle.pb_grid.specs.Reading.{Gives, added_to, is_side, class_of_byte, cells_of, row_of_map, rows_of_map, below_map, map_reading};
+ghost use Rattle.pb_grid.specs.Reading.{Gives, added_to, is_side, class_of_byte, cells_of, row_of_map, rows_of_map, below_map, map_reading, is_swamp_byte, swamp_of};
 
 use crate::error::GridError;
 use crate::header::size_of_map;
 use crate::lines::split_line;
 use crate::words::is_blank_line;
-use pb_task::{Cells, Class};
+use pb_task::{Cells, Class, Swamp};
 use std::alloc::Global;
 
 // How many cells a side of a map may have.
@@ -36,54 +39,78 @@ fn class_of_byte(byte: u8) -> Option<Class>
     }
 }
 
-// Adds the cells that a row's bytes represent.
-fn add_cells(out: &mut Vec<Class>, line: u64, row: &[u8]) -> Result<(), GridError>
-    ensures { Gives (λ _. out.new.items) result (added_to out.old.items (cells_of line 1 row.now)) }
+// Adds the cells that a row's bytes represent, and for each whether it is swamp. No cell is, unless
+// swamp is asked for.
+fn add_cells(
+    cells: &mut Vec<Class>,
+    marks: &mut Vec<bool>,
+    swamp: bool,
+    line: u64,
+    row: &[u8],
+) -> Result<(), GridError>
+    ensures gives { Gives (λ _. cells.new.items) result
+        (added_to cells.old.items (cells_of line 1 row.now)) }
+    ensures marks { IfOk result (λ _. marks.new.items ≡ marks.old.items
+        ++ map (is_swamp_byte swamp) row.now) }
 {
     let mut col = 1;
     for byte in row {
         let Some(class) = class_of_byte(*byte) else {
             return Err(GridError::Cell { line, col });
         };
-        out.push(class)?;
+        cells.push(class)?;
+        marks.push(swamp & (*byte == b'S'))?;
         col += 1;
     }
     Ok(())
 }
 
-// Adds the cells of a row, which has as many bytes as the map is wide.
+// Adds the cells and marks of a row, which has as many bytes as the map is wide.
 #[tactic(auto, unfolding(crate::specs::Reading::row_of_map))]
-fn add_row(out: &mut Vec<Class>, width: u32, line: u64, row: &[u8]) -> Result<(), GridError>
-    ensures { Gives (λ _. out.new.items) result
-        (added_to out.old.items (row_of_map width line row.now)) }
+fn add_row(
+    cells: &mut Vec<Class>,
+    marks: &mut Vec<bool>,
+    swamp: bool,
+    width: u32,
+    line: u64,
+    row: &[u8],
+) -> Result<(), GridError>
+    ensures gives { Gives (λ _. cells.new.items) result
+        (added_to cells.old.items (row_of_map width line row.now)) }
+    ensures marks { IfOk result (λ _. marks.new.items ≡ marks.old.items
+        ++ map (is_swamp_byte swamp) row.now) }
 {
     if row.len() != width as usize {
         return Err(GridError::Rows { line });
     }
-    add_cells(out, line, row)
+    add_cells(cells, marks, swamp, line, row)
 }
 
-// The cells of a map's rows, and the text below them.
+// The cells of a map's rows, a mark for each of them, and the text below the rows.
 fn rows_of_map(
     alloc: Global,
     width: u32,
     height: u32,
     text: &[u8],
-) -> Result<(Vec<Class>, &[u8]), GridError>
+    swamp: bool,
+) -> Result<(Vec<Class>, Vec<bool>, &[u8]), GridError>
     ensures gives { Gives (λ x. x.0.items) result (rows_of_map width height 5 (lines_of text.now)) }
-    ensures rest { IfOk result (λ x. lines_of x.1.now ≡ drop height (lines_of text.now)) }
+    ensures marks { IfOk result (λ x. x.1.items
+        ≡ map (is_swamp_byte swamp) (concat (take height (lines_of text.now)))) }
+    ensures rest { IfOk result (λ x. lines_of x.2.now ≡ drop height (lines_of text.now)) }
 {
     let mut cells = Vec::new(alloc);
+    let mut marks = Vec::new(alloc);
     let mut rest = text;
     for y in 0..height {
         let line = FIRST_ROW + u64::from(y);
         let Some((row, below)) = split_line(rest) else {
             return Err(GridError::Rows { line });
         };
-        add_row(&mut cells, width, line, row)?;
+        add_row(&mut cells, &mut marks, swamp, width, line, row)?;
         rest = below;
     }
-    Ok((cells, rest))
+    Ok((cells, marks, rest))
 }
 
 // That each line of a text is blank. The first has this number.
@@ -117,20 +144,23 @@ fn is_size(height: u32, width: u32) -> bool
     is_side(height) && is_side(width)
 }
 
-/// The map that a text spells.
+/// The map that a text spells, and which of its cells are swamp: none, unless swamp is asked for.
+/// No refusal depends on the swamp.
 #[tactic(auto, unfolding(crate::specs::Reading::map_reading))]
-pub fn read_map(alloc: Global, text: &[u8]) -> Result<MapParts, GridError>
-    ensures { Gives (λ x. x) result (map_reading (lines_of text.now)) }
+pub fn read_map(alloc: Global, text: &[u8], swamp: bool) -> Result<(MapParts, Swamp), GridError>
+    ensures map { Gives (λ x. x.0) result (map_reading (lines_of text.now)) }
+    ensures swamp { IfOk result (λ x. x.1 ≡ swamp_of swamp x.0.height (lines_of text.now)) }
 {
     let (height, width, rows) = size_of_map(text)?;
     if !is_size(height, width) {
         return Err(GridError::Size);
     }
-    let (cells, below) = rows_of_map(alloc, width, height, rows)?;
+    let (cells, marks, below) = rows_of_map(alloc, width, height, rows, swamp)?;
     below_map(FIRST_ROW + u64::from(height), below)?;
-    Ok(MapParts {
+    let parts = MapParts {
         width,
         height,
         cells: Cells::of(cells),
-    })
+    };
+    Ok((parts, Swamp::of(marks)))
 }

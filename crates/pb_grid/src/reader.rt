@@ -5,12 +5,11 @@ ghost use Rattle.pb_grid.specs.declared.error.GridError.{GridError};
 ghost use Rattle.pb_grid.specs.declared.error.GridError.TheVariants.{Memory};
 ghost use Rattle.pb_grid.specs.Cases.{IsCaseOf};
 ghost use Rattle.pb_grid.specs.Form.{SpellsGrid};
-ghost use Rattle.pb_grid.specs.Reading.{Gives, grid_reading, grid_of_parts, swamp_of, is_on_map, is_free, task_of};
+ghost use Rattle.pb_grid.specs.Reading.{Gives, grid_reading, grid_of_parts, is_on_map, is_free, task_of};
 
 use crate::error::GridError;
 use crate::map::{MapParts, read_map};
 use crate::scenario::{ScenarioParts, read_scenario};
-use crate::swamp::read_swamp;
 use pb_task::{Class, GridParts, Swamp, Task};
 use std::alloc::Global;
 
@@ -75,10 +74,9 @@ fn parts_of_texts(
 ) -> Result<GridParts, GridError>
     ensures { Gives (λ x. x) result (grid_reading map.now scenario.now row swamp) }
 {
-    let parts = read_map(alloc, map)?;
+    let (parts, marks) = read_map(alloc, map, swamp)?;
     let chosen = read_scenario(scenario, row)?;
-    let marks = read_swamp(alloc, map, parts.height, swamp)?;
-    grid_of_parts(parts, Swamp::of(marks), chosen)
+    grid_of_parts(parts, marks, chosen)
 }
 
 /// Reads the grid that the texts of a map and of a scenario spell, and reports the first refusal if

@@ -6,8 +6,8 @@ use Rattle.pb_grid.specs.Reading.{◌>>=◌, is_side}
 use Rattle.pb_grid.proofs.Rows.{map_steps}
 use Rattle.pb_grid.proofs.map.read_map.Goals as goal
 
-pub returns-in_err-below_map : goal.returns-in_err-below_map
-returns-in_err-below_map c =
+pub returns-in_err-below_map-clause-map : goal.returns-in_err-below_map-clause-map
+returns-in_err-below_map-clause-map c =
     let p = err_from_is_err_and c.from_residual-in_err-below_map.result c.from_residual-in_err-below_map.ensures.1 in
     let number : c.from.result ≡ c.in_ok-height.height = c.from.ensures in
     let sides : (is_side c.in_ok-height.height && is_side c.in_ok-height.width) ≡ true = sym c.is_size.ensures ∙ c.if-not-is_size.false in
