@@ -4,12 +4,14 @@ use Rattle.std.specs.Prelude.{IfOk}
 use Rattle.pb_machine.specs.declared.settings.Settings.{Settings}
 use Rattle.pb_machine.specs.Settings.{weight_of, settings_with_weight}
 use Rattle.pb_machine.specs.Blocks.{Blocks}
+use Rattle.pb_machine.specs.Counts.{opening_counts}
 use Rattle.pb_journal.specs.declared.error.Fault.{Fault}
 use Rattle.pb_journal.specs.declared.error.JournalError.{JournalError}
 use Rattle.pb_journal.specs.declared.error.JournalError.TheVariants as errors
-use Rattle.pb_journal.specs.Faults.{Gives, Answers}
+use Rattle.pb_journal.specs.Faults.{◌>>=◌, Gives, Answers}
 use Rattle.pb_journal.specs.Reading.{header_of}
-use Rattle.pb_journal.specs.Judging.{settings_of, judged}
+use Rattle.pb_journal.specs.Judging.{settings_of, events_of, judged}
+use Rattle.pb_journal.specs.Opened.{Opened, IsOpened}
 use Rattle.pb_journal.specs.Shown.{one, HasHeader, IsFinishedJournal}
 use Rattle.pb_journal.proofs.Chains.{bind_ok, ok_is}
 use Rattle.pb_journal.proofs.HeaderLines.{header_is}
@@ -28,6 +30,19 @@ gives_accepted blocks bytes few (Ok m) given n is =
 gives_accepted blocks bytes few (Err errors.Memory) given n is = tt
 gives_accepted blocks bytes few (Err (errors.At line why)) given n is =
     sym (accepted_again blocks bytes n few is) ∙ given
+
+-- the answer on the events of a journal whose header was read is the answer on its bytes
+pub events_judged : (blocks : Blocks) (opened : Opened) (events : List ℕ) → IsOpened opened events
+    → (r : Result ℕ JournalError)
+    → Gives (λ n. n) r (events_of blocks opened.settings (opening_counts opened.settings 0) events)
+    → Gives (λ n. n) r (judged blocks opened.bytes)
+unfolding judged
+events_judged blocks opened events is r given =
+    let same : judged blocks opened.bytes
+    ≡ events_of blocks opened.settings (opening_counts opened.settings 0) events =
+    ap (λ (h : Result (Settings × List ℕ) Fault).
+    h >>= λ header. events_of blocks header.0 (opening_counts header.0 0) header.1) is.header in
+    subst (λ (found : Result ℕ Fault). Gives (λ n. n) r found) (sym same) given
 
 module _ (bytes : List ℕ) where
   header_read : (settings : Settings) → settings_of bytes ≡ Ok settings → HasHeader bytes settings

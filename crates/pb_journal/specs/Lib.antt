@@ -13,6 +13,7 @@ pub mod Texts
 pub mod Reading
 pub mod Stated
 pub mod Judging
+pub mod Opened
 pub mod Replaying
 pub mod Shown
 pub mod Searched

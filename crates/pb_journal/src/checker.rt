@@ -1,4 +1,6 @@
 ghost use Rattle.std.specs.Prelude.{◌≡◌, ◌+◌, ◌<◌, ◌^◌, ℕ, Ok, Err, length, OnOk, IfOk};
+ghost use Rattle.pb_machine.specs.Settings.{AreInRange};
+ghost use Rattle.pb_machine.specs.Counts.{opening_counts};
 ghost use Rattle.pb_abstract.specs.Graph.{blocks_of, IsGraph};
 ghost use Rattle.pb_journal.specs.Faults.{Reads, Gives};
 ghost use Rattle.pb_journal.specs.Judging.{after_line, end_fault, events_of, judged};
@@ -78,6 +80,26 @@ fn read_events(
     Ok(line - 7)
 }
 
+/// How many events a text has after its header, or its first line that is refused. The graph has so
+/// many blocks.
+pub(crate) fn judge_events(
+    alloc: Global,
+    graph: &AbsGraph,
+    blocks: u32,
+    settings: &Settings,
+    text: &[u8],
+) -> Result<u64, JournalError>
+    requires graph { IsGraph graph.now }
+    requires blocks { (blocks_of graph.now).count ≡ blocks }
+    requires range { AreInRange settings.now }
+    ensures { Gives (λ n. n) result (events_of (blocks_of graph.now) settings.now
+        (opening_counts settings.now 0) text.now) }
+{
+    let mut replay = Replay::new(alloc, blocks, settings)?;
+    let events = read_events(&mut replay, graph, settings, text)?;
+    Ok(events)
+}
+
 // How many events a journal has, or its first line that is refused. The graph has so many blocks.
 #[tactic(auto, unfolding(crate::specs::Judging::judged))]
 fn judge(alloc: Global, graph: &AbsGraph, blocks: u32, bytes: &[u8]) -> Result<u64, JournalError>
@@ -85,10 +107,8 @@ fn judge(alloc: Global, graph: &AbsGraph, blocks: u32, bytes: &[u8]) -> Result<u
     requires blocks { (blocks_of graph.now).count ≡ blocks }
     ensures { Gives (λ n. n) result (judged (blocks_of graph.now) bytes.now) }
 {
-    let (settings, rest) = header(bytes)?;
-    let mut replay = Replay::new(alloc, blocks, &settings)?;
-    let events = read_events(&mut replay, graph, &settings, rest)?;
-    Ok(events)
+    let (settings, events) = header(bytes)?;
+    judge_events(alloc, graph, blocks, &settings, events)
 }
 
 /// How many events a journal has, or its first line that is refused. The graph has the blocks that

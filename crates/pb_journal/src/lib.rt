@@ -9,6 +9,7 @@ mod events;
 mod header;
 mod laws;
 mod lines;
+mod opened;
 mod reading;
 mod refusals;
 mod replay;
@@ -23,4 +24,5 @@ pub use laws::{
     plain_journals_have_no_hot, plain_texts_have_no_hot, refused_lines_are_first,
     runs_are_accepted, searches_are_accepted, written_journals_are_accepted,
 };
+pub use opened::{OpenedJournal, open_journal};
 pub use writing::write_journal;
