@@ -12,7 +12,6 @@ use Rattle.pb_task.specs.declared.parts.TaskParts.{TaskParts}
 use Rattle.pb_task.specs.Parts.{space_of, IsTask, greatest_cost}
 use Rattle.pb_task.specs.Kinds.{kind_of}
 use Rattle.pb_task.specs.Widths.{width_of}
-use Rattle.pb_estimate.specs.declared.choice.Choice.TheVariants.{Pattern}
 use Rattle.pb_estimate.specs.declared.spelling.Version.{Version}
 use Rattle.pb_estimate.specs.declared.spelling.Version.TheVariants.{One, Two, Three}
 use Rattle.pb_task.proofs.Callers.{tasks_are_proper}

@@ -1,12 +1,33 @@
 -- Numbers in flat words: what is too large for their width isn't one of them.
-use Rattle.std.proofs.Common.{◌≡◌, ℕ, ◌*◌, ◌^◌, ◌<◌, ◌≤◌, ◌⊎◌, inl, inr, ◌↔◌, Bool, false, IsTrue, List, length, take, drop, slice_index, ap, sym, subst, ◌∙◌, arith}
+use Rattle.std.proofs.Common.{◌≡◌, ℕ, zero, suc, ◌+◌, ◌*◌, ◌^◌, ◌<◌, ◌≤◌, ◌⊎◌, inl, inr, ◌↔◌, Bool, false, IsTrue, List, [], ◌∷◌, ◌++◌, length, take, drop, slice_index, refl, ap, sym, subst, ◌∙◌, arith}
 use Rattle.std.proofs.lemmas.Bool.{cases_lt, false≢true}
-use Rattle.std.proofs.lemmas.List.{length-take, length-drop}
+use Rattle.std.proofs.lemmas.List.{length-take, length-drop, take-append-le, drop-append-le}
 use Rattle.std.proofs.Math.Nat.{mul_comm}
 use Rattle.pb_packed.specs.Words.{number_of}
 use Rattle.pb_task.specs.FlatSets.{sets_of}
 use Rattle.pb_task.proofs.Callers.{below, dropped, many_sets, set_at, taken, within}
 use Rattle.pb_check.specs.Numbers.{Flat, flat_of, AreFlat}
+
+no_words : (words : List ℕ) → length words ≡ 0 → words ≡ []
+no_words [] none = refl
+no_words (w ∷ ws) none = absurd (omega (arith, none))
+
+-- numbers are put behind others
+pub flat_both : (width count more : ℕ) (words others : List ℕ) → length words ≡ width * count
+    → sets_of width (count + more) (words ++ others) ≡ sets_of width count words ++ sets_of width more others
+flat_both width zero more words others long =
+    let none : length words ≡ 0 = omega (arith, long) in
+    let all : 0 + more ≡ more = omega arith in
+    ap (λ (ws : List ℕ). sets_of width (0 + more) (ws ++ others)) (no_words words none) ∙ ap (λ k. sets_of width k others) all
+flat_both width (suc count) more words others long =
+    let sum : width * suc count ≡ width + width * count = omega arith in
+    let room : width ≤ length words = omega (arith, long, sum) in
+    let rest : length (drop width words) ≡ width * count = length-drop width words ∙ omega (arith, long, sum) in
+    let next : suc count + more ≡ suc (count + more) = omega arith in
+    ap (λ k. sets_of width k (words ++ others)) next
+    ∙ ap (λ ws. number_of ws ∷ sets_of width (count + more) (drop width (words ++ others))) (take-append-le width words others room)
+    ∙ ap (λ ws. number_of (take width words) ∷ sets_of width (count + more) ws) (drop-append-le width words others room)
+    ∙ ap (λ ns. number_of (take width words) ∷ ns) (flat_both width count more (drop width words) others rest)
 
 -- each number is below what its words can hold
 small_at : (width count i : ℕ) (words : List ℕ) → AreFlat width count words → i < count → slice_index (sets_of width count words) i < 2 ^ (64 * width)

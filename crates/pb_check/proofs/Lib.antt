@@ -24,3 +24,9 @@ mod FirstUnspelled
 mod CaseOf
 mod CaseTold
 mod CaseExamples
+mod RowFronts
+mod Bodies
+mod TwoPieces
+mod Keeping
+mod TextByRows
+mod KeptArrays

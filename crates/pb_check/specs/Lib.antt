@@ -11,6 +11,8 @@ pub mod Numbers
 pub mod Rows
 pub mod Spelling
 pub mod Judging
+pub mod Fronts
+pub mod Kept
 pub mod Pieces
 pub mod Shown
 pub mod Cases

@@ -7,20 +7,29 @@
 
 mod checker;
 mod fault;
+mod front;
+mod front_shares;
+mod heads;
 mod judging;
+mod kept;
 mod laws;
+mod line;
 mod numbers;
+mod passing;
 mod pieces;
+mod plans;
 mod reading;
+mod row_faults;
+mod row_lines;
 mod rows;
 mod stated;
 mod words;
 
 pub use checker::check;
 pub use fault::{CertificateFault, CheckError, Claim, Verdict};
+pub use heads::stated_choice;
 pub use laws::{
     bounds_are_least, cases_are_refused, cut_certificates_are_refused, read_as_spelled,
     refusals_have_their_case, stated_choices_suit, texts_have_one_spelling,
 };
 pub use pieces::check_pieces;
-pub use reading::stated_choice;

@@ -1,5 +1,5 @@
 //! Numbers of a fixed count of words each, one after another in one array.
-ghost use Rattle.std.specs.Prelude.{◌≡◌, ◌≢◌, ◌≤◌, ◌<◌, ◌++◌, ◌∷◌, [], ℕ, true, false, IfSome, IfNone, OnOk, OnErr, length, slice_index};
+ghost use Rattle.std.specs.Prelude.{◌≡◌, ◌≢◌, ◌≤◌, ◌<◌, ◌++◌, ◌∷◌, [], ℕ, true, false, IfSome, IfNone, IfOk, OnOk, OnErr, length, slice_index};
 ghost use Rattle.std.specs.Ordering.{nat_cmp};
 ghost use Rattle.pb_packed.specs.Words.{number_of, AreWords};
 ghost use Rattle.pb_check.specs.Numbers.{AreRising, IsPlaceOf};
@@ -29,18 +29,19 @@ impl Model for Numbers {
 }
 
 impl Numbers {
-    /// No numbers, of so many words each.
-    pub fn new(alloc: Global, width: usize) -> Numbers
+    /// No numbers, of so many words each, with room for so many.
+    pub fn with_room(alloc: Global, width: usize, room: usize) -> Result<Numbers, AllocError>
         requires some { 1 ≤ width }
         requires most { width ≤ 16 }
-        ensures width { result.width ≡ width }
-        ensures none { result.numbers ≡ [] }
+        ensures width { IfOk result (λ numbers. numbers.width ≡ width) }
+        ensures none { IfOk result (λ numbers. numbers.numbers ≡ []) }
     {
-        Numbers {
+        let words = Vec::with_capacity(alloc, width.saturating_mul(room))?;
+        Ok(Numbers {
             width,
             count: 0,
-            words: Vec::new(alloc),
-        }
+            words,
+        })
     }
 
     /// Adds a number, given by its words, at the end.
@@ -54,6 +55,17 @@ impl Numbers {
     {
         self.words.extend_from_slice(number)?;
         self.count += 1;
+        Ok(())
+    }
+
+    /// Adds other numbers of as many words at the end, and gives up their array.
+    pub fn append(&mut self, others: Numbers) -> Result<(), AllocError>
+        requires { others.width ≡ self.old.width }
+        ensures ok { OnOk result (self.new.numbers ≡ self.old.numbers ++ others.numbers) }
+        ensures width { self.new.width ≡ self.old.width }
+    {
+        self.words.extend_from_slice(&others.words)?;
+        self.count += others.count;
         Ok(())
     }
 

@@ -1,4 +1,4 @@
-//! Checking with the rows judged in pieces, by several workers at once.
+//! Checking with the rows spelled and judged in pieces, by several workers at once.
 ghost use Rattle.std.specs.Thread.{IsSync};
 ghost use Rattle.std.specs.Prelude.{◌≡◌, ◌≤◌, ◌+◌, ◌-◌, ◌*◌, ◌/◌, ◌%◌, ◌<◌, ◌^◌, All, length, IsTrue, true, None, IfOk, Ok, Err, ℕ};
 ghost use Rattle.pb_model.specs.Certificate.{Line, cost_of};
@@ -15,8 +15,11 @@ ghost use Rattle.pb_check.specs.Shown.{IsAccepted, IsCutOff, ShowsClaim, Verdict
 ghost use Rattle.pb_check.specs.Pieces.{IsFirstIn, earlier, row_fault_at, found_of, IsBetween, IsOfWorkers};
 
 use crate::fault::{CertificateFault, CheckError, Verdict};
-use crate::judging::{cost_of, judge_before, pass, row_fault, verdict_of};
-use crate::reading::text_of;
+use crate::front_shares::text_by_shares;
+use crate::judging::{judge_before, verdict_of};
+use crate::passing::pass;
+use crate::plans::cost_of;
+use crate::row_faults::row_fault;
 use crate::rows::StatedRows;
 use crate::stated::{StatedPlan, StatedText, StatedWeight};
 use pb_estimate::{Choice, Estimator};
@@ -385,16 +388,19 @@ fn first_fault<R: Threads + Sync, G: Gate>(
     ensures lawful { IfOk result (λ verdict. IsTask task.now) }
     ensures task { All (λ e. IsOfTask e task.now (stated_choice bytes.now)) estimators.new }
 {
-    let text = text_of(alloc, bytes)?;
+    let text = text_by_shares(rt, alloc, bytes, piece, estimators.len() as u64)?;
     judge(rt, alloc, gate, task, estimators, &text, piece)
 }
 
-/// As `check`, with the rows judged in pieces of `piece` rows each, by as many workers as there are
-/// estimators, each in a thread of its own. Each row is judged against all rows, and the first fault
-/// in the text's order decides, whichever piece is judged first. Of W workers the one of number i
-/// has the pieces i, i + W, i + 2 W, and so on, up to its first fault.
+/// As `check`, with the rows spelled and then judged in pieces, by as many workers as there are
+/// estimators, each in a thread of its own. The rows' text is cut every `piece` bytes, and each cut
+/// is moved on past the next line feed. Then the rows are judged in pieces of `piece` rows.
 ///
-/// The gate is told before a piece is judged (`leased`) and after it (`giving`), with the worker's
+/// Each row is judged against all rows. The first fault in the text's order decides, whichever piece
+/// is judged first. Of W workers the one of number i judges the pieces i, i + W, i + 2 W, and so on,
+/// up to its first fault.
+///
+/// The gate is called before a piece is judged (`leased`) and after it (`giving`), with the worker's
 /// number and the piece's, from 0 on and mod 2^32.
 ///
 /// The estimators are ones of this task by `stated_choice` of the certificate.

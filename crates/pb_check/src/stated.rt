@@ -34,6 +34,31 @@ impl Model for StatedPlan {
     ghost view = { λ r. record { actions = r.actions.items; cost = r.cost } };
 }
 
+/// All that a certificate says before its rows, with how many they are and the number of the first
+/// one's line: contracts see what a text says there.
+#[derive(Drop)]
+pub struct StatedFront {
+    pub spelling: Spelling,
+    pub weight: StatedWeight,
+    pub plan: Option<StatedPlan>,
+    pub count: u64,
+    pub first: u64,
+}
+
+impl Model for StatedFront {
+    ghost use Rattle.pb_check.specs.Fronts.{Front};
+
+    ghost Value = { Front };
+
+    ghost view = { λ p. record {
+      spelling = p.spelling;
+      weight = record { num = p.weight.num; den = p.weight.den };
+      plan = p.plan;
+      count = p.count;
+      first = p.first;
+    } };
+}
+
 /// All that a certificate says: contracts see what a text says.
 #[derive(Drop)]
 pub struct StatedText {

@@ -1,6 +1,0 @@
-use Rattle.std.proofs.Common.{◌≡◌, ◌+◌, ◌-◌, drop}
-use Rattle.pb_check.specs.Judging.{rows_order_fault}
-use Rattle.pb_check.proofs.judging.first_in_order.Given as goal
-
-abbrev pub invariant-loop-i : goal.invariant-loop-i
-invariant-loop-i l = rows_order_fault l.line l.rows ≡ rows_order_fault (l.line + (l.i - 1)) (drop (l.i - 1) l.rows)
