@@ -54,3 +54,20 @@ RewrittenTextsAreAccepted =
     }) accepted.certificate
     × (checked parts (rewritten_text parts bytes) ≡ Ok verdict)
     × (accepted.spelling.version ≢ One → rewritten_text parts bytes ≡ bytes)
+
+-- What is saved anew of bytes, if they were accepted, is the text of the accepted certificate: with
+-- the width of the task, and in version 2 if it was in version 1.
+abbrev pub SpellsAccepted : TaskParts → (bytes : List ℕ) → Type 0
+SpellsAccepted parts bytes =
+    (verdict : Verdict) (accepted : IsAccepted parts bytes verdict)
+    → IsSpelled (rewritten_text parts bytes)
+    (record accepted.spelling {
+      version = version_anew accepted.spelling.version;
+      width = width_of parts;
+    }) accepted.certificate
+
+-- What is saved anew of bytes, if they were accepted, is accepted with the same verdict.
+abbrev pub IsAcceptedAgain : TaskParts → (bytes : List ℕ) → Type 0
+IsAcceptedAgain parts bytes =
+    (verdict : Verdict) → IsAccepted parts bytes verdict
+    → checked parts (rewritten_text parts bytes) ≡ Ok verdict

@@ -15,8 +15,10 @@ ghost use Rattle.pb_print.specs.Saved.{longest_line, PutsLine};
 ghost use Rattle.pb_check.specs.declared.fault.Verdict.{Verdict};
 ghost use Rattle.pb_check.specs.Shown.{IsAccepted};
 ghost use Rattle.pb_check.specs.Spelling.{IsSpelled};
+ghost use Rattle.pb_cert.specs.Laws.{SpellsAccepted, IsAcceptedAgain};
 ghost use Rattle.pb_cert.specs.Rewritten.{rewritten_text, zeros, respelled_line, text_saved, lines_saved, Begins};
 
+use crate::laws::rewritten_texts_are_accepted;
 use pb_check::read_as_spelled;
 use pb_estimate::Version;
 use pb_lines::{behind, part};
@@ -304,6 +306,12 @@ pub fn rewrite_to<H: Shelf>(
         → H.can_hold shelf.old name.now (length (rewritten_text task.now bytes.now))
         → IsOk result }
     ensures cause { HasCause (H.faults shelf.old) (H.faults shelf.new) result }
+    // What is saved spells the accepted certificate.
+    ensures spells { SpellsAccepted task.now bytes.now }
+    // What is saved is accepted, with the same verdict.
+    ensures accepted { IsAcceptedAgain task.now bytes.now }
 {
+    rewritten_texts_are_accepted();
+    let _lawful = task.max_degree();
     Rewriting::of(task, bytes).write_to(shelf, name)
 }
