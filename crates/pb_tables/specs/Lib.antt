@@ -1,0 +1,9 @@
+pub mod Below
+pub mod Images
+pub mod Tables
+pub mod Order
+pub mod Suits
+pub mod Estimate
+pub mod Examples
+pub mod Looking
+pub mod Laws

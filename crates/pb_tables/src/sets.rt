@@ -1,0 +1,149 @@
+//! Sets of atoms, packed or as words. Of two sets of words, the lowest word comes first.
+ghost use Rattle.std.specs.Prelude.{◌≡◌, ℕ, ◌*◌, ◌<◌, ◌≤◌, ◌^◌, ◌↔◌, ◌&&◌, ◌||◌, not, IsTrue, length};
+ghost use Rattle.pb_packed.specs.Sizes.{state_bits, most_atoms};
+ghost use Rattle.pb_packed.specs.Words.{number_of, AreWords};
+ghost use Rattle.pb_task.specs.Strips.{has_atom, is_within, is_atom_set};
+ghost use Rattle.pb_task.specs.declared.parts.GroundAction.{GroundAction};
+ghost use Rattle.pb_tables.specs.Images.{both, image_after};
+
+use pb_packed::{BITS, Packed};
+
+// Whether the one set is within the other.
+#[inline]
+fn are_within(small: &[u64], large: &[u64]) -> bool
+    requires small { AreWords (length small.now) small.now }
+    requires large { AreWords (length large.now) large.now }
+    requires room { length small.now ≤ length large.now }
+    ensures { IsTrue result
+        ↔ ((atom : ℕ) → IsTrue (has_atom (number_of small.now) atom)
+        → IsTrue (has_atom (number_of large.now) atom)) }
+{
+    for i in 0..small.len() {
+        if small[i] & large[i] != small[i] {
+            return false;
+        }
+    }
+    true
+}
+
+// Takes the atoms of a set out of another.
+#[inline]
+fn take_out(words: &mut [u64], set: &[u64])
+    requires words { AreWords (length words.old) words.old }
+    requires set { AreWords (length set.now) set.now }
+    requires room { length set.now ≤ length words.old }
+    ensures words { AreWords (length words.old) words.new }
+    ensures atoms { (atom : ℕ) → has_atom (number_of words.new) atom
+        ≡ (has_atom (number_of words.old) atom && not (has_atom (number_of set.now) atom)) }
+{
+    for i in 0..set.len() {
+        words[i] = words[i] & !set[i];
+    }
+}
+
+// Puts the atoms of a set into another.
+#[inline]
+fn put_in(words: &mut [u64], set: &[u64])
+    requires words { AreWords (length words.old) words.old }
+    requires set { AreWords (length set.now) set.now }
+    requires room { length set.now ≤ length words.old }
+    ensures words { AreWords (length words.old) words.new }
+    ensures atoms { (atom : ℕ) → has_atom (number_of words.new) atom
+        ≡ (has_atom (number_of set.now) atom || has_atom (number_of words.old) atom) }
+{
+    for i in 0..set.len() {
+        words[i] = set[i] | words[i];
+    }
+}
+
+// Keeps those atoms of a set that are in another.
+#[inline]
+fn keep(words: &mut [u64], set: &[u64])
+    requires words { AreWords (length words.old) words.old }
+    requires set { AreWords (length set.now) set.now }
+    requires room { length set.now ≡ length words.old }
+    ensures words { AreWords (length words.old) words.new }
+    ensures atoms { (atom : ℕ) → has_atom (number_of words.new) atom
+        ≡ (has_atom (number_of words.old) atom && has_atom (number_of set.now) atom) }
+{
+    for i in 0..set.len() {
+        words[i] = words[i] & set[i];
+    }
+}
+
+// The atoms that are in both sets.
+fn common(one: &Packed, other: &Packed) -> Packed
+    ensures atoms { (atom : ℕ) → has_atom result atom
+        ≡ (has_atom one.now atom && has_atom other.now atom) }
+    ensures bits { result < 2 ^ state_bits }
+{
+    let mut words = one.to_words();
+    keep(&mut words, &other.to_words());
+    Packed::of_slice(&words)
+}
+
+// The atoms that an action leaves in a set, and those that it adds, cut to the tracked ones.
+fn changed(adds: &Packed, deletes: &Packed, tracked: &Packed, held: &Packed) -> Packed
+    ensures atoms { (atom : ℕ) → has_atom result atom
+        ≡ ((has_atom adds.now atom
+        || (has_atom held.now atom && not (has_atom deletes.now atom)))
+        && has_atom tracked.now atom) }
+    ensures bits { result < 2 ^ state_bits }
+{
+    let mut words = held.to_words();
+    take_out(&mut words, &deletes.to_words());
+    put_in(&mut words, &adds.to_words());
+    keep(&mut words, &tracked.to_words());
+    Packed::of_slice(&words)
+}
+
+/// Whether a number is a set of the first `count` atoms.
+pub fn is_atom_set(count: u32, set: &Packed) -> bool
+    requires { count ≤ most_atoms }
+    ensures { result ≡ is_atom_set count set.now }
+{
+    if count == BITS {
+        // there is no bit of this number, and no number with such a bit
+        let _ = set.words();
+        return true;
+    }
+    *set < Packed::zero().with(count, true)
+}
+
+/// Whether the one set is within the other, of the first `count` atoms.
+pub fn is_within(count: u32, small: &Packed, large: &Packed) -> bool
+    requires { small.now < 2 ^ count }
+    ensures { result ≡ is_within count small.now large.now }
+{
+    let _ = count;
+    are_within(&small.to_words(), &large.to_words())
+}
+
+/// The atoms, of the first `count`, that are in both sets.
+pub fn both(count: u32, one: &Packed, other: &Packed) -> Packed
+    requires count { count ≤ most_atoms }
+    requires other { other.now < 2 ^ count }
+    ensures both { result ≡ both count one.now other.now }
+    ensures small { result < 2 ^ count }
+{
+    let _ = count;
+    common(one, other)
+}
+
+/// The image after an action that may be taken, whose sets these are, cut to the tracked atoms.
+pub fn image_after(
+    count: u32,
+    tracked: &Packed,
+    adds: &Packed,
+    deletes: &Packed,
+    image: &Packed,
+) -> Packed
+    requires count { count ≤ most_atoms }
+    requires tracked { tracked.now < 2 ^ count }
+    ensures { (action : GroundAction) → adds.now ≡ both count action.adds tracked.now
+        → deletes.now ≡ both count action.deletes tracked.now
+        → result ≡ image_after count tracked.now action image.now }
+{
+    let _ = count;
+    changed(adds, deletes, tracked, image)
+}

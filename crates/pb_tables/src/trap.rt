@@ -1,0 +1,44 @@
+//! A trap: images of states from which no goal is reached.
+ghost use Rattle.std.specs.Prelude.{◌≡◌};
+
+use pb_packed::Packed;
+use std::marker::Model;
+
+/// Images from which no goal can be reached. Contracts see the tracked atoms and the images.
+#[derive(Drop)]
+pub struct Trap {
+    tracked: Packed,
+    listed: Vec<Packed>,
+}
+
+impl Model for Trap {
+    ghost use Rattle.pb_tables.specs.Tables.{TrapValue};
+
+    ghost Value = { TrapValue };
+
+    ghost view = { λ t. record { tracked = t.tracked; listed = t.listed.items } };
+}
+
+impl Trap {
+    /// The trap that tracks these atoms and lists these images. It takes no memory.
+    pub fn of(tracked: Packed, listed: Vec<Packed>) -> Trap
+        ensures tracked { result.tracked ≡ tracked }
+        ensures listed { result.listed ≡ listed.items }
+    {
+        Trap { tracked, listed }
+    }
+
+    /// The tracked atoms.
+    pub fn tracked(&self) -> &Packed
+        ensures { result.now ≡ self.now.tracked }
+    {
+        &self.tracked
+    }
+
+    /// The images.
+    pub fn listed(&self) -> &[Packed]
+        ensures { result.now ≡ self.now.listed }
+    {
+        self.listed.as_slice()
+    }
+}
