@@ -23,7 +23,7 @@ use Rattle.pb_owners.specs.Between.{opening_mailed, IsBetween, AnyOpened, IsSear
 use Rattle.pb_owners.specs.Shares.{owner_in, share_of, share_at, seat_at, IsEnd}
 use Rattle.pb_owners.specs.Owners.{IsOpeningShare}
 use Rattle.pb_owners.proofs.Pairs.{there, some_is}
-use Rattle.pb_owners.proofs.Searching.{searched_more, searched_sound}
+use Rattle.pb_owners.proofs.Repeating.{searched_more, searched_sound}
 use Rattle.pb_owners.proofs.Assembling.{seat_is}
 
 -- ---- rounds

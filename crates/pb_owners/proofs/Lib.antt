@@ -2,10 +2,11 @@ mod Pairs
 mod Starting
 mod Meetings
 mod Rounding
-mod Searching
+mod Repeating
 mod Parting
 mod Assembling
 mod Ending
 mod Loops
 mod Listing
 mod Owning
+mod Leaving

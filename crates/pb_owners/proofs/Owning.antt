@@ -13,7 +13,7 @@ use Rattle.pb_owner.specs.Shares.{guide_for}
 use Rattle.pb_owners.specs.Between.{IsSearched}
 use Rattle.pb_owners.specs.Shares.{share_at, IsEnd}
 use Rattle.pb_owners.specs.Owners.{OwnersValue, space_in, guide_in, weight_in, OwnersEnd}
-use Rattle.pb_owners.proofs.Searching.{plain_sound, plain_costs}
+use Rattle.pb_owners.proofs.Repeating.{plain_sound, plain_costs}
 
 module _ (end : End) (v : OwnersValue) (is_task : IsTask v.task) (range : AreInRange v.settings) where
   home_below : (state : ℕ) → (guide_in v).home state < v.settings.workers

@@ -8,3 +8,4 @@ pub mod Rounds
 pub mod Between
 pub mod Shares
 pub mod Owners
+pub mod Leaves

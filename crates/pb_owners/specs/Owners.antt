@@ -79,3 +79,10 @@ pub record OwnersEnd (end : End) (owners : OwnersValue) : Type 0 where
   pub sound : IsSound (space_in owners) (guide_in owners) (owners_store owners)
   pub shown : IsShown (space_in owners) (guide_in owners) (owners_store owners)
   pub small : CostsAtMost (owners_store owners) (2 ^ 61 - 1)
+
+-- The home of each state of the task can be computed: the blocks are those of the task, and each
+-- of 1 to 64 owners has a share.
+pub record CanLookUp (owners : OwnersValue) : Type 0 where
+  pub graph : IsGraphOf owners.task owners.graph
+  pub workers : (1 ≤ owners.settings.workers) × (owners.settings.workers ≤ 64)
+  pub many : length owners.shares ≡ owners.settings.workers

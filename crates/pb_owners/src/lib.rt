@@ -12,9 +12,12 @@ mod part;
 mod plan;
 mod round;
 mod rounds;
+mod searching;
 mod seat;
 mod seating;
+mod store;
 mod together;
 
 pub use owners::Owners;
 pub use rounds::run_owners;
+pub use searching::search_by_owners;
