@@ -53,8 +53,9 @@ fn action<R: Abort>(rt: &R, alloc: Global, needs: u64, adds: u64, cost: u64) -> 
     }
 }
 
-// Atom 2 can be spent on atom 0 at cost 3 or on atom 1 at cost 5, and both are wanted.
-fn spent_once<R: Abort>(rt: &R, alloc: Global) -> Task {
+/// A task in which atom 2 can be spent on atom 0 at cost 3 or on atom 1 at cost 5, and both are
+/// wanted.
+pub fn spent_once<R: Abort>(rt: &R, alloc: Global) -> Task {
     let first = action(rt, alloc, 4, 1, 3);
     let second = action(rt, alloc, 4, 2, 5);
     let actions = vec![in alloc; first, second].expect(rt, "memory");
