@@ -71,6 +71,7 @@ explain_words() {
       if [ "$command_word" = check ]; then say "--rewrite is given the name of an input"
       else say "--cert and --trace are given one name"; fi
       ;;
+    'words engine') say "--engine hda keeps no journal, and --trace is given" ;;
     'words size') say "the size isn't in the range of its kind" ;;
     *)
       text=${text#error: }

@@ -53,7 +53,8 @@ def form_lines():
 
 def proved_table(root=ROOT):
     """The table of the command line's definitions: for each option the commands that have it, and
-    its least and greatest number with the default, or the words "a file" or "no value"."""
+    its least and greatest number with the default, or its words with "or" between them, or "a file"
+    or "no value"."""
     text = (root / "crates/pb_command/specs/Table.antt").read_text()
     text = re.sub(r"--.*", "", text)
     kinds, names = {}, {}
@@ -61,6 +62,11 @@ def proved_table(root=ROOT):
             r"^entry_of (\w+) = (number|file_name) \(codes \"(\w+)\"\)((?: \d+)*)$", text, re.M):
         names[case] = name
         kinds[case] = tuple(map(int, numbers.split())) if form == "number" else "a file"
+    words = dict(re.findall(r"^(\w+_word \w+) = codes \"(\w+)\"$", text, re.M))
+    for case, name, takes in re.findall(
+            r"^entry_of (\w+) = word \(codes \"(\w+)\"\) \(([\w ∷]+) ∷ \[\]\)$", text, re.M):
+        names[case] = name
+        kinds[case] = " or ".join(words[it] for it in takes.split(" ∷ "))
     for case, name in re.findall(r"^flag_name (\w+) = codes \"(\w+)\"$", text, re.M):
         names[case], kinds[case] = name, "no value"
     commands = {case: set() for case in names}

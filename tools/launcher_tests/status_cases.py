@@ -21,6 +21,8 @@ def words_refused(place):
         ([grid[0]], "words files\n", "solve grid takes MAP SCENARIO; so many files were named: 1"),
         ([*grid, "--num", "1", "--den", "2"], "words weight\n", "less than D of --den"),
         ([*grid, "--cert", "x", "--trace", "x"], "words names\n", "are given one name"),
+        ([*grid, "--engine", "hda", "--trace", "x"], "words engine\n", "keeps no journal"),
+        ([*grid, "--engine", "x"], None, "pbnf: invalid value 'x' for '--engine"),
         ([*grid, "--budget", "0"], None, "pbnf: invalid value '0' for '--budget"),
     ):
         run = place.run("solve", "grid", *words).wants(64, out, ["usage: pbnf solve grid MAP", err])

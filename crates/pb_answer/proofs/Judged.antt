@@ -20,6 +20,13 @@ not_fault x fault e = cc
 same_value : {A C : Type 0} (one other : A) → ◌≡◌ {A = Result A C} (Ok one) (Ok other) → one ≡ other
 same_value one other e = cc
 
+-- what the judge of a text over these blocks says
+pub record AnswersRightly (blocks : Blocks) (text : List ℕ) (result : Result ℕ JournalError)
+    : Type 0 where
+  pub exact : Gives (λ n. n) result (judged blocks text)
+  pub finished : IfOk result (λ n. IsFinishedJournal blocks text n)
+  pub only : (n : ℕ) → IsFinishedJournal blocks text n → Gives (λ m. m) result (Ok n)
+
 module _ (parts : TaskParts) (text : List ℕ) (settings : Settings) (graph : AbstractGraph)
     (header : settings_of text ≡ Ok settings) (graph_of : IsGraphOf parts graph)
     (finest : IsFinest parts settings.wish graph.projection) where

@@ -2,6 +2,9 @@ pub mod Callers
 mod Reports
 mod Groups
 mod Certified
+mod Asked
+mod ByLeases
+mod ByOwners
 mod Judged
 mod SavedJournals
 mod ByNames

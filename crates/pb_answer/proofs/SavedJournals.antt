@@ -1,8 +1,9 @@
--- The journal that is saved of a search is the text of a finished legal history of the task.
--- `pb_run` cites this module.
-use Rattle.std.proofs.Common.{◌≤◌, Option, List, [], ◌++◌, length, refl, sym, subst}
+-- The journal that is saved of a search by leases is the text of a finished legal history of the
+-- task. `pb_run` cites this module.
+use Rattle.std.proofs.Common.{◌≡◌, ◌≤◌, Option, List, [], ◌++◌, length, refl, sym, subst}
 use Rattle.pb_model.specs.Plan.{Plan}
 use Rattle.pb_machine.specs.declared.event.End.{End}
+use Rattle.pb_machine.specs.declared.event.End.TheVariants.{Quiet, Budget}
 use Rattle.pb_machine.specs.declared.event.Event.{Event}
 use Rattle.pb_machine.specs.Settings.{settings_with_weight}
 use Rattle.pb_machine.specs.History.{IsHistory}
@@ -12,12 +13,14 @@ use Rattle.pb_journal.specs.Texts.{journal_text}
 use Rattle.pb_journal.specs.Shown.{one, WrittenJournalsAreAccepted}
 use Rattle.pb_journal.specs.Lengths.{most_bytes, JournalTextsAreShort}
 use Rattle.pb_search.specs.Searches.{SearchEnds}
+use Rattle.pb_command.specs.declared.command.Engine.TheVariants.{Leases}
 use Rattle.pb_command.specs.Meaning.{SolveMeaning}
 use Rattle.pb_answer.specs.Outputs.{Output}
 use Rattle.pb_answer.specs.Searches.{settings_of}
 use Rattle.pb_answer.specs.Engines.{Left}
 use Rattle.pb_answer.specs.Claims.{journal_outputs, journal_outputs_if_any, Certifies, Stops}
 use Rattle.pb_answer.specs.Journals.{IsJournalOf}
+use Rattle.pb_answer.proofs.Asked.{by_engine}
 
 -- The last of what is saved is the journal with these events, if it has a name. Its text is that of
 -- a finished legal history of the task, and is as long as that allows.
@@ -29,7 +32,8 @@ pub record SavesJournal (saves : List Output → Type 0) (solve : SolveMeaning) 
   pub legal : IsJournalOf parts (journal_text (settings_of solve) events) (length events)
   pub short : length (journal_text (settings_of solve) events) ≤ most_bytes (length events)
 
-module _ (written : WrittenJournalsAreAccepted) (lengths : JournalTextsAreShort) (solve : SolveMeaning) (parts : TaskParts) where
+module _ (written : WrittenJournalsAreAccepted) (lengths : JournalTextsAreShort)
+    (solve : SolveMeaning) (engine : solve.engine ≡ Leases) (parts : TaskParts) where
   is_journal : (end : End) (events : List Event) → SearchEnds parts (settings_of solve) end events
       → IsJournalOf parts (journal_text (settings_of solve) events) (length events)
   is_journal end events run =
@@ -70,20 +74,26 @@ module _ (written : WrittenJournalsAreAccepted) (lengths : JournalTextsAreShort)
 
   pub of_quiet : (saves : List Output → Type 0) (plan : Option Plan)
       → Certifies saves solve parts plan → SavesJournal saves solve parts
-  of_quiet saves plan (left, (events, run, is), found, outputs, certificate, saved) = record {
-    events = events;
-    first = outputs;
-    saved = subst (λ (l : Left). saves (outputs ++ journal_outputs_if_any solve.journal (settings_of solve) l.journal)) is saved;
-    legal = is_journal _ events run;
-    short = is_short _ events run;
-  }
+  of_quiet saves plan (left, leaves, found, outputs, certificate, saved) =
+      let left_so = by_engine solve Leases engine parts Quiet left leaves in
+      record {
+        events = left_so.0;
+        first = outputs;
+        saved = subst (λ (l : Left).
+            saves (outputs ++ journal_outputs_if_any solve.journal (settings_of solve) l.journal)) left_so.2 saved;
+        legal = is_journal _ left_so.0 left_so.1;
+        short = is_short _ left_so.0 left_so.1;
+      }
 
   pub of_stopped : (saves : List Output → Type 0) → Stops saves solve parts
       → SavesJournal saves solve parts
-  of_stopped saves (left, (events, run, is), saved) = record {
-    events = events;
-    first = [];
-    saved = subst (λ (l : Left). saves (journal_outputs_if_any solve.journal (settings_of solve) l.journal)) is saved;
-    legal = is_journal _ events run;
-    short = is_short _ events run;
-  }
+  of_stopped saves (left, leaves, saved) =
+      let left_so = by_engine solve Leases engine parts Budget left leaves in
+      record {
+        events = left_so.0;
+        first = [];
+        saved = subst (λ (l : Left).
+            saves (journal_outputs_if_any solve.journal (settings_of solve) l.journal)) left_so.2 saved;
+        legal = is_journal _ left_so.0 left_so.1;
+        short = is_short _ left_so.0 left_so.1;
+      }

@@ -1,6 +1,6 @@
--- What a search leaves, apart from how it searched. A further engine is one case more of `Engine`
--- and of `SearchLeaves`; the claims of a search cite nothing else of it.
-use Rattle.std.specs.Prelude.{◌≡◌, Option, Some, List}
+-- What a search leaves, apart from how it searched. A further engine is one case more of
+-- `SearchLeaves`; the claims of a search cite nothing else of it.
+use Rattle.std.specs.Prelude.{◌≡◌, Option, None, Some, List}
 use Rattle.pb_model.specs.Space.{Space}
 use Rattle.pb_model.specs.Guide.{Guide}
 use Rattle.pb_model.specs.Store.{Store}
@@ -12,16 +12,16 @@ use Rattle.pb_machine.specs.declared.settings.Settings.{Settings}
 use Rattle.pb_task.specs.declared.parts.TaskParts.{TaskParts}
 use Rattle.pb_search.specs.Ends.{searched_guide}
 use Rattle.pb_search.specs.Searches.{SearchEnds}
+use Rattle.pb_owners.specs.Owners.{OwnersValue, guide_in, owners_store}
+use Rattle.pb_owners.specs.Leaves.{LeavesOwners}
 use Rattle.pb_cert.specs.Found.{IsTracedIfAny}
+use Rattle.pb_command.specs.declared.command.Engine.{Engine}
+use Rattle.pb_command.specs.declared.command.Engine.TheVariants.{Leases, Owners}
 use Rattle.pb_command.specs.Meaning.{SolveMeaning}
-
--- the lease machine of PBNF
-pub data Engine : Type 0 where
-  Leases : Engine
 
 -- the engine that the words ask for
 abbrev pub engine_asked : SolveMeaning → Engine
-engine_asked solve = Leases
+engine_asked solve = solve.engine
 
 -- what the search looked up, the rows that it has at its end, and its journal, if the engine keeps
 -- one
@@ -39,11 +39,19 @@ left_by_leases {parts} {settings} {end} {journal} run = record {
   journal = Some journal;
 }
 
+-- what a hash-distributed search leaves; it keeps no journal
+abbrev pub left_by_owners : OwnersValue → Left
+left_by_owners owners =
+    record { guide = guide_in owners; store = owners_store owners; journal = None }
+
 -- a search of the task by this engine, with these settings, came to this end and left this
 abbrev pub SearchLeaves : Engine → TaskParts → Settings → End → Left → Type 0
 SearchLeaves Leases parts settings end left =
     (journal : List Event) × (run : SearchEnds parts settings end journal)
     × (left ≡ left_by_leases run)
+SearchLeaves Owners parts settings end left =
+    (owners : OwnersValue) × LeavesOwners parts settings end owners
+    × (left ≡ left_by_owners owners)
 
 -- The plan is the one that the rows lead to, and costs no more than the incumbent. Without an
 -- incumbent there is none.

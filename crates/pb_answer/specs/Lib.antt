@@ -10,6 +10,7 @@ pub mod Spelled
 pub mod Outputs
 pub mod Engines
 pub mod Claims
+pub mod Ended
 pub mod Journals
 pub mod Answer
 pub mod Parts

@@ -1,3 +1,4 @@
+//! What is answered, and the answer to each command.
 ghost use Rattle.std.specs.Prelude.{◌≡◌, IfOk, []};
 ghost use Rattle.pb_command.specs.Meaning.{IsInRange, Solve};
 ghost use Rattle.pb_command.specs.Causes.{solve_meant, check_meant, journal_meant};
@@ -90,8 +91,8 @@ fn refuse_input<'a>(report: Report) -> Answer<'a>
 /// later ones are left out. What the search leaves is kept in `kept`: the certificate and the
 /// journal borrow it. An error is out of memory.
 ///
-/// A search has as many workers as the command asks for: one waits for nobody, and more have a
-/// thread each.
+/// A search has as many workers as the command asks for. By leases one waits for nobody, and more
+/// have a thread each. By owners each has a thread.
 pub fn answer_solve<'a, R: Threads + Wait + Sync, G: Gate>(
     rt: &R,
     alloc: Global,
@@ -114,10 +115,14 @@ pub fn answer_solve<'a, R: Threads + Wait + Sync, G: Gate>(
 /// The answer to a check: the first text is that of the certificate, and those after it spell the
 /// task. If the certificate is accepted, it may be saved anew: then the answer borrows its text. An
 /// error is out of memory.
-pub fn answer_check<'a>(
+///
+/// The answer is the same for each number of workers. One judges alone; more have a thread each.
+pub fn answer_check<'a, R: Threads + Sync, G: Gate>(
+    rt: &R,
     alloc: Global,
     check: CheckCommand<'a>,
     texts: &'a Texts,
+    gate: &G,
 ) -> Result<Answer<'a>, AllocError>
     ensures { IfOk result (λ a. OrRefused
         (check_task (check_meant check.entry) texts.entry.now)
@@ -127,7 +132,7 @@ pub fn answer_check<'a>(
         return Ok(refuse_input(Report::of_line(alloc, b"input TooLong")?));
     };
     match input_task(alloc, &check.input, check.options, texts, 1) {
-        Ok(task) => judge(alloc, &task, check, certificate),
+        Ok(task) => judge(rt, alloc, &task, check, certificate, gate),
         Err(NoTask::Refused(report)) => Ok(refuse_input(report)),
         Err(NoTask::Memory) => Err(AllocError),
     }

@@ -1,3 +1,4 @@
+//! Judging the text of a certificate.
 ghost use Rattle.std.specs.Prelude.{◌≡◌, IfOk, Ok};
 ghost use Rattle.pb_check.specs.declared.fault.Verdict.{Verdict};
 ghost use Rattle.pb_check.specs.Shown.{IsAccepted};
@@ -6,14 +7,16 @@ ghost use Rattle.pb_answer.specs.Claims.{rewritten_outputs};
 ghost use Rattle.pb_answer.specs.Answer.{IsChecked, certificates_of, said_of};
 
 use crate::answer::{Answer, CertificateText, SavedCertificate};
+use crate::checking::verdict_by;
 use crate::status::Status;
 use pb_cert::Rewriting;
-use pb_check::{CheckError, check, stated_choice};
+use pb_check::CheckError;
 use pb_command::CheckCommand;
-use pb_estimate::Estimator;
+use pb_outside::Gate;
 use pb_report::Report;
 use pb_task::Task;
 use std::alloc::{AllocError, Global};
+use std::thread::Threads;
 
 // The accepted certificate as it is saved anew, if it has a name.
 fn rewrite<'a>(
@@ -37,17 +40,18 @@ fn rewrite<'a>(
 /// Judges the text of a certificate for a task: its verdict with status 0, or its first fault with
 /// status 3. What is accepted is to be saved anew, if the command has a name for it. An error is
 /// out of memory.
-pub fn judge<'a>(
+pub fn judge<'a, R: Threads + Sync, G: Gate>(
+    rt: &R,
     alloc: Global,
     task: &Task,
     command: CheckCommand<'a>,
     certificate: &'a [u8],
+    gate: &G,
 ) -> Result<Answer<'a>, AllocError>
     ensures { IfOk result (λ a. IsChecked (check_meant command.entry) task.now
         certificate.entry.now (said_of a)) }
 {
-    let mut estimator = Estimator::of(alloc, task, &stated_choice(certificate))?;
-    match check(alloc, task, &mut estimator, certificate) {
+    match verdict_by(rt, alloc, task, command.workers, certificate, gate) {
         Ok(verdict) => {
             let report = Report::of_verdict(alloc, &verdict.claim())?;
             Ok(Answer {

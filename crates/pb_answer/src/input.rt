@@ -1,3 +1,4 @@
+//! The task that the texts of a command spell.
 ghost use Rattle.std.specs.Prelude.{◌≡◌, ◌≤◌, Err, Some, IfOk, option_map};
 ghost use Rattle.pb_command.specs.Causes.{input_meant};
 ghost use Rattle.pb_pddl.specs.Words.{DomainHasWords};

@@ -1,3 +1,4 @@
+//! Judging the text of a journal.
 ghost use Rattle.std.specs.Prelude.{◌≡◌, [], IfOk};
 ghost use Rattle.pb_answer.specs.Statuses.{number_of};
 ghost use Rattle.pb_answer.specs.Journals.{GivesJournal};
@@ -6,7 +7,7 @@ ghost use Rattle.pb_answer.specs.Answer.{IsJudged, said_of};
 use crate::answer::Answer;
 use crate::status::Status;
 use pb_abstract::AbsGraph;
-use pb_journal::{JournalError, check_journal, read_header};
+use pb_journal::{JournalError, open_journal};
 use pb_report::Report;
 use pb_task::Task;
 use std::alloc::{AllocError, Global};
@@ -34,7 +35,8 @@ pub fn judge_journal<'a>(alloc: Global, task: &Task, text: &[u8]) -> Result<Answ
 fn count_events(alloc: Global, task: &Task, text: &[u8]) -> Result<u64, JournalError>
     ensures { GivesJournal task.now text.now result }
 {
-    let settings = read_header(text)?;
+    let journal = open_journal(text)?;
+    let settings = journal.settings();
     let abstraction = AbsGraph::of(alloc, task, settings.wish)?;
-    check_journal(alloc, &abstraction, text)
+    journal.check(alloc, &abstraction)
 }

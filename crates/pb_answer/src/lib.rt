@@ -5,9 +5,13 @@
 
 mod answer;
 mod check;
+mod checking;
+mod ended;
 mod input;
 mod journal;
 mod laws;
+mod leases;
+mod owners;
 mod solve;
 mod status;
 mod store;

@@ -1,3 +1,4 @@
+//! The texts of loaded files.
 ghost use Rattle.std.specs.Prelude.{◌≡◌, ◌++◌, ◌∷◌, [], OnOk, slice_get, option_map};
 
 use std::alloc::{AllocError, Global};

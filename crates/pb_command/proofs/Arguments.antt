@@ -16,7 +16,7 @@ use Rattle.pb_command.specs.declared.table.FlagOption.{FlagOption}
 use Rattle.pb_command.specs.Options.{is_same, Argument, Placed, Valued, Flag, is_same_flag, words_of, placed_words, value_given, flag_given, AreDistinct, IsArgumentOf}
 use Rattle.pb_command.proofs.Walking.{Place, Kind, FirstFile, SecondFile, CertificateFile, JournalFile, Seed, Size, place_id, place_parser, HasOption, HasFlag, HasPlace, at, option_id, flag_id, match_row, held_with, held_flag}
 use Rattle.pb_command.proofs.Walking.{same_option, same_itself, place_no_option, option_no_place, nowhere, place_no_flag, flag_no_place, flag_nowhere, option_no_flag, flag_no_option, same_flag, same_flag_itself, put_last, still_none}
-use Rattle.pb_command.proofs.Walking.{valued_step, placed_step, flag_step, valued_fault, placed_fault, flag_fault, valued_rows, placed_rows, flag_rows, valued_faultless, placed_faultless}
+use Rattle.pb_command.proofs.Walking.{valued_step, placed_step, flag_step, valued_fault, placed_fault, flag_fault, valued_rows, placed_rows, flag_rows, option_accepts, valued_faultless, placed_faultless}
 
 -- the row of an identifier
 abbrev pub row_of : Text → List MatchRow → Option MatchRow
@@ -247,7 +247,7 @@ module _ (s : Shape) (has_option : ValuedOption → Bool) (has_flag : FlagOption
       let next_rows : (settled s.rules next).rows ≡ rows ++ match_row (option_id option) value ∷ [] =
       valued_rows s option value h knows_it ∙ ap (λ x. with_values (option_id option) AsWritten CommandLine (value ∷ []) (without (option_id option) x)) are ∙ put_last (option_id option) value rows none in
       let after = walks rest places i next (rows ++ match_row (option_id option) value ∷ []) has apart next_rows
-      (valued_faultless s option value h knows_it all.0.2 (ap (has_row (option_id option)) are ∙ none))
+      (valued_faultless s option value h knows_it (option_accepts option value all.0.2) (ap (has_row (option_id option)) are ∙ none))
       (new_after_valued places option value rest rows distinct.0 new) all.1 distinct.1 fit in
       record {
         last = after.last;

@@ -1,5 +1,5 @@
 -- What `check` reads of its arguments.
-use Rattle.std.proofs.Common.{◌≡◌, ◌∙◌, ◌⊎◌, inl, inr, ◌||◌, Bool, true, false, List, [], ◌∷◌, Option, None, Some, refl, sym, ap, ap₂, subst, codes}
+use Rattle.std.proofs.Common.{◌≡◌, ◌∙◌, ◌⊎◌, inl, inr, ◌||◌, ℕ, Bool, true, false, List, [], ◌∷◌, Option, None, Some, refl, sym, ap, ap₂, subst, codes}
 use Rattle.std.specs.Prelude.{fold, map}
 use Rattle.std.specs.List.{AllByRecursion}
 use Rattle.std.specs.Str.{bytes_eq}
@@ -7,12 +7,12 @@ use Rattle.std.proofs.lemmas.Slice.Eq.{bytes_eq-Decides}
 use Rattle.clap.specs.Walk.{Row as MatchRow, Text, rows_after, with_default, first_of}
 use Rattle.clap.specs.Faults.{check_fault, defaults_fault}
 use Rattle.pb_command.specs.declared.command.InputOptions.{InputOptions}
-use Rattle.pb_command.specs.declared.table.ValuedOption.TheVariants.{Row, Rewrite}
+use Rattle.pb_command.specs.declared.table.ValuedOption.TheVariants.{Row, Workers, Rewrite}
 use Rattle.pb_command.specs.declared.table.FlagOption.TheVariants.{Swamp}
 use Rattle.pb_command.specs.Table.{check_options, check_flags}
 use Rattle.pb_command.specs.Values.{InputNames, Grid, Tiles, Strips, kind_of_text, values_fit, number_at, flag_at, text_at, is_input_name, is_loaded_name}
 use Rattle.pb_command.specs.Meaning.{Read, Refused, Check, CheckMeaning, reading_of_words, unless_faulty, check_of, with_kind, if_fit, options_by, check_with, check_tested}
-use Rattle.pb_command.specs.Options.{options_given, Argument, words_of, placed_words, value_given, AreDistinct, IsAmong, HasNewName, IsArgumentOf, is_of_check, is_flag_of_check, kind_word, file_words}
+use Rattle.pb_command.specs.Options.{number_given, options_given, Argument, words_of, placed_words, value_given, AreDistinct, IsAmong, HasNewName, IsArgumentOf, is_of_check, is_flag_of_check, kind_word, file_words}
 use Rattle.pb_command.specs.declared.refusal.CommandFault.TheVariants as fault
 use Rattle.pb_command.proofs.Walking.{Place, Kind, FirstFile, SecondFile, CertificateFile, match_row, flag_rule, defaults_last, last_default_fault, flags_default_fault}
 use Rattle.pb_command.proofs.Arguments.{row_of, rows_for, word_at, FitPlaces, found_flag, walks_all, rows_are, no_fault_at_all}
@@ -29,17 +29,18 @@ nothing_missing : (rows : List MatchRow) (kind certificate first : Text) → row
 unfolding check_shape flagless_rules
 nothing_missing rows kind certificate first has_kind has_certificate has_first = rw (has_kind, has_certificate, has_first) refl
 
-check_values : (rows : List MatchRow) (kind certificate first second rewrite : Option Text) (options : InputOptions) → values_fit check_options rows ≡ true
+check_values : (rows : List MatchRow) (kind certificate first second rewrite : Option Text) (options : InputOptions) (workers : ℕ) → values_fit check_options rows ≡ true
     → first_of (codes "KIND") rows ≡ kind → first_of (codes "CERTIFICATE") rows ≡ certificate → first_of (codes "FIRST_FILE") rows ≡ first → first_of (codes "SECOND_FILE") rows ≡ second
-    → options_by (number_at rows) (flag_at rows) ≡ options → text_at rows Rewrite ≡ rewrite → check_of rows ≡ with_kind (kind_of_text kind) (check_with certificate first second options rewrite)
-check_values rows kind certificate first second rewrite options fit a b d e f g = λ i. if_fit (fit i) (with_kind (kind_of_text (a i)) (check_with (b i) (d i) (e i) (f i) (g i)))
+    → options_by (number_at rows) (flag_at rows) ≡ options → number_at rows Workers ≡ workers → text_at rows Rewrite ≡ rewrite
+    → check_of rows ≡ with_kind (kind_of_text kind) (check_with certificate first second options workers rewrite)
+check_values rows kind certificate first second rewrite options workers fit a b d e f g h = λ i. if_fit (fit i) (with_kind (kind_of_text (a i)) (check_with (b i) (d i) (e i) (f i) (g i) (h i)))
 
 -- what the arguments of `check` ask for, whatever its kind and the number of its files
 pub check_is : (arguments : List Argument) → AllByRecursion (IsArgumentOf is_of_check is_flag_of_check) arguments → AreDistinct arguments → FitPlaces check_places (placed_words arguments)
     → (kind certificate first : Text) → word_at Kind check_places (placed_words arguments) ≡ Some kind → word_at CertificateFile check_places (placed_words arguments) ≡ Some certificate
     → word_at FirstFile check_places (placed_words arguments) ≡ Some first
     → reading_of_words (codes "check" ∷ words_of arguments) ≡ with_kind (kind_of_text (Some kind))
-    (check_with (Some certificate) (Some first) (word_at SecondFile check_places (placed_words arguments)) (options_given arguments) (value_given Rewrite arguments))
+    (check_with (Some certificate) (Some first) (word_at SecondFile check_places (placed_words arguments)) (options_given arguments) (number_given Workers arguments) (value_given Rewrite arguments))
 check_is arguments all distinct fit kind certificate first kind_is certificate_here first_is =
     let w = walks_all check_shape is_of_check is_flag_of_check check_places check_takes arguments all distinct fit in
     let bare = rows_for check_places arguments in
@@ -54,11 +55,12 @@ check_is arguments all distinct fit kind certificate first kind_is certificate_h
     (ap (λ x. check_fault check_shape x false) same ∙ nothing_missing rows kind certificate first kind_row certificate_row first_row) in
     let are : rows_after check_shape.rules [] (words_of arguments) ≡ rows = rows_are check_shape check_places arguments w ∙ same in
     by_words ToCheck (words_of arguments) ∙ (ap₂ unless_faulty none (ap check_of are)
-    ∙ check_values rows (Some kind) (Some certificate) (Some first) (word_at SecondFile check_places (placed_words arguments)) (value_given Rewrite arguments) (options_given arguments)
+    ∙ check_values rows (Some kind) (Some certificate) (Some first) (word_at SecondFile check_places (placed_words arguments)) (value_given Rewrite arguments) (options_given arguments) (number_given Workers arguments)
     (all_fit is_of_check is_flag_of_check check_places arguments rows all found check_options)
     (text_read rows (codes "KIND") (Some kind) kind_row) (text_read rows (codes "CERTIFICATE") (Some certificate) certificate_row) (text_read rows (codes "FIRST_FILE") (Some first) first_row)
     (text_read rows (codes "SECOND_FILE") (word_at SecondFile check_places (placed_words arguments)) (found.place SecondFile))
     (ap₂ (λ row swamp. record { row = row; swamp = swamp }) (numbers_read is_of_check is_flag_of_check check_places arguments rows all found Row) (flag_read Swamp arguments bare (found_flag check_places Swamp arguments)))
+    (numbers_read is_of_check is_flag_of_check check_places arguments rows all found Workers)
     (text_read rows (codes "rewrite") (value_given Rewrite arguments) (found.option Rewrite)))
 
 files_fit : (input : InputNames) (certificate : Text) → FitPlaces check_places (kind_word input ∷ certificate ∷ file_words input)
@@ -87,12 +89,13 @@ check_meant_by input certificate arguments = record {
   input = input;
   certificate = certificate;
   options = options_given arguments;
+  workers = number_given Workers arguments;
   rewrite = value_given Rewrite arguments;
 }
 
 asked : (input : InputNames) (certificate : Text) (arguments : List Argument)
     → with_kind (kind_of_text (Some (kind_word input)))
-    (check_with (Some certificate) (Some (first_file input)) (word_at SecondFile check_places (kind_word input ∷ certificate ∷ file_words input)) (options_given arguments) (value_given Rewrite arguments))
+    (check_with (Some certificate) (Some (first_file input)) (word_at SecondFile check_places (kind_word input ∷ certificate ∷ file_words input)) (options_given arguments) (number_given Workers arguments) (value_given Rewrite arguments))
     ≡ check_tested (check_meant_by input certificate arguments)
 asked (Grid names) certificate arguments = refl
 asked (Tiles board) certificate arguments = refl
@@ -107,7 +110,7 @@ check_is_tested input certificate arguments all distinct placed =
     (ap (word_at Kind check_places) placed ∙ kind_at input certificate) (ap (word_at CertificateFile check_places) placed ∙ certificate_at input certificate)
     (ap (word_at FirstFile check_places) placed ∙ first_at input certificate)
     ∙ (ap (λ ws. with_kind (kind_of_text (Some (kind_word input)))
-    (check_with (Some certificate) (Some (first_file input)) (word_at SecondFile check_places ws) (options_given arguments) (value_given Rewrite arguments))) placed
+    (check_with (Some certificate) (Some (first_file input)) (word_at SecondFile check_places ws) (options_given arguments) (number_given Workers arguments) (value_given Rewrite arguments))) placed
     ∙ asked input certificate arguments)
 
 -- ---- the test

@@ -22,3 +22,6 @@ letter_name = record { no_dashes = refl; no_long = refl; no_short = refl }
 
 pub zero_name : IsName (codes "0")
 zero_name = record { no_dashes = refl; no_long = refl; no_short = refl }
+
+pub owners_name : IsName (codes "hda")
+owners_name = record { no_dashes = refl; no_long = refl; no_short = refl }

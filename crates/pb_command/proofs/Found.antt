@@ -9,8 +9,8 @@ use Rattle.clap.specs.declared.parser.matches.ValueSource.TheVariants.{DefaultVa
 use Rattle.pb_command.specs.declared.table.ValuedOption.{ValuedOption}
 use Rattle.pb_command.specs.declared.table.FlagOption.{FlagOption}
 use Rattle.pb_command.specs.Table.{Form, Number, FileName, OneOf, option_name, option_form}
-use Rattle.pb_command.specs.Values.{InputNames, Grid, Tiles, Strips, flag_of, fits, values_fit, number_read, number_at}
-use Rattle.pb_command.specs.Options.{is_same, Argument, Placed, Valued, Flag, placed_words, value_given, flag_given, number_given, number_by, IsArgumentOf, is_value_of}
+use Rattle.pb_command.specs.Values.{InputNames, Grid, Tiles, Strips, flag_of, fits, text_by, option_fits, values_fit, number_read, number_at}
+use Rattle.pb_command.specs.Options.{is_same, has, Argument, Placed, Valued, Flag, placed_words, value_given, flag_given, number_given, number_by, IsArgumentOf, is_value_of}
 use Rattle.pb_command.proofs.Walking.{Place, place_id, option_id, flag_id, match_row, flag_rule, same_option, flag_no_option, flag_no_place, same_flag_itself}
 use Rattle.pb_command.proofs.Arguments.{row_of, rows_for, word_at, found_option, found_place, has_row_is}
 
@@ -128,6 +128,29 @@ read_by (Number range) (Some value) fit = rw fit refl
 read_by FileName given fit = refl
 read_by (OneOf words) given fit = refl
 
+module _ (places : List Place) (arguments : List Argument) (rows : List MatchRow) (found : Finds places arguments rows) where
+  text_as_given : (f : Form) (o : ValuedOption) → text_by f (option_name o) rows ≡ value_given o arguments
+  text_as_given (Number range) o = one_read rows (option_name o) (value_given o arguments) (found.option o)
+  text_as_given FileName o = text_read rows (option_name o) (value_given o arguments) (found.option o)
+  text_as_given (OneOf words) o = text_read rows (option_name o) (value_given o arguments) (found.option o)
+
+  -- the value of an option is tested as it is given
+  pub fits_as_given : (o : ValuedOption) → option_fits o rows ≡ fits (option_form o) (value_given o arguments)
+  fits_as_given o = ap (fits (option_form o)) (text_as_given (option_form o) o)
+
+-- one value of another form is enough to refuse the values
+pub one_unfit : (options : List ValuedOption) (rows : List MatchRow) (o : ValuedOption) → has options o ≡ true → option_fits o rows ≡ false → values_fit options rows ≡ false
+one_unfit [] rows o is wrong = cc
+one_unfit (p ∷ ps) rows o is wrong = by (is_same p o) (option_fits p rows) refl refl is (λ e. one_unfit ps rows o e wrong) where
+  by : (b c : Bool) → is_same p o ≡ b → option_fits p rows ≡ c → (b || has ps o) ≡ true → (has ps o ≡ true → values_fit ps rows ≡ false) → (c && values_fit ps rows) ≡ false
+  by b false same fit here rest = refl
+  by false true same fit here rest = rest here
+  by true true same fit here rest =
+      let fits_here : option_fits p rows ≡ false = ap (λ x. option_fits x rows) (same_option p o same) ∙ wrong in
+      absurd (apart (sym fit ∙ fits_here)) where
+        apart : true ≡ false → ⊥
+        apart e = cc
+
 module _ (takes : ValuedOption → Bool) (takes_flag : FlagOption → Bool) (places : List Place) (arguments : List Argument) (rows : List MatchRow)
     (all : AllByRecursion (IsArgumentOf takes takes_flag) arguments) (found : Finds places arguments rows) where
   given_fits : (o : ValuedOption) → fits (option_form o) (value_given o arguments) ≡ true
@@ -146,4 +169,4 @@ module _ (takes : ValuedOption → Bool) (takes_flag : FlagOption → Bool) (pla
   -- and all are of their forms
   pub all_fit : (options : List ValuedOption) → values_fit options rows ≡ true
   all_fit [] = refl
-  all_fit (o ∷ os) = ap (λ given. fits (option_form o) given && values_fit os rows) (read_as_given o) ∙ (ap (λ b. b && values_fit os rows) (given_fits o) ∙ all_fit os)
+  all_fit (o ∷ os) = ap (λ b. b && values_fit os rows) (fits_as_given places arguments rows found o ∙ given_fits o) ∙ all_fit os

@@ -1,8 +1,8 @@
 -- From what clap says of a parse to what words mean.
-use Rattle.std.proofs.Common.{◌≡◌, ◌∙◌, ◌≢◌, ◌≤◌, inl, inr, ℕ, Bool, true, false, List, [], ◌∷◌, Option, None, Some, Result, Ok, Err, refl, sym, ap, ap₂, subst, option_map}
+use Rattle.std.proofs.Common.{◌≡◌, ◌∙◌, ◌≢◌, ◌≤◌, inl, inr, ℕ, Bool, true, false, List, [], ◌∷◌, Option, None, Some, Result, Ok, Err, refl, sym, ap, ap₂, subst, option_map, codes}
 use Rattle.std.specs.Prelude.{if◌then◌else◌, IfOk, IfErr}
 use Rattle.std.specs.Str.Parse.{ParsesUnsigned, digits_value, without_leading_plus}
-use Rattle.clap.specs.Words.{App, FailsBy, HasMatchesOf, HasKind, IsParsedFrom, Kinds, Row, Text, TriesOne, IsUnsignedIn, app_of, fault_of, has_subcommand, is_simple, is_simple_and_free, kind_of, subcommand_of, subcommand_name_of, subcommand_rows, subcommand_rows_of}
+use Rattle.clap.specs.Words.{first_of, App, FailsBy, HasMatchesOf, HasKind, IsParsedFrom, Kinds, Row, Text, TriesOne, IsUnsignedIn, app_of, fault_of, has_subcommand, is_simple, is_simple_and_free, kind_of, subcommand_of, subcommand_name_of, subcommand_rows, subcommand_rows_of}
 use Rattle.clap.specs.ValueTests.{is_unsigned_in}
 use Rattle.clap.proofs.ValueTestLemmas.{accepts-Accepts, Accepts-accepts}
 use Rattle.clap.specs.declared.builder.command.Command.TheViews.{out-Command}
@@ -18,8 +18,14 @@ use Rattle.clap.specs.declared.error.Error.{Error}
 use Rattle.clap.specs.declared.error.kind.ErrorKind.TheVariants.{OutOfMemory}
 use Rattle.pb_command.specs.Parser.{the_program}
 use Rattle.pb_command.proofs.Declared.{program_on_literals}
-use Rattle.pb_command.specs.Meaning.{Reading, Refused, reading_of_words, unless_faulty, command_met as command_at, command_of}
-use Rattle.pb_command.specs.Values.{number_in}
+use Rattle.pb_machine.specs.declared.settings.Settings.{Settings}
+use Rattle.pb_task.specs.declared.kind.Kind.{Kind}
+use Rattle.pb_command.specs.declared.command.Engine.{Engine}
+use Rattle.pb_command.specs.declared.command.InputOptions.{InputOptions}
+use Rattle.pb_command.specs.Meaning.{Reading, Refused, reading_of_words, unless_faulty, command_met as command_at, command_of, if_fit, with_kind, with_input, solve_with, solve_tested, solve_of, options_by, settings_by}
+use Rattle.pb_command.specs.Table.{solve_options}
+use Rattle.pb_command.specs.declared.table.ValuedOption.TheVariants.{Certificate, Journal}
+use Rattle.pb_command.specs.Values.{InputNames, number_in, input_of, kind_of_text, values_fit, number_at, flag_at, engine_at, text_at}
 use Rattle.pb_command.specs.Causes.{IsRefusal, IsCause, IsPrinted}
 use Rattle.pb_command.specs.declared.refusal.CommandFault.{CommandFault}
 use Rattle.pb_command.specs.declared.refusal.CommandRefusal.{CommandRefusal}
@@ -143,3 +149,15 @@ name_of_rows m = name_in_rows (out-ArgMatches m).subcommand
 pub refused_for : (reading : Reading) (f : CommandFault) (r : CommandRefusal) → reading ≡ Refused f → IsRefusal f r → IsCause reading r
 refused_for reading f (refusal.Words g message) is (same, printed) = (is ∙ ap Refused same, subst (λ x. IsPrinted x message) same printed)
 refused_for reading f refusal.Memory is holds = holds
+
+-- ---- `solve`
+
+-- What `solve` asks for is tested if its values have their forms, its kind is known, and its kind has so many files.
+pub solve_asked : (rows : List Row) (k : Kind) (first : Text) (second : Option Text) (input : InputNames) (engine : Engine) (certificate journal : Option Text) (options : InputOptions) (settings : Settings)
+    → values_fit solve_options rows ≡ true → kind_of_text (first_of (codes "KIND") rows) ≡ Some k → first_of (codes "FIRST_FILE") rows ≡ Some first
+    → first_of (codes "SECOND_FILE") rows ≡ second → input_of k first second ≡ Some input → options_by (number_at rows) (flag_at rows) ≡ options → settings_by (number_at rows) (flag_at rows) ≡ settings
+    → engine_at rows ≡ engine → text_at rows Certificate ≡ certificate → text_at rows Journal ≡ journal
+    → solve_of rows ≡ solve_tested (record { input = input; options = options; settings = settings; engine = engine; certificate = certificate; journal = journal })
+solve_asked rows k first second input engine certificate journal options settings fits known has has_second files a b d e f =
+    (λ i. if_fit (fits i) (with_kind (known i) (solve_with (has i) (has_second i) (a i) (b i) (d i) (e i) (f i))))
+    ∙ ap (λ x. with_input x (λ input. solve_tested (record { input = input; options = options; settings = settings; engine = engine; certificate = certificate; journal = journal }))) files

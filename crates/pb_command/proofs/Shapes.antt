@@ -188,6 +188,7 @@ places_of_check = (
 options_of_check : (o : ValuedOption) → is_of_check o ≡ true → HasOption check_shape o
 unfolding check_shape flagless_rules
 options_of_check Row is = record { by_long = refl; by_id = refl }
+options_of_check Workers is = record { by_long = refl; by_id = refl }
 options_of_check Rewrite is = record { by_long = refl; by_id = refl }
 options_of_check _ is = cc
 

@@ -9,14 +9,16 @@ use Rattle.std.proofs.lemmas.Slice.Eq.{bytes_eq-Decides}
 use Rattle.clap.specs.Walk.{Row as MatchRow, Text, rows_after, with_default, first_of}
 use Rattle.clap.specs.Faults.{check_fault, defaults_fault}
 use Rattle.pb_machine.specs.declared.settings.Settings.{Settings}
+use Rattle.pb_command.specs.declared.command.Engine.{Engine}
+use Rattle.pb_command.specs.declared.command.Engine.TheVariants.{Leases, Owners}
 use Rattle.pb_command.specs.declared.command.InputOptions.{InputOptions}
-use Rattle.pb_command.specs.declared.table.ValuedOption.TheVariants.{Num, Den, Certificate, Journal}
+use Rattle.pb_command.specs.declared.table.ValuedOption.TheVariants.{Engine as EngineOption, Num, Den, Certificate, Journal}
 use Rattle.pb_command.specs.declared.table.FlagOption.{FlagOption}
 use Rattle.pb_command.specs.declared.table.FlagOption.TheVariants.{Plain, Swamp}
 use Rattle.pb_command.specs.Table.{solve_options, solve_flags}
-use Rattle.pb_command.specs.Values.{InputNames, Grid, Tiles, Strips, kind_of_text, are_one_name, flag_of, values_fit, number_at, flag_at, text_at}
+use Rattle.pb_command.specs.Values.{InputNames, Grid, Tiles, Strips, kind_of_text, are_one_name, is_journal_of_owners, flag_of, values_fit, number_at, flag_at, text_at, engine_of, engine_at}
 use Rattle.pb_command.specs.Meaning.{Read, Refused, Solve, SolveMeaning, reading_of_words, unless_faulty, solve_of, with_kind, if_fit, options_by, settings_by, solve_with, solve_tested}
-use Rattle.pb_command.specs.Options.{number_given, options_given, settings_given, Argument, words_of, placed_words, value_given, flag_given, AreDistinct, IsArgumentOf, is_of_solve, is_flag_of_solve, kind_word, file_words, AreOfSolve, HaveTwoNames}
+use Rattle.pb_command.specs.Options.{number_given, options_given, settings_given, engine_given, Argument, words_of, placed_words, value_given, flag_given, AreDistinct, IsArgumentOf, is_of_solve, is_flag_of_solve, kind_word, file_words, AreOfSolve, HaveTwoNames, HaveKeptJournal}
 use Rattle.pb_command.specs.declared.refusal.CommandFault.TheVariants as fault
 use Rattle.pb_command.proofs.Walking.{Place, Kind, FirstFile, SecondFile, flag_id, match_row, flag_rule, defaults_last, last_default_fault, flags_default_fault}
 use Rattle.pb_command.proofs.Arguments.{row_of, rows_for, word_at, FitPlaces, IsWalkedWhole, found_flag, walks_all, rows_are, no_fault_at_all}
@@ -36,7 +38,7 @@ nothing_missing rows kind first has_kind has_first = rw (has_kind, has_first) re
 abbrev rows_with_plain : List Argument → List MatchRow
 rows_with_plain arguments = with_default (rows_for solve_places arguments) (flag_rule Plain)
 
-abbrev rows_with_flags : List Argument → List MatchRow
+abbrev pub rows_with_flags : List Argument → List MatchRow
 rows_with_flags arguments = with_default (rows_with_plain arguments) (flag_rule Swamp)
 
 with_flags : (arguments : List Argument) → fold with_default (rows_for solve_places arguments) solve_shape.rules ≡ rows_with_flags arguments
@@ -48,7 +50,7 @@ no_default_fails arguments =
     ap (defaults_fault (rows_for solve_places arguments)) rules_of_solve
     ∙ (last_default_fault (rows_for solve_places arguments) plainless_rules (map flag_rule solve_flags) no_default_in_solve ∙ flags_default_fault (rows_for solve_places arguments) (Plain ∷ Swamp ∷ []))
 
-finds_with_flags : (arguments : List Argument) → Finds solve_places arguments (rows_with_flags arguments)
+pub finds_with_flags : (arguments : List Argument) → Finds solve_places arguments (rows_with_flags arguments)
 finds_with_flags arguments =
     finds_with Swamp solve_places arguments (rows_with_plain arguments) (finds_with Plain solve_places arguments (rows_for solve_places arguments) (finds solve_places arguments))
 
@@ -68,38 +70,50 @@ flags_read : (arguments : List Argument) (f : FlagOption) → flag_at (rows_with
 flags_read arguments Plain = plain_read arguments
 flags_read arguments Swamp = swamp_read arguments
 
-solve_values : (rows : List MatchRow) (kind first second certificate journal : Option Text) (options : InputOptions) (settings : Settings)
+solve_values : (rows : List MatchRow) (kind first second certificate journal : Option Text) (options : InputOptions) (settings : Settings) (engine : Engine)
     → values_fit solve_options rows ≡ true
     → first_of (codes "KIND") rows ≡ kind → first_of (codes "FIRST_FILE") rows ≡ first → first_of (codes "SECOND_FILE") rows ≡ second
-    → options_by (number_at rows) (flag_at rows) ≡ options → settings_by (number_at rows) (flag_at rows) ≡ settings → text_at rows Certificate ≡ certificate → text_at rows Journal ≡ journal
-    → solve_of rows ≡ with_kind (kind_of_text kind) (solve_with first second options settings certificate journal)
-solve_values rows kind first second certificate journal options settings fit a b c d e f g =
-    λ i. if_fit (fit i) (with_kind (kind_of_text (a i)) (solve_with (b i) (c i) (d i) (e i) (f i) (g i)))
+    → options_by (number_at rows) (flag_at rows) ≡ options → settings_by (number_at rows) (flag_at rows) ≡ settings → engine_at rows ≡ engine
+    → text_at rows Certificate ≡ certificate → text_at rows Journal ≡ journal
+    → solve_of rows ≡ with_kind (kind_of_text kind) (solve_with first second options settings engine certificate journal)
+solve_values rows kind first second certificate journal options settings engine fit a b c d e f g h =
+    λ i. if_fit (fit i) (with_kind (kind_of_text (a i)) (solve_with (b i) (c i) (d i) (e i) (f i) (g i) (h i)))
+
+-- clap takes what it has walked over, and the values are those that it found
+pub solve_is_read : (arguments : List Argument) → IsWalkedWhole solve_shape solve_places arguments
+    → (kind first : Text) → word_at Kind solve_places (placed_words arguments) ≡ Some kind → word_at FirstFile solve_places (placed_words arguments) ≡ Some first
+    → reading_of_words (codes "solve" ∷ words_of arguments) ≡ solve_of (rows_with_flags arguments)
+solve_is_read arguments w kind first kind_is first_is =
+    let rows = rows_with_flags arguments in
+    let found = finds_with_flags arguments in
+    let none = no_fault_at_all solve_shape solve_places arguments solve_takes.strict w (no_default_fails arguments)
+    (ap (λ x. check_fault solve_shape x false) (with_flags arguments) ∙ nothing_missing rows kind first (found.place Kind ∙ rw kind_is refl) (found.place FirstFile ∙ rw first_is refl)) in
+    let are : rows_after solve_shape.rules [] (words_of arguments) ≡ rows = rows_are solve_shape solve_places arguments w ∙ with_flags arguments in
+    by_words ToSolve (words_of arguments) ∙ ap₂ unless_faulty none (ap solve_of are)
 
 -- what the arguments of `solve` ask for, whatever its kind and the number of its files
 pub solve_is : (arguments : List Argument) → AllByRecursion (IsArgumentOf is_of_solve is_flag_of_solve) arguments → AreDistinct arguments → FitPlaces solve_places (placed_words arguments)
     → (kind first : Text) → word_at Kind solve_places (placed_words arguments) ≡ Some kind → word_at FirstFile solve_places (placed_words arguments) ≡ Some first
     → reading_of_words (codes "solve" ∷ words_of arguments) ≡ with_kind (kind_of_text (Some kind))
-    (solve_with (Some first) (word_at SecondFile solve_places (placed_words arguments)) (options_given arguments) (settings_given arguments) (value_given Certificate arguments) (value_given Journal arguments))
+    (solve_with (Some first) (word_at SecondFile solve_places (placed_words arguments)) (options_given arguments) (settings_given arguments) (engine_given arguments) (value_given Certificate arguments) (value_given Journal arguments))
 solve_is arguments all distinct fit kind first kind_is first_is =
     let w = solve_walk arguments all distinct fit in
     let rows = rows_with_flags arguments in
     let found = finds_with_flags arguments in
     let kind_row : row_of (codes "KIND") rows ≡ Some (match_row (codes "KIND") kind) = found.place Kind ∙ rw kind_is refl in
     let first_row : row_of (codes "FIRST_FILE") rows ≡ Some (match_row (codes "FIRST_FILE") first) = found.place FirstFile ∙ rw first_is refl in
-    let none = no_fault_at_all solve_shape solve_places arguments solve_takes.strict w (no_default_fails arguments)
-    (ap (λ x. check_fault solve_shape x false) (with_flags arguments) ∙ nothing_missing rows kind first kind_row first_row) in
-    let are : rows_after solve_shape.rules [] (words_of arguments) ≡ rows = rows_are solve_shape solve_places arguments w ∙ with_flags arguments in
     let numbers : number_at rows ≡ (λ o. number_given o arguments) = fun_ext (numbers_read is_of_solve is_flag_of_solve solve_places arguments rows all found) in
     let flags : flag_at rows ≡ (λ f. flag_given f arguments) = fun_ext (flags_read arguments) in
-    by_words ToSolve (words_of arguments) ∙ (ap₂ unless_faulty none (ap solve_of are)
+    solve_is_read arguments w kind first kind_is first_is
     ∙ solve_values rows (Some kind) (Some first) (word_at SecondFile solve_places (placed_words arguments)) (value_given Certificate arguments) (value_given Journal arguments) (options_given arguments) (settings_given arguments)
+    (engine_given arguments)
     (all_fit is_of_solve is_flag_of_solve solve_places arguments rows all found solve_options)
     (text_read rows (codes "KIND") (Some kind) kind_row) (text_read rows (codes "FIRST_FILE") (Some first) first_row)
     (text_read rows (codes "SECOND_FILE") (word_at SecondFile solve_places (placed_words arguments)) (found.place SecondFile))
     (ap₂ options_by numbers flags) (ap₂ settings_by numbers flags)
+    (ap engine_of (text_read rows (codes "engine") (value_given EngineOption arguments) (found.option EngineOption)))
     (text_read rows (codes "cert") (value_given Certificate arguments) (found.option Certificate))
-    (text_read rows (codes "trace") (value_given Journal arguments) (found.option Journal)))
+    (text_read rows (codes "trace") (value_given Journal arguments) (found.option Journal))
 
 -- the first of the files
 pub files_fit : (input : InputNames) → FitPlaces solve_places (kind_word input ∷ file_words input)
@@ -107,12 +121,12 @@ files_fit (Grid names) = (refl, (refl, (refl, tt)))
 files_fit (Tiles board) = (refl, (refl, tt))
 files_fit (Strips names) = (refl, (refl, (refl, tt)))
 
-kind_at : (input : InputNames) → word_at Kind solve_places (kind_word input ∷ file_words input) ≡ Some (kind_word input)
+pub kind_at : (input : InputNames) → word_at Kind solve_places (kind_word input ∷ file_words input) ≡ Some (kind_word input)
 kind_at (Grid names) = refl
 kind_at (Tiles board) = refl
 kind_at (Strips names) = refl
 
-first_at : (input : InputNames) → word_at FirstFile solve_places (kind_word input ∷ file_words input) ≡ Some (first_file input)
+pub first_at : (input : InputNames) → word_at FirstFile solve_places (kind_word input ∷ file_words input) ≡ Some (first_file input)
 first_at (Grid names) = refl
 first_at (Tiles board) = refl
 first_at (Strips names) = refl
@@ -123,13 +137,14 @@ meant_by input arguments = record {
   input = input;
   options = options_given arguments;
   settings = settings_given arguments;
+  engine = engine_given arguments;
   certificate = value_given Certificate arguments;
   journal = value_given Journal arguments;
 }
 
 tested : (input : InputNames) (arguments : List Argument)
     → with_kind (kind_of_text (Some (kind_word input)))
-    (solve_with (Some (first_file input)) (word_at SecondFile solve_places (kind_word input ∷ file_words input)) (options_given arguments) (settings_given arguments)
+    (solve_with (Some (first_file input)) (word_at SecondFile solve_places (kind_word input ∷ file_words input)) (options_given arguments) (settings_given arguments) (engine_given arguments)
     (value_given Certificate arguments) (value_given Journal arguments)) ≡ solve_tested (meant_by input arguments)
 tested (Grid names) arguments = refl
 tested (Tiles board) arguments = refl
@@ -145,19 +160,32 @@ solve_is_tested input arguments are =
     solve_is arguments are.each are.distinct (solve_fits input arguments are) (kind_word input) (first_file input)
     (ap (word_at Kind solve_places) are.placed ∙ kind_at input) (ap (word_at FirstFile solve_places) are.placed ∙ first_at input)
     ∙ (ap (λ ws. with_kind (kind_of_text (Some (kind_word input)))
-    (solve_with (Some (first_file input)) (word_at SecondFile solve_places ws) (options_given arguments) (settings_given arguments)
+    (solve_with (Some (first_file input)) (word_at SecondFile solve_places ws) (options_given arguments) (settings_given arguments) (engine_given arguments)
     (value_given Certificate arguments) (value_given Journal arguments))) are.placed ∙ tested input arguments)
 
 -- ---- the tests
 
-pub passes : (m : SolveMeaning) → m.settings.den ≤ m.settings.num → are_one_name m.certificate m.journal ≡ false → solve_tested m ≡ Read (Solve m)
-passes m weight names = rw (le-ltb m.settings.num m.settings.den weight, names) refl
+pub passes : (m : SolveMeaning) → m.settings.den ≤ m.settings.num → are_one_name m.certificate m.journal ≡ false → is_journal_of_owners m.engine m.journal ≡ false → solve_tested m ≡ Read (Solve m)
+passes m weight names kept = rw (le-ltb m.settings.num m.settings.den weight, names, kept) refl
 
 pub low_weight : (m : SolveMeaning) → m.settings.num < m.settings.den → solve_tested m ≡ Refused fault.Weight
 low_weight m weight = rw (lt-ltb m.settings.num m.settings.den weight) refl
 
 pub one_name : (m : SolveMeaning) → m.settings.den ≤ m.settings.num → are_one_name m.certificate m.journal ≡ true → solve_tested m ≡ Refused fault.Names
 one_name m weight names = rw (le-ltb m.settings.num m.settings.den weight, names) refl
+
+pub other_engine : (m : SolveMeaning) → m.settings.den ≤ m.settings.num → are_one_name m.certificate m.journal ≡ false → is_journal_of_owners m.engine m.journal ≡ true → solve_tested m ≡ Refused fault.Engine
+other_engine m weight names lost = rw (le-ltb m.settings.num m.settings.den weight, names, lost) refl
+
+pub kept_journal : (e : Engine) (journal : Option Text) → (e ≡ Owners → journal ≡ None) → is_journal_of_owners e journal ≡ false
+kept_journal Leases journal kept = refl
+kept_journal Owners None kept = refl
+kept_journal Owners (Some name) kept = absurd (apart (kept refl)) where
+  apart : Some name ≡ None → ⊥
+  apart e = cc
+
+pub lost_journal : (given journal : Option Text) (name : Text) → given ≡ Some (codes "hda") → journal ≡ Some name → is_journal_of_owners (engine_of given) journal ≡ true
+lost_journal given journal name e f = rw (e, f) refl
 
 pub two_names : (a b : Option Text) → ((name : Text) → a ≡ Some name → b ≡ Some name → ⊥) → are_one_name a b ≡ false
 two_names None b apart = refl
@@ -172,6 +200,8 @@ same_names a b name e f = rw (e, f) ((bytes_eq-Decides name name).1 refl)
 
 -- the law
 pub solve_reads : (input : InputNames) (arguments : List Argument) → AreOfSolve input arguments → number_given Den arguments ≤ number_given Num arguments → HaveTwoNames arguments
+    → HaveKeptJournal arguments
     → reading_of_words (codes "solve" ∷ words_of arguments) ≡ Read (Solve (meant_by input arguments))
-solve_reads input arguments are weight names =
+solve_reads input arguments are weight names kept =
     solve_is_tested input arguments are ∙ passes (meant_by input arguments) weight (two_names (value_given Certificate arguments) (value_given Journal arguments) names)
+    (kept_journal (engine_given arguments) (value_given Journal arguments) kept)

@@ -25,7 +25,7 @@ use Rattle.pb_command.specs.declared.table.ValuedOption.{ValuedOption}
 use Rattle.pb_command.specs.declared.table.ValuedOption.TheVariants.{Row}
 use Rattle.pb_command.specs.declared.table.FlagOption.{FlagOption}
 use Rattle.pb_command.specs.declared.table.FlagOption.TheVariants.{Plain, Swamp}
-use Rattle.pb_command.specs.Table.{Form, Number, FileName, OneOf, option_name, option_form, flag_name, solve_options, solve_flags, check_options, check_flags, journal_options, make_options}
+use Rattle.pb_command.specs.Table.{Form, Number, FileName, OneOf, option_name, option_form, flag_name, is_value, solve_options, solve_flags, check_options, check_flags, journal_options, make_options}
 use Rattle.pb_command.specs.Options.{option_word, is_same, is_value_of, flag_word, is_same_flag}
 
 -- ---- the words that their place tells
@@ -193,9 +193,14 @@ place_reading JournalFile = refl
 place_reading Seed = refl
 place_reading Size = refl
 
-pub option_accepts : (o : ValuedOption) (value : Text) → accepts false (option_parser o) value ≡ is_value_of o value
-option_accepts Row value = refl
-option_accepts _ value = refl
+-- clap takes each value of a form, and of numbers no other
+form_accepts : (f : Form) (value : Text) → is_value f value ≡ true → accepts false (parser_by f) value ≡ true
+form_accepts (Number range) value is = is
+form_accepts FileName value is = refl
+form_accepts (OneOf words) value is = refl
+
+pub option_accepts : (o : ValuedOption) (value : Text) → is_value_of o value ≡ true → accepts false (option_parser o) value ≡ true
+option_accepts o value is = form_accepts (option_form o) value is
 
 -- ---- the rules as clap has built them
 
@@ -330,9 +335,9 @@ module _ (s : Shape) where
       → (settled s.rules (held_flag s f h)).rows ≡ with_values (flag_id f) AsWritten CommandLine (codes "true" ∷ []) (without (flag_id f) (settled s.rules h).rows)
   flag_rows f h = refl
 
-  pub valued_faultless : (o : ValuedOption) (value : Text) (h : Held) → HasOption s o → is_value_of o value ≡ true → has_row (option_id o) (settled s.rules h).rows ≡ false
+  pub valued_faultless : (o : ValuedOption) (value : Text) (h : Held) → HasOption s o → accepts false (option_parser o) value ≡ true → has_row (option_id o) (settled s.rules h).rows ≡ false
       → settle_fault s.rules false (held_with s (option_id o) value h) ≡ []
-  valued_faultless o value h has fits none = rw (has.by_id, none, option_accepts o value, fits) refl
+  valued_faultless o value h has fits none = rw (has.by_id, none, fits) refl
 
   pub placed_faultless : (p : Place) (word : Text) (h : Held) (i : ℕ) → HasPlace s i p → accepts false (place_parser p) word ≡ true → has_row (place_id p) (settled s.rules h).rows ≡ false
       → settle_fault s.rules false (held_with s (place_id p) word h) ≡ []

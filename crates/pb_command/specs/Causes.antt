@@ -33,6 +33,7 @@ solve_meant s = record {
   input = input_meant s.input;
   options = s.options;
   settings = s.settings;
+  engine = s.engine;
   certificate = option_map (λ t. t.now) s.certificate;
   journal = option_map (λ t. t.now) s.journal;
 }
@@ -43,6 +44,7 @@ check_meant s =
       input = input_meant s.input;
       certificate = s.certificate.now;
       options = s.options;
+      workers = s.workers;
       rewrite = option_map (λ t. t.now) s.rewrite;
     }
 
@@ -89,6 +91,7 @@ abbrev pub IsPrinted : CommandFault → List ℕ → Type 0
 IsPrinted fault.Files text = IsLine (codes "words files") text
 IsPrinted fault.Weight text = IsLine (codes "words weight") text
 IsPrinted fault.Names text = IsLine (codes "words names") text
+IsPrinted fault.Engine text = IsLine (codes "words engine") text
 IsPrinted fault.Size text = IsLine (codes "words size") text
 IsPrinted fault.Form text = IsErrorText text
 IsPrinted fault.Kind text = IsErrorText text

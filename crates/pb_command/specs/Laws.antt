@@ -1,16 +1,9 @@
 -- The laws of this crate. Each is proved, as the contract of the public function that has its name.
-use Rattle.std.specs.Prelude.{◌≡◌, ℕ, List, [], ◌∷◌, true, false, codes}
+use Rattle.std.specs.Prelude.{◌≡◌, ℕ, List, [], ◌∷◌, false, codes}
 use Rattle.pb_command.specs.Names.{IsName}
 use Rattle.std.specs.Str.{bytes_eq}
-use Rattle.pb_command.specs.Table.{OneOf, is_value}
 use Rattle.pb_command.specs.Meaning.{Refused, reading_of_words}
 use Rattle.pb_command.specs.declared.refusal.CommandFault.TheVariants as fault
-
--- a value of an option with words is one of them
-abbrev pub WordsAreCompared : Type 0
-WordsAreCompared =
-    (is_value (OneOf (codes "one" ∷ codes "other" ∷ [])) (codes "other") ≡ true)
-    × (is_value (OneOf (codes "one" ∷ codes "other" ∷ [])) (codes "others") ≡ false)
 
 abbrev pub OneFileIsRefused : Type 0
 OneFileIsRefused =
@@ -44,6 +37,12 @@ abbrev pub WeightComesBeforeNames : Type 0
 WeightComesBeforeNames = (board : List ℕ) → IsName board
     → reading_of_words (codes "solve" ∷ codes "tiles" ∷ board ∷ codes "--den" ∷ codes "2"
     ∷ codes "--cert" ∷ codes "c" ∷ codes "--trace" ∷ codes "c" ∷ []) ≡ Refused fault.Weight
+
+-- the names are tested before the engine
+abbrev pub NamesComeBeforeEngine : Type 0
+NamesComeBeforeEngine = (board : List ℕ) → IsName board
+    → reading_of_words (codes "solve" ∷ codes "tiles" ∷ board ∷ codes "--engine" ∷ codes "hda"
+    ∷ codes "--cert" ∷ codes "c" ∷ codes "--trace" ∷ codes "c" ∷ []) ≡ Refused fault.Names
 
 abbrev pub WeightOfOneHalfIsRefused : Type 0
 WeightOfOneHalfIsRefused = (map scenario : List ℕ) → IsName map → IsName scenario

@@ -5,6 +5,8 @@ use Rattle.clap.specs.Words.{Kinds, Row, Text, fault_of, first_of, subcommand_of
 use Rattle.pb_machine.specs.declared.settings.Settings.{Settings}
 use Rattle.pb_machine.specs.Settings.{AreInRange}
 use Rattle.pb_task.specs.declared.kind.Kind.{Kind}
+use Rattle.pb_command.specs.declared.command.Engine.{Engine}
+use Rattle.pb_command.specs.declared.command.Engine.TheVariants.{Owners}
 use Rattle.pb_command.specs.declared.command.InputOptions.{InputOptions}
 use Rattle.pb_command.specs.declared.table.ValuedOption.{ValuedOption}
 use Rattle.pb_command.specs.declared.table.ValuedOption.TheVariants.{Row as ScenarioRow, Workers, Num, Den, Budget, Lot, Blocks, Pattern, Certificate, Journal as JournalName, Rewrite}
@@ -12,25 +14,27 @@ use Rattle.pb_command.specs.declared.table.FlagOption.{FlagOption}
 use Rattle.pb_command.specs.declared.table.FlagOption.TheVariants.{Plain, Swamp}
 use Rattle.pb_command.specs.Parser.{the_program, seed_most}
 use Rattle.pb_command.specs.Table.{IsInRangeOf, solve_options, check_options, journal_options, make_options}
-use Rattle.pb_command.specs.Values.{InputNames, kind_of_text, input_of, values_fit, number_at, text_at, flag_at, seed_of, size_of, least_size, most_size, is_size, are_one_name, is_loaded_name}
+use Rattle.pb_command.specs.Values.{InputNames, kind_of_text, input_of, values_fit, number_at, text_at, flag_at, engine_at, seed_of, size_of, least_size, most_size, is_size, are_one_name, is_journal_of_owners, is_loaded_name}
 use Rattle.pb_command.specs.declared.refusal.CommandFault.{CommandFault}
 use Rattle.pb_command.specs.declared.refusal.CommandFault.TheVariants as fault
 
--- `solve`: the task and how its files are read, and what the search is run with. The names of the
--- certificate and of the journal, if they are given.
+-- `solve`: the task and how its files are read, what the search is run with, and how it searches.
+-- The names of the certificate and of the journal, if they are given.
 pub record SolveMeaning : Type 0 where
   pub input : InputNames
   pub options : InputOptions
   pub settings : Settings
+  pub engine : Engine
   pub certificate : Option Text
   pub journal : Option Text
 
--- `check`: the task and how its files are read, the certificate's name, and the name under which it
--- is saved anew, if one is given
+-- `check`: the task and how its files are read, the certificate's name, and how many workers judge
+-- its rows. The name under which it is saved anew, if one is given.
 pub record CheckMeaning : Type 0 where
   pub input : InputNames
   pub certificate : Text
   pub options : InputOptions
+  pub workers : ℕ
   pub rewrite : Option Text
 
 -- `journal`: the task and how its files are read, and the journal's name
@@ -93,22 +97,25 @@ settings_by number flag = record {
 
 -- ---- `solve`
 
--- a weight below 1 is a fault, and then one name for the certificate and the journal
+-- a weight below 1 is a fault, then one name for the certificate and the journal, and then a
+-- journal of the engine that keeps none
 abbrev pub solve_tested : SolveMeaning → Reading
 solve_tested solve = if nat_lt solve.settings.num solve.settings.den then Refused fault.Weight
     else (if are_one_name solve.certificate solve.journal then Refused fault.Names
-    else Read (Solve solve))
+    else (if is_journal_of_owners solve.engine solve.journal then Refused fault.Engine
+    else Read (Solve solve)))
 
 -- clap sees to it that a required word is there
-abbrev pub solve_with : Option Text → Option Text → InputOptions → Settings
+abbrev pub solve_with : Option Text → Option Text → InputOptions → Settings → Engine
     → (certificate journal : Option Text) → Kind → Reading
-solve_with None second options settings certificate journal kind = Refused fault.Form
-solve_with (Some first) second options settings certificate journal kind =
+solve_with None second options settings engine certificate journal kind = Refused fault.Form
+solve_with (Some first) second options settings engine certificate journal kind =
     with_input (input_of kind first second)
     (λ input. solve_tested (record {
       input = input;
       options = options;
       settings = settings;
+      engine = engine;
       certificate = certificate;
       journal = journal;
     }))
@@ -118,7 +125,7 @@ solve_of rows = if_fit (values_fit solve_options rows)
     (with_kind (kind_of_text (first_of (codes "KIND") rows))
     (solve_with (first_of (codes "FIRST_FILE") rows) (first_of (codes "SECOND_FILE") rows)
     (options_by (number_at rows) (flag_at rows)) (settings_by (number_at rows) (flag_at rows))
-    (text_at rows Certificate) (text_at rows JournalName)))
+    (engine_at rows) (text_at rows Certificate) (text_at rows JournalName)))
 
 -- ---- `check` and `journal`
 
@@ -128,24 +135,25 @@ check_tested check =
     if is_loaded_name check.rewrite check.certificate check.input then Refused fault.Names
     else Read (Check check)
 
-abbrev pub check_with : Option Text → Option Text → Option Text → InputOptions
+abbrev pub check_with : Option Text → Option Text → Option Text → InputOptions → (workers : ℕ)
     → (rewrite : Option Text) → Kind → Reading
-check_with (Some certificate) (Some first) second options rewrite kind =
+check_with (Some certificate) (Some first) second options workers rewrite kind =
     with_input (input_of kind first second)
     (λ input. check_tested (record {
       input = input;
       certificate = certificate;
       options = options;
+      workers = workers;
       rewrite = rewrite;
     }))
-check_with _ _ _ _ _ kind = Refused fault.Form
+check_with _ _ _ _ _ _ kind = Refused fault.Form
 
 abbrev pub check_of : List Row → Reading
 check_of rows = if_fit (values_fit check_options rows)
     (with_kind (kind_of_text (first_of (codes "KIND") rows))
     (check_with (first_of (codes "CERTIFICATE") rows) (first_of (codes "FIRST_FILE") rows)
     (first_of (codes "SECOND_FILE") rows) (options_by (number_at rows) (flag_at rows))
-    (text_at rows Rewrite)))
+    (number_at rows Workers) (text_at rows Rewrite)))
 
 abbrev pub journal_with : Option Text → Option Text → Option Text → InputOptions → Kind → Reading
 journal_with (Some journal) (Some first) second options kind =
@@ -211,11 +219,17 @@ pub record AreEachInRange (settings : Settings) : Type 0 where
   pub pattern : IsInRangeOf Pattern settings.pattern
 
 -- The row and the settings lie in their ranges, the weight is at least 1, and certificate and
--- journal have two names.
+-- journal have two names. Of the engine that keeps none no journal is asked for.
 pub record IsSolveInRange (solve : SolveMeaning) : Type 0 where
   pub row : IsInRangeOf ScenarioRow solve.options.row
   pub settings : AreInRange solve.settings
   pub names : are_one_name solve.certificate solve.journal ≡ false
+  pub engine : solve.engine ≡ Owners → solve.journal ≡ None
+
+-- the row and the number of workers lie in their ranges
+pub record IsCheckInRange (check : CheckMeaning) : Type 0 where
+  pub row : IsInRangeOf ScenarioRow check.options.row
+  pub workers : IsInRangeOf Workers check.workers
 
 -- the numbers of `make` lie in their ranges, the size in that of its kind
 pub record IsMakeInRange (make : MakeMeaning) : Type 0 where
@@ -226,6 +240,6 @@ pub record IsMakeInRange (make : MakeMeaning) : Type 0 where
 -- the values of a command lie in their ranges
 abbrev pub IsInRange : Meaning → Type 0
 IsInRange (Solve solve) = IsSolveInRange solve
-IsInRange (Check check) = IsInRangeOf ScenarioRow check.options.row
+IsInRange (Check check) = IsCheckInRange check
 IsInRange (Journal journal) = IsInRangeOf ScenarioRow journal.options.row
 IsInRange (Make make) = IsMakeInRange make

@@ -12,13 +12,15 @@ use Rattle.pb_task.specs.declared.kind.Kind.TheVariants as kind
 use Rattle.pb_task.specs.Kinds.{kind_name}
 use Rattle.pb_machine.specs.declared.settings.Settings.{Settings}
 use Rattle.pb_machine.specs.Settings.{standard}
+use Rattle.pb_command.specs.declared.command.Engine.{Engine}
+use Rattle.pb_command.specs.declared.command.Engine.TheVariants.{Leases, Owners}
 use Rattle.pb_command.specs.declared.command.InputOptions.{InputOptions}
 use Rattle.pb_command.specs.declared.table.ValuedOption.{ValuedOption}
-use Rattle.pb_command.specs.declared.table.ValuedOption.TheVariants.{Row, Workers, Num, Den, Certificate, Journal, Rewrite}
+use Rattle.pb_command.specs.declared.table.ValuedOption.TheVariants.{Row, Workers, Engine as EngineOption, Num, Den, Certificate, Journal, Rewrite}
 use Rattle.pb_command.specs.declared.table.FlagOption.{FlagOption}
 use Rattle.pb_command.specs.Names.{IsName}
 use Rattle.pb_command.specs.Table.{Form, Number, FileName, OneOf, option_name, option_form, flag_name, is_value, solve_options, solve_flags, check_options, check_flags, journal_options, make_options}
-use Rattle.pb_command.specs.Values.{InputNames, Grid, Tiles, Strips}
+use Rattle.pb_command.specs.Values.{InputNames, Grid, Tiles, Strips, engine_of}
 use Rattle.pb_command.specs.Meaning.{Read, Refused, Solve, Check, Journal as JournalCommand, Make, options_by, settings_by, reading_of_words}
 use Rattle.pb_command.specs.declared.refusal.CommandFault.TheVariants as fault
 
@@ -95,6 +97,10 @@ abbrev pub settings_given : List Argument → Settings
 settings_given arguments =
     settings_by (λ option. number_given option arguments) (λ flag. flag_given flag arguments)
 
+-- the engine whose word is given, and else the default
+abbrev pub engine_given : List Argument → Engine
+engine_given arguments = engine_of (value_given EngineOption arguments)
+
 -- no option and no flag is given twice
 abbrev pub AreDistinct : List Argument → Type 0
 AreDistinct [] = Unit {0}
@@ -170,15 +176,21 @@ HaveTwoNames arguments =
     (name : Text) → value_given Certificate arguments ≡ Some name
     → value_given Journal arguments ≡ Some name → ⊥
 
+-- no journal is asked for of the engine that keeps none
+abbrev pub HaveKeptJournal : List Argument → Type 0
+HaveKeptJournal arguments = engine_given arguments ≡ Owners → value_given Journal arguments ≡ None
+
 -- `solve` with the kind and its files, and with options anywhere among them, searches this task
 -- with their values.
 abbrev pub SolveReadsOptions : Type 0
 SolveReadsOptions = (input : InputNames) (arguments : List Argument) → AreOfSolve input arguments
     → number_given Den arguments ≤ number_given Num arguments → HaveTwoNames arguments
+    → HaveKeptJournal arguments
     → reading_of_words (codes "solve" ∷ words_of arguments) ≡ Read (Solve (record {
       input = input;
       options = options_given arguments;
       settings = settings_given arguments;
+      engine = engine_given arguments;
       certificate = value_given Certificate arguments;
       journal = value_given Journal arguments;
     }))
@@ -186,6 +198,17 @@ SolveReadsOptions = (input : InputNames) (arguments : List Argument) → AreOfSo
 -- Without options, the settings are the standard ones.
 abbrev pub DefaultsAreStandard : Type 0
 DefaultsAreStandard = settings_given [] ≡ standard
+
+-- And the search is by leases.
+abbrev pub DefaultEngineIsLeases : Type 0
+DefaultEngineIsLeases = engine_given [] ≡ Leases
+
+-- The values of `--engine` are these two words.
+abbrev pub EngineHasTwoWords : Type 0
+EngineHasTwoWords =
+    (word : Text) → (is_value_of EngineOption word ≡ true
+    → (word ≡ codes "pbnf") ⊎ (word ≡ codes "hda"))
+    × ((word ≡ codes "pbnf") ⊎ (word ≡ codes "hda") → is_value_of EngineOption word ≡ true)
 
 -- A weight below 1 is refused, wherever the options are.
 abbrev pub LowWeightIsRefused : Type 0
@@ -201,6 +224,15 @@ OneNameIsRefused =
     → value_given Certificate arguments ≡ Some name → value_given Journal arguments ≡ Some name
     → reading_of_words (codes "solve" ∷ words_of arguments) ≡ Refused fault.Names
 
+-- And if the names are two, a journal of the engine that keeps none is refused.
+abbrev pub JournalOfOwnersIsRefused : Type 0
+JournalOfOwnersIsRefused =
+    (input : InputNames) (name : Text) (arguments : List Argument) → AreOfSolve input arguments
+    → number_given Den arguments ≤ number_given Num arguments → HaveTwoNames arguments
+    → value_given EngineOption arguments ≡ Some (codes "hda")
+    → value_given Journal arguments ≡ Some name
+    → reading_of_words (codes "solve" ∷ words_of arguments) ≡ Refused fault.Engine
+
 -- the name is one of these
 abbrev pub IsAmong : Text → List Text → Type 0
 IsAmong name [] = ⊥
@@ -212,8 +244,8 @@ HasNewName input certificate arguments =
     (name : Text) → value_given Rewrite arguments ≡ Some name
     → IsAmong name (certificate ∷ file_words input) → ⊥
 
--- `check` with the kind, the certificate and the files, and with a row, a new name and the flag for
--- swamp anywhere among them, checks that certificate for this task.
+-- `check` with the kind, the certificate and the files, and with options anywhere among them,
+-- checks that certificate for this task with their values.
 abbrev pub CheckReadsOptions : Type 0
 CheckReadsOptions =
     (input : InputNames) (certificate : Text) (arguments : List Argument)
@@ -224,6 +256,7 @@ CheckReadsOptions =
       input = input;
       certificate = certificate;
       options = options_given arguments;
+      workers = number_given Workers arguments;
       rewrite = value_given Rewrite arguments;
     }))
 
@@ -285,7 +318,8 @@ OtherSizeIsRefused =
     → (IsSizeOf k (number_of size) → ⊥)
     → reading_of_words (codes "make" ∷ words_of arguments) ≡ Refused fault.Size
 
--- An option whose number isn't in its range is refused for its form.
+-- An option is refused for its form if its number isn't in its range, or its word is none of its
+-- words.
 abbrev pub OutOfRangeIsRefused : Type 0
 OutOfRangeIsRefused = (input : InputNames) (arguments : List Argument) → AreOfSolve input arguments
     → (option : ValuedOption) (value : Text) → IsName value → is_value_of option value ≡ false

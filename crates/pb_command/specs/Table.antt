@@ -1,13 +1,15 @@
 -- The options of all commands, in one table: the name of each, and what a value of it is. For a
--- number that is its range, and the number if the option isn't given. After the table stands which
--- command has which options.
+-- number that is its range, and the number if the option isn't given. For a word it is the list of
+-- words. After the table stands which command has which options.
 use Rattle.std.specs.Prelude.{ℕ, ◌≤◌, ⊤, Bool, true, List, [], ◌∷◌, codes}
 use Rattle.std.specs.List.{list_any}
 use Rattle.std.specs.Str.{bytes_eq}
 use Rattle.clap.specs.Words.{Text}
 use Rattle.clap.specs.ValueTests.{is_unsigned_in}
+use Rattle.pb_command.specs.declared.command.Engine.{Engine}
+use Rattle.pb_command.specs.declared.command.Engine.TheVariants.{Leases, Owners}
 use Rattle.pb_command.specs.declared.table.ValuedOption.{ValuedOption}
-use Rattle.pb_command.specs.declared.table.ValuedOption.TheVariants.{Row, Workers, Num, Den, Budget, Lot, Blocks, Pattern, Certificate, Journal, Rewrite}
+use Rattle.pb_command.specs.declared.table.ValuedOption.TheVariants.{Row, Workers, Engine as EngineOption, Num, Den, Budget, Lot, Blocks, Pattern, Certificate, Journal, Rewrite}
 use Rattle.pb_command.specs.declared.table.FlagOption.{FlagOption}
 use Rattle.pb_command.specs.declared.table.FlagOption.TheVariants.{Plain, Swamp}
 
@@ -17,8 +19,7 @@ pub record Range : Type 0 where
   pub most : ℕ
   pub default : ℕ
 
--- What a value of an option is: a number in a range, the name of a file, or one of some words. No
--- option has words yet.
+-- what a value of an option is: a number in a range, the name of a file, or one of some words
 pub data Form : Type 0 where
   Number : Range → Form
   FileName : Form
@@ -36,14 +37,24 @@ number name least most default =
 abbrev pub file_name : Text → Entry
 file_name name = record { name = name; form = FileName }
 
--- The table: the row of the scenario, how many workers search, the numerator and the denominator of
--- the weight, and how many expansions a search may do, at most 2^40. How many expansions a lease
--- gets at most, at most 2^20, and how many blocks the abstract graph has at most. The number of the
--- pattern database, 0 for none. The names under which the certificate and the journal are saved,
--- and under which a certificate that was accepted is saved anew.
+abbrev pub word : Text → List Text → Entry
+word name words = record { name = name; form = OneOf words }
+
+-- the word for an engine
+abbrev pub engine_word : Engine → Text
+engine_word Leases = codes "pbnf"
+engine_word Owners = codes "hda"
+
+-- The table: the row of the scenario, how many workers search or judge, and the engine of a search.
+-- The numerator and the denominator of the weight, and how many expansions a search may do, at most
+-- 2^40. How many expansions a lease gets at most, at most 2^20, and how many blocks the abstract
+-- graph has at most. The number of the pattern database, 0 for none. The names under which the
+-- certificate and the journal are saved, and under which a certificate that was accepted is saved
+-- anew.
 abbrev pub entry_of : ValuedOption → Entry
 entry_of Row = number (codes "row") 0 1000000 0
 entry_of Workers = number (codes "workers") 1 64 1
+entry_of EngineOption = word (codes "engine") (engine_word Leases ∷ engine_word Owners ∷ [])
 entry_of Num = number (codes "num") 1 1000 1
 entry_of Den = number (codes "den") 1 1000 1
 entry_of Budget = number (codes "budget") 1 1099511627776 16777216
@@ -69,13 +80,14 @@ flag_name Swamp = codes "swamp"
 
 abbrev pub solve_options : List ValuedOption
 solve_options =
-    Row ∷ Workers ∷ Num ∷ Den ∷ Budget ∷ Lot ∷ Blocks ∷ Pattern ∷ Certificate ∷ Journal ∷ []
+    Row ∷ Workers ∷ EngineOption ∷ Num ∷ Den ∷ Budget ∷ Lot ∷ Blocks ∷ Pattern ∷ Certificate
+    ∷ Journal ∷ []
 
 abbrev pub solve_flags : List FlagOption
 solve_flags = Plain ∷ Swamp ∷ []
 
 abbrev pub check_options : List ValuedOption
-check_options = Row ∷ Rewrite ∷ []
+check_options = Row ∷ Workers ∷ Rewrite ∷ []
 
 abbrev pub check_flags : List FlagOption
 check_flags = Swamp ∷ []

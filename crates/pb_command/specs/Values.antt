@@ -8,13 +8,16 @@ use Rattle.clap.specs.ValueTests.{is_unsigned_in}
 use Rattle.pb_task.specs.declared.kind.Kind.{Kind}
 use Rattle.pb_task.specs.declared.kind.Kind.TheVariants as kind
 use Rattle.pb_task.specs.Kinds.{kind_name}
+use Rattle.pb_command.specs.declared.command.Engine.{Engine}
+use Rattle.pb_command.specs.declared.command.Engine.TheVariants.{Leases, Owners}
 use Rattle.pb_command.specs.declared.table.ValuedOption.{ValuedOption}
+use Rattle.pb_command.specs.declared.table.ValuedOption.TheVariants.{Engine as EngineOption}
 use Rattle.pb_command.specs.declared.table.FlagOption.{FlagOption}
 use Rattle.pb_command.specs.declared.table.ValueForm.{ValueForm}
 use Rattle.pb_command.specs.declared.table.ValueForm.TheVariants as forms
 use Rattle.pb_command.specs.declared.table.TableEntry.{TableEntry}
 use Rattle.pb_command.specs.Parser.{seed_most, size_word_most}
-use Rattle.pb_command.specs.Table.{Form, Number, FileName, OneOf, Entry, option_name, option_form, flag_name, is_value}
+use Rattle.pb_command.specs.Table.{Form, Number, FileName, OneOf, Entry, engine_word, option_name, option_form, flag_name, is_value}
 
 -- the names of the files of a grid
 pub record GridNames : Type 0 where
@@ -62,6 +65,7 @@ abbrev pub form_meant : ValueForm → Form
 form_meant (forms.Number least most default) =
     Number (record { least = least; most = most; default = default })
 form_meant forms.FileName = FileName
+form_meant (forms.OneOf first second) = OneOf (first.now ∷ second.now ∷ [])
 
 abbrev pub entry_meant : TableEntry → Entry
 entry_meant e = record { name = e.name.now; form = form_meant e.form }
@@ -70,16 +74,27 @@ entry_meant e = record { name = e.name.now; form = form_meant e.form }
 abbrev pub HasDefault : ValueForm → Type 0
 HasDefault (forms.Number least most default) = (least ≤ default) × (default ≤ most)
 HasDefault forms.FileName = ⊤
+HasDefault (forms.OneOf first second) = ⊤
 
 -- whether the value of an option, if it is given, is one of this form
 abbrev pub fits : Form → Option Text → Bool
 fits f given = option_map_or (λ text. is_value f text) given true
 
+-- the text of a value: a number is read from the text by clap, and a name or a word is the text
+abbrev pub text_by : Form → Text → List Row → Option Text
+text_by (Number range) name rows = one_of name rows
+text_by FileName name rows = first_of name rows
+text_by (OneOf words) name rows = first_of name rows
+
+-- whether the value of this option is of its form
+abbrev pub option_fits : ValuedOption → List Row → Bool
+option_fits option rows =
+    fits (option_form option) (text_by (option_form option) (option_name option) rows)
+
 -- whether the values of these options are of their forms
 abbrev pub values_fit : List ValuedOption → List Row → Bool
 values_fit [] rows = true
-values_fit (option ∷ options) rows =
-    fits (option_form option) (one_of (option_name option) rows) && values_fit options rows
+values_fit (option ∷ options) rows = option_fits option rows && values_fit options rows
 
 -- the number that a value writes, or else this one
 abbrev pub number_or : (default : ℕ) → Option ℕ → ℕ
@@ -100,6 +115,15 @@ number_at rows option = number_read (option_form option) (one_of (option_name op
 -- the text of an option, if it is given
 abbrev pub text_at : List Row → ValuedOption → Option Text
 text_at rows option = first_of (option_name option) rows
+
+-- The engine that a word names, and the default if none is given. A word that names none is
+-- refused, and the default stands for it here.
+abbrev pub engine_of : Option Text → Engine
+engine_of None = Leases
+engine_of (Some word) = if bytes_eq word (engine_word Owners) then Owners else Leases
+
+abbrev pub engine_at : List Row → Engine
+engine_at rows = engine_of (text_at rows EngineOption)
 
 -- a seed from 0 to 2^32 - 1
 abbrev pub seed_of : List Row → Option ℕ
@@ -135,6 +159,11 @@ is_size k n = nat_le (least_size k) n && nat_le n (most_size k)
 abbrev pub are_one_name : Option Text → Option Text → Bool
 are_one_name (Some a) (Some b) = bytes_eq a b
 are_one_name _ _ = false
+
+-- whether a journal is asked for of the engine that keeps none
+abbrev pub is_journal_of_owners : Engine → (journal : Option Text) → Bool
+is_journal_of_owners Owners (Some name) = true
+is_journal_of_owners _ _ = false
 
 -- whether a file of the task has this name
 abbrev pub is_input_name : InputNames → Text → Bool

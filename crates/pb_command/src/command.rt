@@ -41,6 +41,18 @@ pub struct InputOptions {
     pub swamp: bool,
 }
 
+/// How a task is searched.
+#[derive(Clone, Copy)]
+pub enum Engine {
+    /// `--engine pbnf`: by leases of blocks (parallel best-NBlock-first search: Burns, Lemons, Ruml
+    /// and Zhou, "Best-First Heuristic Search for Multicore Machines", 2010).
+    Leases,
+    /// `--engine hda`: by owners of states, who send each other letters (hash-distributed A*:
+    /// Kishimoto, Fukunaga and Botea, "Scalable, Parallel Best-First Search for Optimal Sequential
+    /// Planning", 2009).
+    Owners,
+}
+
 /// `solve KIND FILE [FILE]` and its options.
 #[derive(Clone, Copy)]
 pub struct SolveCommand<'a> {
@@ -50,10 +62,12 @@ pub struct SolveCommand<'a> {
     pub options: InputOptions,
     /// What the search is run with. Its weight is at least 1.
     pub settings: Settings,
+    /// `--engine WORD`: how the task is searched.
+    pub engine: Engine,
     /// `--cert NAME`: the name under which the certificate is to be saved, if one is given.
     pub certificate: Option<&'a str>,
     /// `--trace NAME`: the name under which the journal is to be saved, if one is given. It isn't
-    /// the certificate's.
+    /// the certificate's. By owners a search keeps no journal, so then none is given.
     pub journal: Option<&'a str>,
 }
 
@@ -66,8 +80,11 @@ pub struct CheckCommand<'a> {
     pub certificate: &'a str,
     /// How the files of the task are read.
     pub options: InputOptions,
-    /// `--rewrite NAME`: the name under which the certificate is to be saved in version 2, if one is
-    /// given and the certificate is accepted. It isn't that of a file that is loaded.
+    /// `--workers W`: how many workers judge the rows of the certificate: 1 to 64.
+    pub workers: u64,
+    /// `--rewrite NAME`: the name under which the certificate is to be saved, if one is given and
+    /// the certificate is accepted. One of version 1 is saved in version 2, one of version 2 or 3
+    /// as it is. The name isn't that of a file that is loaded.
     pub rewrite: Option<&'a str>,
 }
 

@@ -1,21 +1,24 @@
 ghost use Rattle.pb_command.specs.Options.{SolveReadsOptions, LowWeightIsRefused, OneNameIsRefused};
+ghost use Rattle.pb_command.specs.Options.{JournalOfOwnersIsRefused};
 ghost use Rattle.pb_command.specs.Options.{CheckReadsOptions, LoadedNameIsRefused, JournalReadsOptions};
 ghost use Rattle.pb_command.specs.Options.{MakeReadsOptions, OtherSizeIsRefused};
 ghost use Rattle.pb_command.specs.Options.{OutOfRangeIsRefused, GivenTwiceIsRefused};
 ghost use Rattle.pb_command.specs.Options.{FlagTwiceIsRefused, HelpIsRefused};
-ghost use Rattle.pb_command.specs.Options.{DefaultsAreStandard};
+ghost use Rattle.pb_command.specs.Options.{DefaultsAreStandard, DefaultEngineIsLeases};
+ghost use Rattle.pb_command.specs.Options.{EngineHasTwoWords};
 ghost use Rattle.pb_command.specs.Laws.{OneFileIsRefused, TwoBoardsAreRefused};
 ghost use Rattle.pb_command.specs.Laws.{DomainAloneIsRefused, OtherKindIsRefused};
 ghost use Rattle.pb_command.specs.Laws.{FilesComeBeforeWeight, WeightComesBeforeNames};
+ghost use Rattle.pb_command.specs.Laws.{NamesComeBeforeEngine};
 ghost use Rattle.pb_command.specs.Laws.{WeightOfOneHalfIsRefused};
 ghost use Rattle.pb_command.specs.Laws.{SideOfZeroIsRefused, SeedOutOfRangeIsRefused};
-ghost use Rattle.pb_command.specs.Laws.{WordsAreCompared};
 
-/// The defaults of the table are the standard settings of a search. Of words, which no option has
-/// yet, a value is one of them.
+/// The defaults of the table are the standard settings of a search, which is by leases. An engine
+/// has one of two words.
 pub fn options_have_forms()
     ensures defaults { DefaultsAreStandard }
-    ensures words { WordsAreCompared }
+    ensures engine { DefaultEngineIsLeases }
+    ensures words { EngineHasTwoWords }
 {}
 
 /// The options and the flags give `solve` their values, anywhere among the kind and its files. An
@@ -24,15 +27,16 @@ pub fn solve_reads_options()
     ensures { SolveReadsOptions }
 {}
 
-/// Wherever the options of `solve` stand, a weight below 1 is refused, and so is one name for the
-/// certificate and the journal.
+/// Wherever the options of `solve` stand, these are refused, each for its own fault: a weight below
+/// 1, one name for the certificate and the journal, and a journal of a search by owners.
 pub fn solve_tests_options()
     ensures weight { LowWeightIsRefused }
     ensures names { OneNameIsRefused }
+    ensures engine { JournalOfOwnersIsRefused }
 {}
 
-/// `--row`, `--rewrite` and `--swamp` give `check` their values, anywhere among the kind, the
-/// certificate and the files. An option that isn't given has its default.
+/// `--row`, `--workers`, `--rewrite` and `--swamp` give `check` their values, anywhere among the
+/// kind, the certificate and the files. An option that isn't given has its default.
 pub fn check_reads_options()
     ensures { CheckReadsOptions }
 {}
@@ -56,8 +60,9 @@ pub fn make_reads_options()
     ensures size { OtherSizeIsRefused }
 {}
 
-/// A number out of its option's range is refused for its form. So are an option or a flag that is
-/// given twice, a word for help and a seed that is too great.
+/// A number out of its option's range is refused for its form, and so is a word that is none of its
+/// option's. So are an option or a flag that is given twice, a word for help and a seed that is too
+/// great.
 pub fn options_out_of_form_are_refused()
     ensures range { OutOfRangeIsRefused }
     ensures twice { GivenTwiceIsRefused }
@@ -66,10 +71,12 @@ pub fn options_out_of_form_are_refused()
     ensures seed { SeedOutOfRangeIsRefused }
 {}
 
-/// The number of files is tested before the weight, and the weight before the names.
+/// The number of files is tested before the weight, the weight before the names, and the names
+/// before the engine.
 pub fn tests_come_in_order()
     ensures files { FilesComeBeforeWeight }
     ensures weight { WeightComesBeforeNames }
+    ensures names { NamesComeBeforeEngine }
 {}
 
 /// Each of these is refused for its own fault: a grid with one file, tiles with two, a domain

@@ -14,7 +14,7 @@ mod table;
 mod values;
 
 pub use command::{
-    CheckCommand, CommandLine, GridFiles, Input, InputOptions, JournalCommand, MakeCommand,
+    CheckCommand, CommandLine, Engine, GridFiles, Input, InputOptions, JournalCommand, MakeCommand,
     SolveCommand, StripsFiles,
 };
 pub use files::{LoadedFile, loaded_files};

@@ -3,7 +3,7 @@ ghost use Rattle.std.specs.Prelude.{◌≡◌, ◌≢◌, true, map, IfOk, IfErr
 ghost use Rattle.std.specs.String.{string_bytes};
 ghost use Rattle.clap.specs.Words.{found_of, rows_of, kind_of, has_subcommand, subcommand_rows_of};
 ghost use Rattle.clap.specs.declared.error.kind.ErrorKind.TheVariants.{OutOfMemory};
-ghost use Rattle.pb_command.specs.declared.table.ValuedOption.TheVariants.{Row};
+ghost use Rattle.pb_command.specs.declared.table.ValuedOption.TheVariants.{Row, Workers};
 ghost use Rattle.pb_command.specs.Table.{IsInRangeOf};
 ghost use Rattle.pb_command.specs.Values.{number_at, flag_at};
 ghost use Rattle.pb_command.specs.Meaning.{reading_of_words, command_met, command_of, solve_of};
@@ -21,8 +21,8 @@ use crate::table::{
     CHECK_OPTIONS, FlagOption, JOURNAL_OPTIONS, MAKE_OPTIONS, SOLVE_OPTIONS, ValuedOption,
 };
 use crate::values::{
-    SEED_MOST, SIZE_WORD_MOST, flag_at, input_of, is_loaded_name, is_one_name, is_size, known_kind,
-    number, number_at, text, text_at, values_fit,
+    SEED_MOST, SIZE_WORD_MOST, engine_at, flag_at, input_of, is_journal_of_owners, is_loaded_name,
+    is_one_name, is_size, known_kind, number, number_at, text, text_at, values_fit,
 };
 use clap::{ArgMatches, Error};
 use pb_machine::Settings;
@@ -58,7 +58,8 @@ fn settings(matches: &ArgMatches<'_>) -> Settings
     }
 }
 
-// The command, if its weight is at least 1 and its two files have two names.
+// The command, if its weight is at least 1, its two files have two names, and its engine keeps the
+// journal that is asked for.
 fn tested_solve<'a>(command: SolveCommand<'a>) -> Result<CommandLine<'a>, CommandFault>
     requires row { IsInRangeOf Row command.options.row }
     requires range { AreEachInRange command.settings }
@@ -70,6 +71,9 @@ fn tested_solve<'a>(command: SolveCommand<'a>) -> Result<CommandLine<'a>, Comman
     }
     if is_one_name(command.certificate, command.journal) {
         return Err(CommandFault::Names);
+    }
+    if is_journal_of_owners(command.engine, command.journal) {
+        return Err(CommandFault::Engine);
     }
     Ok(CommandLine::Solve(command))
 }
@@ -84,6 +88,7 @@ fn read_solve<'a>(matches: &ArgMatches<'a>) -> Result<CommandLine<'a>, CommandFa
     let second = text(matches, "SECOND_FILE");
     let options = input_options(matches);
     let settings = settings(matches);
+    let engine = engine_at(matches);
     let certificate = text_at(matches, ValuedOption::Certificate);
     let journal = text_at(matches, ValuedOption::Journal);
     if !values_fit(matches, &SOLVE_OPTIONS) {
@@ -98,6 +103,7 @@ fn read_solve<'a>(matches: &ArgMatches<'a>) -> Result<CommandLine<'a>, CommandFa
                 input,
                 options,
                 settings,
+                engine,
                 certificate,
                 journal,
             }),
@@ -110,6 +116,7 @@ fn read_solve<'a>(matches: &ArgMatches<'a>) -> Result<CommandLine<'a>, CommandFa
 // The command, if the certificate isn't to be saved under the name of a file that is loaded.
 fn tested_check<'a>(command: CheckCommand<'a>) -> Result<CommandLine<'a>, CommandFault>
     requires row { IsInRangeOf Row command.options.row }
+    requires workers { IsInRangeOf Workers command.workers }
     ensures read { Answers meaning_of (check_tested (check_meant command.entry)) result }
     ensures ranges { IfOk result (λ c. IsInRange (meaning_of c)) }
 {
@@ -129,6 +136,7 @@ fn read_check<'a>(matches: &ArgMatches<'a>) -> Result<CommandLine<'a>, CommandFa
     let first = text(matches, "FIRST_FILE");
     let second = text(matches, "SECOND_FILE");
     let options = input_options(matches);
+    let workers = number_at(matches, ValuedOption::Workers);
     let rewrite = text_at(matches, ValuedOption::Rewrite);
     if !values_fit(matches, &CHECK_OPTIONS) {
         return Err(CommandFault::Form);
@@ -142,6 +150,7 @@ fn read_check<'a>(matches: &ArgMatches<'a>) -> Result<CommandLine<'a>, CommandFa
                 input,
                 certificate,
                 options,
+                workers,
                 rewrite,
             }),
             None => Err(CommandFault::Files),
@@ -225,6 +234,15 @@ fn read_command<'a>(name: &str, matches: &ArgMatches<'a>) -> Result<CommandLine<
     }
 }
 
+// The word that the text for this fault repeats: the one for the engine, or the one in the place of
+// the kind.
+fn repeated_word<'a>(matches: &ArgMatches<'a>, fault: CommandFault) -> Option<&'a str> {
+    match fault {
+        CommandFault::Form => text_at(matches, ValuedOption::Engine),
+        _ => text(matches, "KIND"),
+    }
+}
+
 // What the values of a subcommand ask for, or the refusal of its words.
 fn read_subcommand<'a>(
     alloc: Global,
@@ -239,7 +257,7 @@ fn read_subcommand<'a>(
 {
     match read_command(name, matches) {
         Ok(command) => Ok(command),
-        Err(fault) => Err(refuse(alloc, name, text(matches, "KIND"), fault)),
+        Err(fault) => Err(refuse(alloc, name, repeated_word(matches, fault), fault)),
     }
 }
 
@@ -257,7 +275,7 @@ fn parse<'a>(alloc: Global, words: &'a [String]) -> Result<ArgMatches<'a>, Error
 
 /// Reads the words after the program's name: the command that they are, or why they are none, with
 /// what is to be printed of it. The tests come in this order: the form, the kind, the number of
-/// files, the weight, the two names, the size.
+/// files, the weight, the two names, the engine, the size.
 pub fn read_words<'a>(alloc: Global, words: &'a [String]) -> Result<CommandLine<'a>, CommandRefusal>
     ensures read { IfOk result (λ c. reading_of_words (map string_bytes words.entry.now)
         ≡ Read (meaning_of c)) }

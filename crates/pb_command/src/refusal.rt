@@ -18,8 +18,8 @@ use std::marker::Model;
 /// Which test words fail, the first of them in this order.
 #[derive(Clone, Copy, Debug, PartialEq, Eq)]
 pub enum CommandFault {
-    /// They are not of the declared form: an unknown command or option, a number out of its range,
-    /// a word too many or too few. Words for help and for the version are refused so too.
+    /// They are not of the declared form: an unknown command, option or engine, a number out of its
+    /// range, a word too many or too few. Words for help and for the version are refused so too.
     Form,
     /// The word in the place of the kind names none.
     Kind,
@@ -29,6 +29,9 @@ pub enum CommandFault {
     Weight,
     /// The certificate and the journal would be saved under one name.
     Names,
+    /// A journal is asked for of a search by owners, which keeps none: `--engine hda` stands with
+    /// `--trace`.
+    Engine,
     /// A made task of this kind can't have this size.
     Size,
 }
@@ -204,8 +207,22 @@ fn kind_message(alloc: Global, name: &str, word: &str) -> Result<Message, AllocE
     clap_message(alloc, name, mistake.as_str())
 }
 
-// What is printed if the words of a subcommand fail a test. The word is the one in the place of the
-// kind.
+// The message of clap for words out of form that clap took. Only the word for an engine, if one is
+// given, can be wrong there.
+fn form_message(alloc: Global, name: &str, word: Option<&str>) -> Result<Message, AllocError>
+    ensures { IfOk result IsErrorText }
+{
+    let Some(word) = word else {
+        return clap_message(alloc, name, "a required value is missing");
+    };
+    let mistake = format!(in alloc;
+        "invalid value '{word}' for '--engine <engine>'\n  [possible values: pbnf, hda]"
+    )?;
+    clap_message(alloc, name, mistake.as_str())
+}
+
+// What is printed if the words of a subcommand fail a test. The word is the one for the engine if
+// they are out of form, and else the one in the place of the kind.
 pub(crate) fn message_of(
     alloc: Global,
     name: &str,
@@ -215,11 +232,12 @@ pub(crate) fn message_of(
     ensures { IfOk result (λ m. IsPrinted fault m) }
 {
     match fault {
-        CommandFault::Form => clap_message(alloc, name, "a required value is missing"),
+        CommandFault::Form => form_message(alloc, name, word),
         CommandFault::Kind => kind_message(alloc, name, word.unwrap_or("")),
         CommandFault::Files => Message::of_line(alloc, "words files"),
         CommandFault::Weight => Message::of_line(alloc, "words weight"),
         CommandFault::Names => Message::of_line(alloc, "words names"),
+        CommandFault::Engine => Message::of_line(alloc, "words engine"),
         CommandFault::Size => Message::of_line(alloc, "words size"),
     }
 }

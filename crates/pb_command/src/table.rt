@@ -1,16 +1,20 @@
 //! The options of all commands, in one table.
-ghost use Rattle.std.specs.Prelude.{◌≡◌, ◌≤◌};
-ghost use Rattle.pb_command.specs.Table.{entry_of, file_name, flag_name, number};
-ghost use Rattle.pb_command.specs.Table.{option_form, option_name};
+ghost use Rattle.std.specs.Prelude.{◌≡◌, ◌≤◌, ◌∷◌, []};
+ghost use Rattle.pb_command.specs.Table.{engine_word, entry_of, file_name, flag_name, number};
+ghost use Rattle.pb_command.specs.Table.{option_form, option_name, word};
 ghost use Rattle.pb_command.specs.Values.{entry_meant, form_meant, HasDefault};
+
+use crate::command::Engine;
 
 /// An option that has a value.
 #[derive(Clone, Copy)]
 pub enum ValuedOption {
     /// `--row K`: the row of the scenario, counted from 0.
     Row,
-    /// `--workers W`: how many workers search.
+    /// `--workers W`: how many workers search, or judge the rows of a certificate.
     Workers,
+    /// `--engine WORD`: how the task is searched.
+    Engine,
     /// `--num N`: the numerator of the weight.
     Num,
     /// `--den D`: the denominator of the weight.
@@ -42,24 +46,27 @@ pub enum FlagOption {
 
 // What a value of an option is.
 #[derive(Clone, Copy)]
-pub(crate) enum ValueForm {
+pub(crate) enum ValueForm<'a> {
     // A whole number in a range, with the number if the option isn't given.
     Number { least: u64, most: u64, default: u64 },
     // The name of a file.
     FileName,
+    // One of two words.
+    OneOf(&'a str, &'a str),
 }
 
 // A row of the table.
 #[derive(Clone, Copy)]
 pub(crate) struct TableEntry<'a> {
     name: &'a str,
-    form: ValueForm,
+    form: ValueForm<'a>,
 }
 
 // The options of each command, in the order in which clap knows them.
-pub(crate) const SOLVE_OPTIONS: [ValuedOption; 10] = [
+pub(crate) const SOLVE_OPTIONS: [ValuedOption; 11] = [
     ValuedOption::Row,
     ValuedOption::Workers,
+    ValuedOption::Engine,
     ValuedOption::Num,
     ValuedOption::Den,
     ValuedOption::Budget,
@@ -72,7 +79,11 @@ pub(crate) const SOLVE_OPTIONS: [ValuedOption; 10] = [
 
 pub(crate) const SOLVE_FLAGS: [FlagOption; 2] = [FlagOption::Plain, FlagOption::Swamp];
 
-pub(crate) const CHECK_OPTIONS: [ValuedOption; 2] = [ValuedOption::Row, ValuedOption::Rewrite];
+pub(crate) const CHECK_OPTIONS: [ValuedOption; 3] = [
+    ValuedOption::Row,
+    ValuedOption::Workers,
+    ValuedOption::Rewrite,
+];
 
 pub(crate) const CHECK_FLAGS: [FlagOption; 1] = [FlagOption::Swamp];
 
@@ -107,7 +118,31 @@ fn file_name<'a>(name: &'a str) -> TableEntry<'a>
     }
 }
 
-// The table: the name of each option, and the range of its number and the default.
+// An option with one of two words.
+fn word<'a>(name: &'a str, first: &'a str, second: &'a str) -> TableEntry<'a>
+    ensures entry { entry_meant result ≡ word name.now (first.now ∷ second.now ∷ []) }
+    ensures default { HasDefault result.form }
+{
+    TableEntry {
+        name,
+        form: ValueForm::OneOf(first, second),
+    }
+}
+
+impl Engine {
+    // The word that asks for it.
+    pub(crate) fn word<'a>(self) -> &'a str
+        ensures { result.now ≡ engine_word self }
+    {
+        match self {
+            Engine::Leases => "pbnf",
+            Engine::Owners => "hda",
+        }
+    }
+}
+
+// The table: the name of each option, and the range of its number and the default,
+// or its words.
 fn entry_of<'a>(option: ValuedOption) -> TableEntry<'a>
     ensures entry { entry_meant result ≡ entry_of option }
     ensures default { HasDefault result.form }
@@ -115,6 +150,7 @@ fn entry_of<'a>(option: ValuedOption) -> TableEntry<'a>
     match option {
         ValuedOption::Row => number("row", 0, 1_000_000, 0),
         ValuedOption::Workers => number("workers", 1, 64, 1),
+        ValuedOption::Engine => word("engine", Engine::Leases.word(), Engine::Owners.word()),
         ValuedOption::Num => number("num", 1, 1_000, 1),
         ValuedOption::Den => number("den", 1, 1_000, 1),
         ValuedOption::Budget => number("budget", 1, 1_099_511_627_776, 16_777_216),
@@ -136,7 +172,7 @@ impl ValuedOption {
     }
 
     // What a value of it is.
-    pub(crate) fn form(self) -> ValueForm
+    pub(crate) fn form<'a>(self) -> ValueForm<'a>
         ensures form { form_meant result ≡ option_form self }
         ensures default { HasDefault result }
     {

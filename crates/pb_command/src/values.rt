@@ -1,13 +1,15 @@
 //! What the values of a parse are.
-ghost use Rattle.std.specs.Prelude.{◌≡◌, ◌≤◌, IfSome, option_map};
+ghost use Rattle.std.specs.Prelude.{◌≡◌, ◌≤◌, false, None, IfSome, option_map};
 ghost use Rattle.clap.specs.Words.{first_of, found_of, one_of, rows_of};
 ghost use Rattle.pb_command.specs.Values.{number_in, flag_of, kind_of_text, input_of, is_size};
-ghost use Rattle.pb_command.specs.Values.{are_one_name, fits, values_fit, number_at};
-ghost use Rattle.pb_command.specs.Values.{text_at, flag_at, is_input_name, is_loaded_name};
-ghost use Rattle.pb_command.specs.Table.{option_form, option_name, IsInRangeOf};
+ghost use Rattle.pb_command.specs.Values.{are_one_name, option_fits, values_fit, number_at};
+ghost use Rattle.pb_command.specs.Values.{text_at, flag_at, engine_at, is_input_name};
+ghost use Rattle.pb_command.specs.Values.{is_loaded_name, is_journal_of_owners};
+ghost use Rattle.pb_command.specs.Table.{IsInRangeOf};
+ghost use Rattle.pb_command.specs.declared.command.Engine.TheVariants.{Owners};
 ghost use Rattle.pb_command.specs.Causes.{input_meant};
 
-use crate::command::{GridFiles, Input, StripsFiles};
+use crate::command::{Engine, GridFiles, Input, StripsFiles};
 use crate::table::{FlagOption, ValueForm, ValuedOption};
 use clap::ArgMatches;
 use pb_task::Kind;
@@ -63,8 +65,7 @@ fn is_given(matches: &ArgMatches<'_>, id: &str) -> bool
 
 // Whether the value of an option, if it is given, is one of the option's form.
 fn fits(matches: &ArgMatches<'_>, option: ValuedOption) -> bool
-    ensures { result ≡ fits (option_form option)
-        (one_of (option_name option) (rows_of (found_of matches.now))) }
+    ensures { result ≡ option_fits option (rows_of (found_of matches.now)) }
 {
     match option.form() {
         ValueForm::Number {
@@ -76,6 +77,10 @@ fn fits(matches: &ArgMatches<'_>, option: ValuedOption) -> bool
             None => false,
         },
         ValueForm::FileName => true,
+        ValueForm::OneOf(first, second) => match text_at(matches, option) {
+            Some(word) => first == word || second == word,
+            None => true,
+        },
     }
 }
 
@@ -104,6 +109,7 @@ pub(crate) fn number_at(matches: &ArgMatches<'_>, option: ValuedOption) -> u64
             None => default,
         },
         ValueForm::FileName => 0,
+        ValueForm::OneOf(_, _) => 0,
     }
 }
 
@@ -112,6 +118,22 @@ pub(crate) fn text_at<'a>(matches: &ArgMatches<'a>, option: ValuedOption) -> Opt
     ensures { option_map (λ t. t.now) result ≡ text_at (rows_of (found_of matches.now)) option }
 {
     text(matches, option.name())
+}
+
+// The engine that is asked for, or the default.
+pub(crate) fn engine_at(matches: &ArgMatches<'_>) -> Engine
+    ensures { result ≡ engine_at (rows_of (found_of matches.now)) }
+{
+    match text_at(matches, ValuedOption::Engine) {
+        Some(word) => {
+            if word == Engine::Owners.word() {
+                Engine::Owners
+            } else {
+                Engine::Leases
+            }
+        }
+        None => Engine::Leases,
+    }
 }
 
 // Whether a flag is given.
@@ -128,6 +150,19 @@ pub(crate) fn is_one_name(first: Option<&str>, second: Option<&str>) -> bool
 {
     match (first, second) {
         (Some(first), Some(second)) => first == second,
+        _ => false,
+    }
+}
+
+// Whether a journal is asked for of the engine that keeps none.
+pub(crate) fn is_journal_of_owners(engine: Engine, journal: Option<&str>) -> bool
+    ensures test { result
+        ≡ is_journal_of_owners engine (option_map (λ t. t.now) journal.entry) }
+    ensures none { result ≡ false → engine ≡ Owners
+        → option_map (λ t. t.now) journal.entry ≡ None }
+{
+    match (engine, journal) {
+        (Engine::Owners, Some(_)) => true,
         _ => false,
     }
 }

@@ -9,10 +9,13 @@ use Rattle.pb_abstract.specs.Laws.{BlocksAskForNoCosts}
 use Rattle.pb_journal.specs.Texts.{journal_text}
 use Rattle.pb_journal.specs.Shown.{WrittenJournalsAreAccepted}
 use Rattle.pb_journal.specs.Lengths.{most_bytes, JournalTextsAreShort}
+use Rattle.pb_command.specs.declared.command.Engine.{Engine}
+use Rattle.pb_command.specs.declared.command.Engine.TheVariants.{Leases, Owners}
 use Rattle.pb_command.specs.declared.command.InputOptions.{InputOptions}
+use Rattle.pb_command.specs.declared.table.ValuedOption.TheVariants.{Journal as JournalOption}
 use Rattle.pb_command.specs.Values.{InputNames, Grid, Tiles, Strips}
 use Rattle.pb_command.specs.Meaning.{Reading, Read, Solve, Check, Journal, SolveMeaning, CheckMeaning, JournalMeaning, reading_of_words}
-use Rattle.pb_command.specs.Options.{SolveReadsOptions, CheckReadsOptions, JournalReadsOptions}
+use Rattle.pb_command.specs.Options.{Argument, value_given, engine_given, HaveKeptJournal, SolveReadsOptions, CheckReadsOptions, JournalReadsOptions}
 use Rattle.pb_answer.specs.Outputs.{Output, output}
 use Rattle.pb_answer.specs.Loaded.{input_task, solve_task, check_task, journal_task, with_text, OfTexts}
 use Rattle.pb_answer.specs.Searches.{settings_of, choice_asked, weight_asked}
@@ -103,19 +106,19 @@ same_last first others name text other e =
 
 -- the journal that a call saved of its search
 saved_journal : WrittenJournalsAreAccepted → JournalTextsAreShort → (solve : SolveMeaning)
-    (ran : Outcome) → (ran.said.status ≡ 0) ⊎ ((ran.said.status ≡ 1) ⊎ (ran.said.status ≡ 2))
+    → solve.engine ≡ Leases → (ran : Outcome) → (ran.said.status ≡ 0) ⊎ ((ran.said.status ≡ 1) ⊎ (ran.said.status ≡ 2))
     → ran.asked ≡ Read (Solve solve) → SolveHolds solve ran → CertificateHolds ran
     → StopHasCause ran
     → OfTexts solve ran.texts (SavesJournal (Saves ran.said) solve)
-saved_journal law lengths solve ran (inl zero) is all certified stop =
+saved_journal law lengths solve engine ran (inl zero) is all certified stop =
     let found = all.one_plan zero in
-    (found.0, found.1, of_quiet law lengths solve found.0 (Saves ran.said) (Some found.2.0) found.2.6)
-saved_journal law lengths solve ran (inr (inl one)) is all certified stop =
+    (found.0, found.1, of_quiet law lengths solve engine found.0 (Saves ran.said) (Some found.2.0) found.2.6)
+saved_journal law lengths solve engine ran (inr (inl one)) is all certified stop =
     let found = none_of solve ran is certified one in
-    (found.0, found.1, of_quiet law lengths solve found.0 (Saves ran.said) None found.2)
-saved_journal law lengths solve ran (inr (inr two)) is all certified stop =
+    (found.0, found.1, of_quiet law lengths solve engine found.0 (Saves ran.said) None found.2)
+saved_journal law lengths solve engine ran (inr (inr two)) is all certified stop =
     let found = stop_of solve ran is stop two in
-    (found.0, found.1, of_stopped law lengths solve found.0 (Saves ran.said) found.2)
+    (found.0, found.1, of_stopped law lengths solve engine found.0 (Saves ran.said) found.2)
 
 -- the text that was saved last is that of the journal
 text_is : (solve : SolveMeaning) (ran : Outcome) (name text : List ℕ) → solve.journal ≡ Some name
@@ -133,8 +136,8 @@ text_is solve ran name text named saved parts mine =
 -- a saved journal is as long as its own events allow
 pub saved_journals_are_short : WrittenJournalsAreAccepted → JournalTextsAreShort
     → SavedJournalsAreShort
-saved_journals_are_short law lengths solve ran name text is named answered saved all certified stop =
-    let found = saved_journal law lengths solve ran answered is all certified stop in
+saved_journals_are_short law lengths solve ran name text engine is named answered saved all certified stop =
+    let found = saved_journal law lengths solve engine ran answered is all certified stop in
     let mine = found.2 in
     let same = text_is solve ran name text named saved found.0 mine in (
       found.0,
@@ -147,7 +150,7 @@ saved_journals_are_short law lengths solve ran name text is named answered saved
     )
 
 module _ (law : WrittenJournalsAreAccepted) (lengths : JournalTextsAreShort) (marks : SwampChangesMarksAlone)
-    (blocks : BlocksAskForNoCosts) (solve : SolveMeaning) (journal : JournalMeaning)
+    (blocks : BlocksAskForNoCosts) (solve : SolveMeaning) (engine : solve.engine ≡ Leases) (journal : JournalMeaning)
     (ran judged_ran : Outcome) (name text : List ℕ) (same_input : journal.input ≡ solve.input)
     (same_options : journal.options ≡ record solve.options { swamp = false }) (named : solve.journal ≡ Some name)
     (saved : IsSavedLast ran.said name text) (texts : judged_ran.texts ≡ text ∷ ran.texts)
@@ -176,13 +179,13 @@ module _ (law : WrittenJournalsAreAccepted) (lengths : JournalTextsAreShort) (ma
       → StopHasCause ran
       → (judged_ran.said.status ≡ 0) ⊎ IsBroken judged_ran.said.status
   any_journal answered is all certified stop =
-      let found = saved_journal law lengths solve ran answered is all certified stop in
+      let found = saved_journal law lengths solve engine ran answered is all certified stop in
       journal_accepted found.0 found.1 found.2
 
 pub saved_journals_are_accepted : WrittenJournalsAreAccepted → JournalTextsAreShort
     → SwampChangesMarksAlone → BlocksAskForNoCosts → SavedJournalsAreAccepted
-saved_journals_are_accepted law lengths marks blocks solve journal ran judged name text is same_input same_options named answered saved texts all certified stop decided =
-    any_journal law lengths marks blocks solve journal ran judged name text same_input same_options named saved
+saved_journals_are_accepted law lengths marks blocks solve journal ran judged name text engine is same_input same_options named answered saved texts all certified stop decided =
+    any_journal law lengths marks blocks solve engine journal ran judged name text same_input same_options named saved
     texts decided answered is all certified stop
 
 -- ---- by the words
@@ -227,15 +230,16 @@ module _ (words others : List (List ℕ)) (solve : SolveMeaning) (solved other :
       (subst (λ (r : Reading). IfCheck r (λ c. CheckHolds c other)) (kept_too.asked ∙ also)
       kept_too.check))
 
-  pub journal_by_words : SavedJournalsAreAccepted → (journal : JournalMeaning) (name text : List ℕ)
+  pub journal_by_words : SavedJournalsAreAccepted → solve.engine ≡ Leases
+      → (journal : JournalMeaning) (name text : List ℕ)
       → reading_of_words others ≡ Read (Journal journal) → journal.input ≡ solve.input
       → journal.options ≡ record solve.options { swamp = false } → solve.journal ≡ Some name
       → (solved.said.status ≡ 0) ⊎ ((solved.said.status ≡ 1) ⊎ (solved.said.status ≡ 2))
       → IsSavedLast solved.said name text → other.texts ≡ text ∷ solved.texts
       → AcceptsIt other.said.status
-  journal_by_words law journal name text also same_input same_options named answered saved texts =
+  journal_by_words law engine journal name text also same_input same_options named answered saved texts =
       accepts_it other.said.status
-      (law solve journal solved other name text asked_is same_input same_options named answered saved
+      (law solve journal solved other name text engine asked_is same_input same_options named answered saved
       texts all_there kept.certified kept.stopped
       (subst (λ (r : Reading). IfJournal r (λ j. JournalHolds j other)) (kept_too.asked ∙ also)
       kept_too.journal))
@@ -244,14 +248,28 @@ pub certificates_are_accepted_by_words : SolveReadsOptions → CheckReadsOptions
     → CertificatesAreAcceptedByWords
 certificates_are_accepted_by_words solve_reads check_reads input name file text arguments others solved checked matching same_swamp new named kept kept_too answered saved texts =
     certificate_by_words _ _ _ solved checked
-    (solve_reads input arguments matching.solve matching.weight matching.names) kept kept_too _ name
+    (solve_reads input arguments matching.solve matching.weight matching.names matching.kept) kept
+    kept_too _ name
     text (check_reads input file others matching.each matching.distinct matching.placed new) refl
     (ap₂ (λ row swamp. record { row = row; swamp = swamp }) matching.row same_swamp) named answered saved texts
+
+-- a journal that may be asked for is one of a search by leases
+by_leases : (arguments : List Argument) (name : List ℕ) → HaveKeptJournal arguments
+    → value_given JournalOption arguments ≡ Some name → engine_given arguments ≡ Leases
+by_leases arguments name kept named = go (engine_given arguments) kept
+  where
+    go : (engine : Engine) → (engine ≡ Owners → value_given JournalOption arguments ≡ None)
+        → engine ≡ Leases
+    go Leases none = refl
+    go Owners none =
+        let bad : ◌≡◌ {A = Option (List ℕ)} (Some name) None = sym named ∙ none refl in
+        absurd cc
 
 pub journals_are_accepted_by_words : SavedJournalsAreAccepted → SolveReadsOptions
     → JournalReadsOptions → JournalsAreAcceptedByWords
 journals_are_accepted_by_words law solve_reads journal_reads input name file text arguments others solved judged matching named kept kept_too answered saved texts =
     journal_by_words _ _ _ solved judged
-    (solve_reads input arguments matching.solve matching.weight matching.names) kept kept_too law _
+    (solve_reads input arguments matching.solve matching.weight matching.names matching.kept) kept
+    kept_too law (by_leases arguments name matching.kept named) _
     name text (journal_reads input file others matching.each matching.distinct matching.placed) refl
     (ap (λ row. record { row = row; swamp = false }) matching.row) named answered saved texts

@@ -38,7 +38,7 @@ broken_is_other n k less (inl e) f = omega (arith, less, e, f)
 broken_is_other n k less (inr (inl e)) f = omega (arith, less, e, f)
 broken_is_other n k less (inr (inr e)) f = omega (arith, less, e, f)
 
-answer_not : (n : ℕ) → IsAnswer n → IsBroken n → ⊥
+pub answer_not : (n : ℕ) → IsAnswer n → IsBroken n → ⊥
 answer_not n (inl k) broken = broken_is_other n 0 (omega arith) broken k
 answer_not n (inr (inl k)) broken = broken_is_other n 1 (omega arith) broken k
 answer_not n (inr (inr (inl k))) broken = broken_is_other n 2 (omega arith) broken k

@@ -14,4 +14,10 @@ mod Clauses
 mod Accepted
 mod Stating
 mod InMemory
+mod Lengths
+mod Rows
+mod MailRows
 mod Rooms
+mod LeftRows
+mod SolveRooms
+mod MadeRooms

@@ -1,7 +1,7 @@
--- A `check` of a valid certificate and a `journal` of a legal one are served with little room.
-use Rattle.std.proofs.Common.{◌≡◌, inl, inr, ℕ, ◌+◌, ◌^◌, ◌<◌, ◌≤◌, Option, None, Some, List, [], ◌∷◌, ◌++◌, length, Result, codes, sym, ap, subst, ◌∙◌, arith, mul-le-mul_right}
+-- A `check` of a valid certificate and a `journal` of a legal one are served with little room. What
+-- all such laws share is here too.
+use Rattle.std.proofs.Common.{◌≡◌, inl, inr, ℕ, ◌^◌, ◌<◌, ◌≤◌, Option, None, Some, List, [], ◌∷◌, ◌++◌, length, Result, codes, sym, ap, subst, ◌∙◌, arith, mul-le-mul_right}
 use Rattle.std.specs.Fmt.{decimal}
-use Rattle.std.proofs.lemmas.Fmt.{length-decimal-le}
 use Rattle.std.proofs.lemmas.List.{length-append}
 use Rattle.pb_model.specs.Plan.{Plan}
 use Rattle.pb_model.specs.Weight.{Weight, IsWeight}
@@ -26,18 +26,9 @@ use Rattle.pb_run.specs.Served.{CanHandOut, CanServe}
 use Rattle.pb_run.specs.InMemory.{HasRoomFor}
 use Rattle.pb_run.specs.Rooms.{HasTextsAndLine, ChecksAreServed, JournalsAreServed}
 use Rattle.pb_run.proofs.InMemory.{can_load, can_hold}
+use Rattle.pb_run.proofs.Lengths.{line_long, spaced_long, number_long}
 
 -- ---- how long reports are
-
-line_long : (text : List ℕ) → length (line text) ≡ length text + 1
-line_long text = length-append text (10 ∷ [])
-
-spaced_long : (first second : List ℕ)
-    → length (spaced first second) ≡ length first + (1 + length second)
-spaced_long first second = let sum = length-append first (32 ∷ second) in omega (arith, sum)
-
-number_long : (n : ℕ) → n < 2 ^ 63 → length (decimal n) ≤ 19
-number_long n small = length-decimal-le 19 n (omega arith) (omega (arith, small)) (omega (arith, small))
 
 accepted_long : (cost bound : ℕ) → cost < 2 ^ 63 → bound < 2 ^ 63
     → length (line (spaced (codes "accepted cost") (spaced (decimal cost)
@@ -107,7 +98,7 @@ same_texts texts others e = cc
 
 module _ (reading : Reading) (shelf : ShelfView) (sink : SinkView) (texts : List (List ℕ))
     (has : HasTextsAndLine reading shelf sink texts) where
-  serves : CanHandOut reading texts (HasRoom shelf) (CanTake sink)
+  pub serves : CanHandOut reading texts (HasRoom shelf) (CanTake sink)
       → CanServe reading (Some (file_of shelf)) (HasFile shelf) (HasRoom shelf) (CanTake sink)
   serves hands = (
     can_load shelf sink has.none_fails has.none_fails_to_put (files_of reading) has.files,
@@ -116,7 +107,7 @@ module _ (reading : Reading) (shelf : ShelfView) (sink : SinkView) (texts : List
         (same_texts texts others (sym has.texts_are ∙ loaded)) hands,
   )
 
-  takes : (n : ℕ) → n ≤ 64 → CanTake sink n
+  pub takes : (n : ℕ) → n ≤ 64 → CanTake sink n
   takes n few = let line = has.line in (has.none_fails_to_put, omega (arith, few, line))
 
   holds : (outputs : List Output) → CanHold (HasRoomFor shelf) outputs

@@ -1,6 +1,6 @@
 -- What is answered of a command line and of the texts that were loaded of its files.
 use Rattle.std.specs.Prelude.{◌≡◌, ◌⊎◌, ℕ, List, []}
-use Rattle.pb_command.specs.Meaning.{Reading, Refused, Read, Solve, Check, Journal, Make, MakeMeaning, reading_of_words}
+use Rattle.pb_command.specs.Meaning.{Reading, Refused, Read, Solve, Check, Journal, Make, MakeMeaning}
 use Rattle.pb_command.specs.Causes.{IsPrinted}
 use Rattle.pb_answer.specs.Loaded.{solve_task, check_task, journal_task}
 use Rattle.pb_answer.specs.Answer.{Said, Says, Saves, IsFound, IsChecked, IsJudged, OrRefused}
@@ -26,7 +26,3 @@ AnswersReading (Read (Check check)) texts said =
 AnswersReading (Read (Journal journal)) texts said =
     OrRefused (journal_task journal texts) (λ task. IsJudged task.0 task.1) said
 AnswersReading (Read (Make make)) texts said = IsMade make said
-
--- this is answered of the words and of the texts that were loaded
-abbrev pub Answers : (words texts : List (List ℕ)) → Said → Type 0
-Answers words texts said = AnswersReading (reading_of_words words) texts said

@@ -8,11 +8,12 @@ use Rattle.pb_task.specs.declared.parts.TaskParts.{TaskParts}
 use Rattle.pb_task.specs.Widths.{width_of}
 use Rattle.pb_command.specs.Values.{InputNames}
 use Rattle.pb_command.specs.Meaning.{Read, Solve, SolveMeaning, CheckMeaning, JournalMeaning, reading_of_words}
+use Rattle.pb_command.specs.declared.command.Engine.TheVariants.{Leases}
 use Rattle.pb_command.specs.declared.table.ValuedOption.{ValuedOption}
 use Rattle.pb_command.specs.declared.table.ValuedOption.TheVariants.{Row, Num, Den, Pattern, Certificate, Journal as JournalOption}
 use Rattle.pb_command.specs.declared.table.FlagOption.{FlagOption}
 use Rattle.pb_command.specs.declared.table.FlagOption.TheVariants.{Swamp}
-use Rattle.pb_command.specs.Options.{Argument, words_of, placed_words, value_given, number_given, flag_given, AreDistinct, IsArgumentOf, is_of_check, is_of_journal, is_flag_of_check, no_flag, kind_word, file_words, options_given, AreOfSolve, HaveTwoNames, HasNewName}
+use Rattle.pb_command.specs.Options.{Argument, words_of, placed_words, value_given, number_given, flag_given, AreDistinct, IsArgumentOf, is_of_check, is_of_journal, is_flag_of_check, no_flag, kind_word, file_words, options_given, AreOfSolve, HaveTwoNames, HaveKeptJournal, HasNewName}
 use Rattle.pb_journal.specs.Lengths.{most_bytes}
 use Rattle.pb_answer.specs.Outputs.{Output, output}
 use Rattle.pb_answer.specs.Loaded.{OfTexts, input_task}
@@ -44,13 +45,14 @@ SavedCertificatesAreAccepted =
     → SolveHolds solve solved → CertificateHolds solved → CheckHolds check checked
     → (checked.said.status ≡ 0) ⊎ IsBroken checked.said.status
 
--- A call searched a task, answered a plan, none or a stop, and saved a journal under a name.
--- Another call judges the text of that journal, which was loaded whole, for the same input and row,
--- with swamp or without. It accepts it, unless it answers nothing.
+-- A call searched a task by leases, answered a plan, none or a stop, and saved a journal under a
+-- name. Another call judges the text of that journal, which was loaded whole, for the same input
+-- and row, with swamp or without. It accepts it, unless it answers nothing.
 abbrev pub SavedJournalsAreAccepted : Type 0
 SavedJournalsAreAccepted =
     (solve : SolveMeaning) (journal : JournalMeaning) (solved judged : Outcome)
-    (name text : List ℕ) → solved.asked ≡ Read (Solve solve) → journal.input ≡ solve.input
+    (name text : List ℕ) → solve.engine ≡ Leases
+    → solved.asked ≡ Read (Solve solve) → journal.input ≡ solve.input
     → journal.options ≡ record solve.options { swamp = false } → solve.journal ≡ Some name
     → (solved.said.status ≡ 0) ⊎ ((solved.said.status ≡ 1) ⊎ (solved.said.status ≡ 2))
     → IsSavedLast solved.said name text → judged.texts ≡ text ∷ solved.texts
@@ -58,12 +60,12 @@ SavedJournalsAreAccepted =
     → JournalHolds journal judged
     → (judged.said.status ≡ 0) ⊎ IsBroken judged.said.status
 
--- A call searched a task, answered a plan, none or a stop, and saved a journal under a name. The
--- text is a journal of the task, and no longer than its own events allow: 79 bytes, and 26 for each
--- event.
+-- A call searched a task by leases, answered a plan, none or a stop, and saved a journal under a
+-- name. The text is a journal of the task, and no longer than its own events allow: 79 bytes, and
+-- 26 for each event.
 abbrev pub SavedJournalsAreShort : Type 0
 SavedJournalsAreShort =
-    (solve : SolveMeaning) (solved : Outcome) (name text : List ℕ)
+    (solve : SolveMeaning) (solved : Outcome) (name text : List ℕ) → solve.engine ≡ Leases
     → solved.asked ≡ Read (Solve solve) → solve.journal ≡ Some name
     → (solved.said.status ≡ 0) ⊎ ((solved.said.status ≡ 1) ⊎ (solved.said.status ≡ 2))
     → IsSavedLast solved.said name text
@@ -82,15 +84,16 @@ pub record Keeps (words : List (List ℕ)) (it : Outcome) : Type 0 where
   pub check : ChecksHold it
   pub journal : JournalsHold it
 
--- Arguments of `solve` for this input, with options in any order. Also arguments of a command with
--- these options and flags, `check` or `journal`, for the same input and the same row, with this
--- file beside it.
+-- Arguments of `solve` for this input, with options in any order, for either engine. Also arguments
+-- of a command with these options and flags, `check` or `journal`, for the same input and the same
+-- row, with this file beside it.
 pub record AreMatching (input : InputNames) (has_option : ValuedOption → Bool)
     (has_flag : FlagOption → Bool) (file : List ℕ) (arguments others : List Argument)
     : Type 0 where
   pub solve : AreOfSolve input arguments
   pub weight : number_given Den arguments ≤ number_given Num arguments
   pub names : HaveTwoNames arguments
+  pub kept : HaveKeptJournal arguments
   pub each : AllByRecursion (IsArgumentOf has_option has_flag) others
   pub distinct : AreDistinct others
   pub placed : placed_words others ≡ kind_word input ∷ file ∷ file_words input
@@ -162,7 +165,8 @@ abbrev pub CertificatesStateTheirPattern : Type 0
 CertificatesStateTheirPattern =
     (input : InputNames) (name text : List ℕ) (arguments : List Argument) (solved : Outcome)
     → AreOfSolve input arguments → number_given Den arguments ≤ number_given Num arguments
-    → HaveTwoNames arguments → value_given Certificate arguments ≡ Some name
+    → HaveTwoNames arguments → HaveKeptJournal arguments
+    → value_given Certificate arguments ≡ Some name
     → Keeps (codes "solve" ∷ words_of arguments) solved
     → (solved.said.status ≡ 0) ⊎ (solved.said.status ≡ 1)
     → IsSavedFirst solved.said name text

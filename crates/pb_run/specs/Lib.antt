@@ -7,6 +7,7 @@ pub use Rattle.pb_outside.specs.Outside
 pub mod Makes
 pub mod Answers
 pub mod Asked
+pub mod Read
 pub mod Loads
 pub mod Calls
 pub mod Handing

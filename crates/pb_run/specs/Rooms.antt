@@ -1,13 +1,19 @@
--- What files and output in memory need so that a `check` of a valid certificate and a `journal` of
--- a legal one are served: little room. What a search saves is as long as its own rows and events, so
--- `fits` of `AnswersIfServed` says what it needs.
-use Rattle.std.specs.Prelude.{◌≡◌, ℕ, ◌^◌, ◌<◌, Some, List, [], length, Ok}
+-- What files and output in memory need so that a call is served. A `check` of a valid certificate,
+-- a `journal` of a legal one, and a `make` need little room. A `solve` needs room for the rows and
+-- the events that its budget allows. Those of one search are far fewer, and `fits` of
+-- `AnswersIfServed` says what these need.
+use Rattle.std.specs.Prelude.{◌≡◌, ℕ, ◌+◌, ◌*◌, ◌^◌, ◌<◌, ◌≤◌, Some, IfSome, List, [], length, Ok}
+use Rattle.pb_machine.specs.declared.settings.Settings.{Settings}
 use Rattle.pb_outside.specs.Memory.{ShelfView, SinkView, file_of, HasFile, HasRoom, CanTake}
 use Rattle.pb_task.specs.declared.parts.TaskParts.{TaskParts}
+use Rattle.pb_task.specs.Parts.{space_of, IsTask, action_name}
+use Rattle.pb_task.specs.Widths.{width_of}
+use Rattle.pb_yard.specs.Length.{most_events}
+use Rattle.pb_journal.specs.Lengths.{most_bytes}
 use Rattle.pb_check.specs.declared.fault.Verdict.{Verdict}
 use Rattle.pb_check.specs.Shown.{IsAccepted}
-use Rattle.pb_command.specs.Meaning.{Reading, Read, Check, Journal, CheckMeaning, JournalMeaning}
-use Rattle.pb_answer.specs.Loaded.{check_task, journal_task}
+use Rattle.pb_command.specs.Meaning.{Reading, Read, Solve, Check, Journal, Make, SolveMeaning, CheckMeaning, JournalMeaning, MakeMeaning, IsSolveInRange}
+use Rattle.pb_answer.specs.Loaded.{solve_task, check_task, journal_task}
 use Rattle.pb_answer.specs.Claims.{rewritten_outputs}
 use Rattle.pb_answer.specs.Journals.{IsJournalOf}
 use Rattle.pb_run.specs.Asked.{files_of}
@@ -47,4 +53,61 @@ JournalsAreServed =
     → journal_task journal texts ≡ Ok (parts, text) → IsJournalOf parts text events
     → length text < 2 ^ 63
     → CanServe (Read (Journal journal)) (Some (file_of shelf)) (HasFile shelf) (HasRoom shelf)
+    (CanTake sink)
+
+-- No room is needed on the shelf.
+abbrev pub MakesAreServed : Type 0
+MakesAreServed =
+    (make : MakeMeaning) (shelf : ShelfView) (sink : SinkView)
+    → HasTextsAndLine (Read (Make make)) shelf sink []
+    → CanServe (Read (Make make)) (Some (file_of shelf)) (HasFile shelf) (HasRoom shelf)
+    (CanTake sink)
+
+-- ---- the room of a search
+
+-- How many rows a search leaves at most: that of the start, and one for each action of each
+-- expansion that the budget allows.
+abbrev pub most_rows : TaskParts → Settings → ℕ
+most_rows parts settings = 1 + (space_of parts).actions * settings.budget
+
+-- How many bytes its certificate has at most. A row has a state, a g of at most 19 digits and what
+-- became of it. A step of the plan has at most 5 digits, and there are no more steps than rows.
+abbrev pub most_of_certificate : TaskParts → Settings → ℕ
+most_of_certificate parts settings = 256 + (width_of parts + 34) * most_rows parts settings
+
+-- how many bytes its journal has at most
+abbrev pub most_of_journal : TaskParts → Settings → ℕ
+most_of_journal parts settings =
+    most_bytes (most_events (space_of parts).actions settings.budget settings.workers)
+
+-- how many bytes its report has at most, if no action's name is longer than this
+abbrev pub most_of_report : TaskParts → Settings → (longest : ℕ) → ℕ
+most_of_report parts settings longest = 128 + (longest + 1) * most_rows parts settings
+
+-- no action's name is longer than this
+abbrev pub NamesAreWithin : TaskParts → (longest : ℕ) → Type 0
+NamesAreWithin parts longest =
+    (action : ℕ) → action < (space_of parts).actions
+    → length (action_name parts action) ≤ longest
+
+-- There is room for whatever a search of this task can leave: for its certificate and its journal,
+-- each if it has a name, and for its report.
+pub record HasSearchRoom (solve : SolveMeaning) (parts : TaskParts) (longest : ℕ)
+    (shelf : ShelfView) (sink : SinkView) : Type 0 where
+  pub certificate : IfSome solve.certificate
+      (λ name. HasRoomFor shelf name (most_of_certificate parts solve.settings))
+  pub journal : IfSome solve.journal
+      (λ name. HasRoomFor shelf name (most_of_journal parts solve.settings))
+  pub report : HasRoomToPut sink (most_of_report parts solve.settings longest)
+
+-- The texts are those of a task to solve. The values of the command line are in their ranges, as
+-- those of each command line that is read.
+abbrev pub SolvesAreServed : Type 0
+SolvesAreServed =
+    (solve : SolveMeaning) (shelf : ShelfView) (sink : SinkView) (texts : List (List ℕ))
+    (parts : TaskParts) (longest : ℕ)
+    → HasTextsAndLine (Read (Solve solve)) shelf sink texts
+    → solve_task solve texts ≡ Ok parts → IsTask parts → IsSolveInRange solve
+    → NamesAreWithin parts longest → HasSearchRoom solve parts longest shelf sink
+    → CanServe (Read (Solve solve)) (Some (file_of shelf)) (HasFile shelf) (HasRoom shelf)
     (CanTake sink)

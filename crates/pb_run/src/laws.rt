@@ -5,9 +5,10 @@ ghost use Rattle.pb_run.specs.Laws.{SavedJournalsAreShort};
 ghost use Rattle.pb_run.specs.Laws.{CertificatesAreAcceptedByWords, JournalsAreAcceptedByWords};
 ghost use Rattle.pb_run.specs.Laws.{CertificatesStateTheirPattern};
 ghost use Rattle.pb_run.specs.Rooms.{ChecksAreServed, JournalsAreServed};
+ghost use Rattle.pb_run.specs.Rooms.{MakesAreServed, SolvesAreServed};
 
 use pb_abstract::blocks_ask_for_no_costs;
-use pb_check::bounds_are_least;
+use pb_check::{bounds_are_least, read_as_spelled};
 use pb_command::{check_reads_options, journal_reads_options, solve_reads_options};
 use pb_grid::swamp_changes_marks_alone;
 use pb_journal::{journal_texts_are_short, written_journals_are_accepted};
@@ -19,8 +20,9 @@ pub fn saved_certificates_are_accepted()
     ensures { SavedCertificatesAreAccepted }
 {}
 
-/// The journal that one call saves of a search is accepted by another call that judges it for the
-/// same input. This follows from the clauses `solve`, `certified`, `stopped` and `journal` of both.
+/// The journal that one call saves of a search by leases is accepted by another call that judges it
+/// for the same input. This follows from the clauses `solve`, `certified`, `stopped` and `journal`
+/// of both.
 pub fn saved_journals_are_accepted()
     ensures { SavedJournalsAreAccepted }
 {
@@ -30,8 +32,8 @@ pub fn saved_journals_are_accepted()
     blocks_ask_for_no_costs();
 }
 
-/// The journal that a call saves of a search has at most 79 bytes, and 26 for each of its own
-/// events, however many the budget allows. `journal` prints their number. This follows from the
+/// The journal that a call saves of a search by leases has at most 79 bytes, and 26 for each of its
+/// own events, however many the budget allows. `journal` prints their number. This follows from the
 /// clauses `solve`, `certified` and `stopped`.
 pub fn saved_journals_are_short()
     ensures { SavedJournalsAreShort }
@@ -41,7 +43,8 @@ pub fn saved_journals_are_short()
 }
 
 /// Saved certificates are accepted, by the words of both calls: `solve ..` with `--cert NAME`, and
-/// the matching `check ..`, whatever the order of their options.
+/// the matching `check ..`, whatever the order of their options. So it is for both engines, and for
+/// every number of workers of either call.
 pub fn certificates_are_accepted_by_words()
     ensures { CertificatesAreAcceptedByWords }
 {
@@ -81,3 +84,19 @@ pub fn checks_are_served()
 pub fn journals_are_served()
     ensures { JournalsAreServed }
 {}
+
+/// A `make` is served, so it answers 0, 1, 2 or memory ran out. This needs a line of room in the
+/// sink.
+pub fn makes_are_served()
+    ensures { MakesAreServed }
+{
+    read_as_spelled();
+}
+
+/// A `solve` of texts that spell a task is served, so it answers 0, 1, 2 or memory ran out. This
+/// needs room for the rows and the events that the budget of the words allows.
+pub fn solves_are_served()
+    ensures { SolvesAreServed }
+{
+    journal_texts_are_short();
+}

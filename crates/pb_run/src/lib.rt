@@ -6,8 +6,9 @@
 #![tactic(auto)]
 
 mod answer;
-mod files;
+mod asked;
 mod laws;
+mod lend;
 mod load;
 mod make;
 mod memory;

@@ -1,15 +1,15 @@
 //! Loading the files that the words name.
-ghost use Rattle.std.specs.Prelude.{◌≡◌, ◌≢◌, [], Err, IfOk, IfErr, map, string_bytes, option_map};
+ghost use Rattle.std.specs.Prelude.{◌≡◌, ◌≢◌, [], Err, IfOk, IfErr, map, option_map};
 ghost use Rattle.pb_outside.specs.Outside.{IfTold, KeepsAll, KeepsHolds};
 ghost use Rattle.pb_outside.specs.Calls.{LoadFailed, Notes, KeepsLoads};
-ghost use Rattle.pb_command.specs.Meaning.{reading_of_words};
 ghost use Rattle.pb_run.specs.Asked.{files_of, CanLoad};
+ghost use Rattle.pb_run.specs.Read.{reading_of};
 ghost use Rattle.pb_run.specs.Loads.{AreLoaded};
 ghost use Rattle.pb_run.specs.Contents.{LoadsAll, LoadsUpTo};
 ghost use Rattle.pb_run.specs.Files.{wanted_of, LoadsText};
 ghost use Rattle.pb_run.specs.Fit.{FaultRose, IfShelf, NotesLoad, reason_of, status_of};
 
-use crate::files::files_of;
+use crate::asked::{Asked, files_of};
 use pb_answer::{Status, Texts};
 use pb_command::LoadedFile;
 use pb_outside::{Load, Shelf};
@@ -106,22 +106,23 @@ fn load_all<H: Shelf>(
     Ok(texts)
 }
 
-/// Loads the files that the words name, in their order, up to the first that is too long.
-pub fn load_files<H: Shelf>(alloc: Global, words: &[String], shelf: &mut H) -> Result<Texts, Fault>
+/// Loads the files that a command names, in the order of its words, up to the first that is too
+/// long.
+pub fn load_files<H: Shelf>(alloc: Global, asked: &Asked<'_>, shelf: &mut H) -> Result<Texts, Fault>
     ensures texts { IfOk result (λ texts. AreLoaded (H.files shelf.old)
-        (files_of (reading_of_words (map string_bytes words.now))) texts) }
+        (files_of (reading_of asked.now)) texts) }
     ensures calls { IfOk result (λ texts. LoadsAll (H.calls shelf.old) (H.calls shelf.new)
-        (files_of (reading_of_words (map string_bytes words.now))) texts) }
+        (files_of (reading_of asked.now)) texts) }
     ensures calls_error { IfErr result (LoadsUpTo (H.calls shelf.old) (H.calls shelf.new)
-        (files_of (reading_of_words (map string_bytes words.now)))) }
+        (files_of (reading_of asked.now))) }
     ensures sure { CanLoad (H.can_load shelf.old)
-        (files_of (reading_of_words (map string_bytes words.now)))
+        (files_of (reading_of asked.now))
         → IfErr result (λ fault. IfShelf fault ⊥) }
     ensures same { IfTold (H.files shelf.old) (H.files shelf.new) KeepsAll }
     ensures holds { KeepsHolds (H.can_hold shelf.old) (H.can_hold shelf.new) }
     ensures fault { FaultRose (H.faults shelf.old) (H.faults shelf.new) result }
 {
-    match files_of(alloc, words) {
+    match files_of(alloc, asked) {
         Ok(files) => load_all(alloc, &files, shelf),
         Err(AllocError) => Err(Fault::OutOfMemory),
     }

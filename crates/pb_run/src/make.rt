@@ -1,3 +1,4 @@
+//! The answer to `make`.
 ghost use Rattle.std.specs.Prelude.{◌≡◌, IfOk};
 ghost use Rattle.pb_command.specs.Meaning.{IsInRange, Make};
 ghost use Rattle.pb_command.specs.Causes.{make_meant};

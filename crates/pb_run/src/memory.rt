@@ -1,10 +1,11 @@
 //! The program over files and output in memory: what it answers is handed out if it has room there.
-ghost use Rattle.std.specs.Prelude.{◌≡◌, [], map, string_bytes};
+ghost use Rattle.std.specs.Prelude.{◌≡◌, Some, [], map, string_bytes};
 ghost use Rattle.pb_command.specs.Meaning.{reading_of_words};
-ghost use Rattle.pb_outside.specs.Memory.{file_of};
+ghost use Rattle.pb_outside.specs.Memory.{file_of, HasFile, HasRoom, CanTake};
 ghost use Rattle.pb_run.specs.Asked.{files_of};
 ghost use Rattle.pb_run.specs.InMemory.{HaveFiles, HasRoomFor, HasRoomToPut};
-ghost use Rattle.pb_run.specs.Served.{IsHandedOutIfItFits};
+ghost use Rattle.pb_run.specs.Served.{CanServe, IsHandedOutIfItFits};
+ghost use Rattle.pb_run.specs.Whole.{IsServed};
 
 use crate::top::run;
 use pb_outside::{Gate, MemShelf, MemSink};
@@ -27,8 +28,12 @@ pub fn run_in_memory<R: Threads + Wait + Sync, G: Gate>(
     requires sink { out.old.calls.listed ≡ [] }
     requires files { HaveFiles shelf.old
         (files_of (reading_of_words (map string_bytes words.now))) }
-    ensures { IsHandedOutIfItFits (reading_of_words (map string_bytes words.now))
+    ensures fits { IsHandedOutIfItFits (reading_of_words (map string_bytes words.now))
         (file_of shelf.old) result (HasRoomFor shelf.old) (HasRoomToPut out.old) }
+    // What is served is answered: the laws on rooms say when that is.
+    ensures served { CanServe (reading_of_words (map string_bytes words.now))
+        (Some (file_of shelf.old)) (HasFile shelf.old) (HasRoom shelf.old) (CanTake out.old)
+        → IsServed (map string_bytes words.now) result (Some (file_of shelf.old)) }
 {
     run(rt, alloc, words, shelf, out, gate)
 }

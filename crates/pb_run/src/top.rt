@@ -1,3 +1,4 @@
+//! The whole program over any files and output, with its promises as clauses.
 ghost use Rattle.std.specs.Prelude.{◌≡◌, ◌⊎◌, ◌≤◌, map, string_bytes};
 ghost use Rattle.pb_command.specs.Meaning.{reading_of_words};
 ghost use Rattle.pb_outside.specs.Outside.{Rose};
@@ -10,21 +11,23 @@ ghost use Rattle.pb_run.specs.Served.{AnswersWhatFits, CanServe};
 ghost use Rattle.pb_run.specs.Whole.{CallsHold, AnswersIfServed, BreaksOnlyBy, ContentsHold};
 ghost use Rattle.pb_run.specs.Contents.{Goes, WritesPut};
 
-use crate::answer::answer_words;
+use crate::answer::answer_asked;
+use crate::asked::read_asked;
 use crate::load::load_files;
 use crate::output::{Ending, hand_out};
 use pb_answer::{SearchedStore, Status};
 use pb_grid::read_as_spelled;
 use pb_outside::{Gate, Shelf, Sink};
 use pb_tiles::readings_are_spelled;
-use std::alloc::Global;
+use std::alloc::{AllocError, Global};
 use std::sync::Wait;
 use std::thread::Threads;
 
 /// Does what the words ask with the files of a shelf, prints on a sink, and answers the exit
-/// status. A search is asked for as many workers as the words say. One worker takes no lock and
-/// waits for nobody, and more have a thread each. The gate is told of each lease, and each time
-/// before one is renewed or comes back. No clause says so.
+/// status. A search is asked for as many workers as the words say. By leases one worker takes no
+/// lock and waits for nobody, and more have a thread each. The gate is told of each lease, and each
+/// time before one is renewed or comes back. Of owners, and of workers that check a certificate, it
+/// is told before and after each part. No clause says so.
 ///
 /// The clauses speak of the calls that this call made on the shelf and the sink, and so of any
 /// shelf and sink. What they say of contents, if these are known, is last.
@@ -91,8 +94,8 @@ pub fn run<R: Threads + Wait + Sync, H: Shelf, K: Sink, G: Gate>(
     status.number()
 }
 
-// The whole way: the files that the words name are loaded, what is asked of their texts is
-// answered, and the answer is handed out. What a search leaves is kept in `kept`.
+// The whole way: the words are read, the files that they name are loaded, what is asked of their
+// texts is answered, and the answer is handed out. What a search leaves is kept in `kept`.
 fn carry_out<'a, R: Threads + Wait + Sync, H: Shelf, K: Sink, G: Gate>(
     rt: &R,
     alloc: Global,
@@ -118,11 +121,15 @@ fn carry_out<'a, R: Threads + Wait + Sync, H: Shelf, K: Sink, G: Gate>(
     ensures shelf_later { H.faults shelf.old ≤ H.faults shelf.new }
     ensures sink_later { K.faults out.old ≤ K.faults out.new }
 {
-    let texts = match load_files(alloc, words, shelf) {
+    let asked = match read_asked(alloc, words) {
+        Ok(asked) => asked,
+        Err(AllocError) => return Status::OutOfMemory,
+    };
+    let texts = match load_files(alloc, &asked, shelf) {
         Ok(texts) => texts,
         Err(fault) => return fault.status(),
     };
-    let Ok(answer) = answer_words(rt, alloc, words, &texts, gate, kept) else {
+    let Ok(answer) = answer_asked(rt, alloc, &asked, &texts, gate, kept) else {
         return Status::OutOfMemory;
     };
     match hand_out(shelf, out, &answer) {

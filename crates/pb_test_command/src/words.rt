@@ -1,6 +1,6 @@
 use pb_command::{
-    CheckCommand, CommandLine, CommandRefusal, Input, JournalCommand, MakeCommand, SolveCommand,
-    read_words,
+    CheckCommand, CommandLine, CommandRefusal, Engine, Input, JournalCommand, MakeCommand,
+    SolveCommand, read_words,
 };
 use std::alloc::{AllocError, Global};
 use std::process::Abort;
@@ -23,14 +23,21 @@ fn input_text(alloc: Global, input: &Input<'_>) -> Result<String, AllocError> {
     }
 }
 
+fn engine_text(engine: Engine) -> &'static str {
+    match engine {
+        Engine::Leases => "pbnf",
+        Engine::Owners => "hda",
+    }
+}
+
 fn solve_text(alloc: Global, command: &SolveCommand<'_>) -> Result<String, AllocError> {
     let input = input_text(alloc, &command.input)?;
     let (options, settings) = (command.options, command.settings);
     let (row, workers, num, den) = (options.row, settings.workers, settings.num, settings.den);
     let (budget, lot, blocks) = (settings.budget, settings.lot, settings.wish);
-    let pattern = settings.pattern;
+    let (pattern, engine) = (settings.pattern, engine_text(command.engine));
     let numbers = format!(in alloc;
-        "{row} {workers} {num}/{den} {budget} {lot} {blocks} {pattern}"
+        "{row} {workers} {num}/{den} {budget} {lot} {blocks} {pattern} {engine}"
     )?;
     let (plain, swamp) = (settings.plain, options.swamp);
     let (saved, noted) = (command.certificate, command.journal);
@@ -41,7 +48,8 @@ fn check_text(alloc: Global, command: &CheckCommand<'_>) -> Result<String, Alloc
     let input = input_text(alloc, &command.input)?;
     let (name, options) = (command.certificate, command.options);
     let (row, swamp, anew) = (options.row, options.swamp, command.rewrite);
-    format!(in alloc; "check {name} {input}: {row} {swamp} {anew:?}\n")
+    let workers = command.workers;
+    format!(in alloc; "check {name} {input}: {row} {workers} {swamp} {anew:?}\n")
 }
 
 fn journal_text(alloc: Global, command: &JournalCommand<'_>) -> Result<String, AllocError> {
@@ -111,43 +119,54 @@ fn answer_to_long_kind<R: Abort>(rt: &R, alloc: Global, letter: &str) -> (usize,
 
 // Options may stand anywhere after the command. Those that aren't given have their defaults. A line
 // of `solve` has the row, the workers, the weight, the budget, the lot, the blocks, the pattern
-// database, `--plain`, `--swamp` and the names of certificate and journal.
+// database, the engine, `--plain`, `--swamp` and the names of certificate and journal. A line of
+// `check` has the row, the workers, `--swamp` and the new name.
 const COMMANDS: &str = "\
-> solve grid m --row 1000000 s --budget=1099511627776 --lot 1048576 --blocks=4096 --cert c \
---workers 64 --swamp --num=1000 --plain --den 999 --trace=t --pattern 12
-solve grid m s: 1000000 64 1000/999 1099511627776 1048576 4096 12 true true Some(\"c\") Some(\"t\")
+> solve grid m --row 1000000 s --budget=1099511627776 --lot 1 --blocks=4096 --cert c \
+--workers 64 --swamp --num=1000 --plain --den 999 --trace=t --pattern 12 --engine pbnf
+solve grid m s: 1000000 64 1000/999 1099511627776 1 4096 12 pbnf true true Some(\"c\") Some(\"t\")
 > check grid c m s
-check c grid m s: 0 false None
+check c grid m s: 0 1 false None
 > check grid --swamp c m s
-check c grid m s: 0 true None
+check c grid m s: 0 1 true None
 > solve tiles --row 7 b --budget=1 --cert c
-solve tiles b: 7 1 1/1 1 256 256 0 false false Some(\"c\") None
+solve tiles b: 7 1 1/1 1 256 256 0 pbnf false false Some(\"c\") None
 > check tiles c b
-check c tiles b: 0 false None
+check c tiles b: 0 1 false None
 > check tiles --rewrite d c b
-check c tiles b: 0 false Some(\"d\")
+check c tiles b: 0 1 false Some(\"d\")
 > check grid c m s --rewrite=d --row 1
-check c grid m s: 1 false Some(\"d\")
+check c grid m s: 1 1 false Some(\"d\")
 > solve strips d --row 7 p --blocks=16 --lot 1 --cert c
-solve strips d p: 7 1 1/1 16777216 1 16 0 false false Some(\"c\") None
+solve strips d p: 7 1 1/1 16777216 1 16 0 pbnf false false Some(\"c\") None
 > check strips c d p
-check c strips d p: 0 false None
+check c strips d p: 0 1 false None
 > solve grid m s
-solve grid m s: 0 1 1/1 16777216 256 256 0 false false None None
+solve grid m s: 0 1 1/1 16777216 256 256 0 pbnf false false None None
 > solve grid m s --lot 1
-solve grid m s: 0 1 1/1 16777216 1 256 0 false false None None
+solve grid m s: 0 1 1/1 16777216 1 256 0 pbnf false false None None
 > solve grid m s --lot=1048576
-solve grid m s: 0 1 1/1 16777216 1048576 256 0 false false None None
+solve grid m s: 0 1 1/1 16777216 1048576 256 0 pbnf false false None None
 > solve tiles b --blocks 16
-solve tiles b: 0 1 1/1 16777216 256 16 0 false false None None
+solve tiles b: 0 1 1/1 16777216 256 16 0 pbnf false false None None
 > solve tiles --blocks=4096 b
-solve tiles b: 0 1 1/1 16777216 256 4096 0 false false None None
+solve tiles b: 0 1 1/1 16777216 256 4096 0 pbnf false false None None
 > solve tiles --blocks=17 b --lot=2
-solve tiles b: 0 1 1/1 16777216 2 17 0 false false None None
+solve tiles b: 0 1 1/1 16777216 2 17 0 pbnf false false None None
 > solve tiles --pattern=3 b
-solve tiles b: 0 1 1/1 16777216 256 256 3 false false None None
+solve tiles b: 0 1 1/1 16777216 256 256 3 pbnf false false None None
 > solve strips d --pattern 0 p
-solve strips d p: 0 1 1/1 16777216 256 256 0 false false None None
+solve strips d p: 0 1 1/1 16777216 256 256 0 pbnf false false None None
+> solve tiles b --engine hda
+solve tiles b: 0 1 1/1 16777216 256 256 0 hda false false None None
+> solve --engine=hda grid m s --cert c --workers 4
+solve grid m s: 0 4 1/1 16777216 256 256 0 hda false false Some(\"c\") None
+> solve strips --engine pbnf d p --trace j
+solve strips d p: 0 1 1/1 16777216 256 256 0 pbnf false false None Some(\"j\")
+> check tiles c b --workers 2
+check c tiles b: 0 2 false None
+> check grid --workers=64 c m --rewrite d s --swamp
+check c grid m s: 0 64 true Some(\"d\")
 > journal grid j --row=7 m s
 journal j grid m s: 7
 > make grid 0 2048
@@ -289,6 +308,54 @@ words weight
 > solve tiles b --cert c --trace c
 Names
 words names
+> solve tiles b --engine hda --trace j
+Engine
+words engine
+> solve --trace j grid m --engine=hda s --cert c
+Engine
+words engine
+> solve tiles b --engine hda --cert j --trace j
+Names
+words names
+> solve tiles b --engine hda --trace j --den 2
+Weight
+words weight
+> solve grid m --engine hda --trace j
+Files
+words files
+> solve tiles b --engine other
+Form
+error: invalid value 'other' for '--engine <engine>'
+  [possible values: pbnf, hda]
+
+Usage: solve [OPTIONS] <KIND> <FIRST_FILE> [SECOND_FILE]
+> solve maze b --engine hdas
+Form
+error: invalid value 'hdas' for '--engine <engine>'
+  [possible values: pbnf, hda]
+
+Usage: solve [OPTIONS] <KIND> <FIRST_FILE> [SECOND_FILE]
+> solve tiles b --engine=
+Form
+error: invalid value '' for '--engine <engine>'
+  [possible values: pbnf, hda]
+
+Usage: solve [OPTIONS] <KIND> <FIRST_FILE> [SECOND_FILE]
+> solve tiles b --engine
+Form
+error: a value is required for '--engine <engine>' but none was supplied
+> solve tiles b --engine hda --engine pbnf
+Form
+error: the argument '--engine <engine>' cannot be used multiple times
+
+Usage: solve [OPTIONS] <KIND> <FIRST_FILE> [SECOND_FILE]
+> check tiles c b --engine hda
+Form
+error: unexpected argument '--engine' found
+
+  tip: to pass '--engine' as a value, use '-- --engine'
+
+Usage: check <KIND> <CERTIFICATE> <FIRST_FILE> [SECOND_FILE]
 > solve grid m --den 2
 Files
 words files
@@ -350,13 +417,19 @@ Form
 error: unexpected value 'yes' for '--plain' found; no more were expected
 
 Usage: solve --plain <KIND> <FIRST_FILE> [SECOND_FILE]
-> check tiles c b --workers 2
+> check tiles c b --workers 0
+Form
+error: invalid value '0' for '--workers <workers>': 0 is not in 1..=64
+> check grid c m s --workers 65
+Form
+error: invalid value '65' for '--workers <workers>': 65 is not in 1..=64
+> journal tiles j b --workers 2
 Form
 error: unexpected argument '--workers' found
 
   tip: to pass '--workers' as a value, use '-- --workers'
 
-Usage: check <KIND> <CERTIFICATE> <FIRST_FILE> [SECOND_FILE]
+Usage: journal <KIND> <JOURNAL> <FIRST_FILE> [SECOND_FILE]
 ";
 
 #[test]

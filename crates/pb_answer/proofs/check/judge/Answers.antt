@@ -3,8 +3,8 @@ use Rattle.pb_check.specs.declared.fault.CertificateFault.{CertificateFault}
 use Rattle.pb_check.specs.declared.fault.Verdict.{Verdict}
 use Rattle.pb_answer.proofs.check.judge.Goals as goal
 
-pub returns-in-Err-Fault : goal.returns-in-Err-Fault
-returns-in-Err-Fault c =
+pub returns-in_ok-report-in-Err-Fault : goal.returns-in_ok-report-in-Err-Fault
+returns-in_ok-report-in-Err-Fault g c =
     inr (
       refl,
       refl,

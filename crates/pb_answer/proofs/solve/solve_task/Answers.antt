@@ -1,15 +1,17 @@
-use Rattle.std.proofs.Common.{◌∙◌}
+use Rattle.std.proofs.Common.{IfOk, subst}
+use Rattle.pb_task.specs.declared.parts.TaskParts.{TaskParts}
 use Rattle.pb_command.specs.Causes.{solve_meant}
-use Rattle.pb_answer.proofs.Certified.{found, stop_found}
+use Rattle.pb_answer.specs.Answer.{IsFound, said_of}
 use Rattle.pb_answer.proofs.solve.solve_task.Goals as goal
 
-pub returns-in-Some-Quiet : goal.returns-in-Some-Quiet
-returns-in-Some-Quiet g c =
-    found (solve_meant c.args.solve) c.deref.result.now c.args.task
-    (c.deref.ensures ∙ c.in_ok-task.ensures.ok) c.report_end.result c.report_end.ensures
+pub returns-in-Leases : goal.returns-in-Leases
+returns-in-Leases g c =
+    subst (λ (task : TaskParts). IfOk c.solve_by_leases.result
+    (λ a. IsFound (solve_meant c.args.solve) task (said_of a)))
+    c.in_ok-task.ensures.ok c.solve_by_leases.ensures
 
-pub returns-in-Some-Budget : goal.returns-in-Some-Budget
-returns-in-Some-Budget g c =
-    stop_found (solve_meant c.args.solve) c.deref-in-Some-Budget.result.now c.args.task
-    (c.deref-in-Some-Budget.ensures ∙ c.in_ok-task.ensures.ok) c.report_stop.result
-    c.report_stop.ensures
+pub returns : goal.returns
+returns g c =
+    subst (λ (task : TaskParts). IfOk c.solve_by_owners.result
+    (λ a. IsFound (solve_meant c.args.solve) task (said_of a)))
+    c.in_ok-task.ensures.ok c.solve_by_owners.ensures

@@ -1,7 +1,7 @@
 use Rattle.std.proofs.Common.{[], ◌∷◌, refl, codes}
-use Rattle.pb_command.specs.declared.table.ValuedOption.TheVariants.{Den, Certificate, Journal}
+use Rattle.pb_command.specs.declared.table.ValuedOption.TheVariants.{Engine, Den, Certificate, Journal}
 use Rattle.pb_command.specs.Options.{Placed, Valued}
-use Rattle.pb_command.proofs.Examples.{grid_name, tiles_name, two_name, letter_name}
+use Rattle.pb_command.proofs.Examples.{grid_name, tiles_name, two_name, letter_name, owners_name}
 use Rattle.pb_command.proofs.SolveReading.{solve_is}
 use Rattle.pb_command.proofs.laws.tests_come_in_order.Goals as goal
 
@@ -12,3 +12,7 @@ returns-clause-files c = λ map hm. solve_is (Placed (codes "grid") ∷ Placed m
 pub returns-clause-weight : goal.returns-clause-weight
 returns-clause-weight c = λ board hb. solve_is (Placed (codes "tiles") ∷ Placed board ∷ Valued Den (codes "2") ∷ Valued Certificate (codes "c") ∷ Valued Journal (codes "c") ∷ [])
     (tiles_name, (hb, ((refl, two_name, refl), ((refl, letter_name, refl), ((refl, letter_name, refl), tt))))) (refl, (refl, (refl, tt))) (refl, (refl, tt)) (codes "tiles") board refl refl
+
+pub returns-clause-names : goal.returns-clause-names
+returns-clause-names c = λ board hb. solve_is (Placed (codes "tiles") ∷ Placed board ∷ Valued Engine (codes "hda") ∷ Valued Certificate (codes "c") ∷ Valued Journal (codes "c") ∷ [])
+    (tiles_name, (hb, ((refl, owners_name, refl), ((refl, letter_name, refl), ((refl, letter_name, refl), tt))))) (refl, (refl, (refl, tt))) (refl, (refl, tt)) (codes "tiles") board refl refl

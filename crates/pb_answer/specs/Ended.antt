@@ -1,0 +1,34 @@
+-- What a search that came to a quiet end left, for what is reported and saved of it, whichever
+-- engine searched.
+use Rattle.std.specs.Prelude.{◌≡◌, ℕ, Option, List}
+use Rattle.pb_model.specs.Guide.{Guide}
+use Rattle.pb_model.specs.Store.{Store}
+use Rattle.pb_machine.specs.declared.event.End.TheVariants.{Quiet}
+use Rattle.pb_machine.specs.declared.event.Event.{Event}
+use Rattle.pb_task.specs.declared.parts.TaskParts.{TaskParts}
+use Rattle.pb_task.specs.Parts.{space_of}
+use Rattle.pb_estimate.specs.Estimates.{estimate_by}
+use Rattle.pb_lists.specs.Store.{guide_with, IsQuietEnd}
+use Rattle.pb_command.specs.Meaning.{SolveMeaning}
+use Rattle.pb_answer.specs.Outputs.{Output}
+use Rattle.pb_answer.specs.Searches.{settings_of, choice_asked, weight_asked}
+use Rattle.pb_answer.specs.Engines.{Left, engine_asked, SearchLeaves}
+use Rattle.pb_answer.specs.Claims.{journal_outputs_if_any}
+
+-- what a search as the words ask for it looks up, if its states have these homes
+abbrev pub guide_asked : SolveMeaning → TaskParts → (homes : ℕ → ℕ) → Guide
+guide_asked solve parts homes = guide_with (estimate_by parts (choice_asked solve)) homes
+
+abbrev pub left_with : Guide → Store → Option (List Event) → Left
+left_with guide store journal = record { guide = guide; store = store; journal = journal }
+
+-- A search of the task, as the words ask for it, came to a quiet end. It left these rows, whose
+-- states have these homes, and its journal is to be saved so.
+pub record LeavesQuietRows (solve : SolveMeaning) (parts : TaskParts) (homes : ℕ → ℕ)
+    (store : Store) (saved : List Output) : Type 0 where
+  pub end : IsQuietEnd (space_of parts) (guide_asked solve parts homes) store
+  pub weight : store.weight ≡ weight_asked solve
+  pub journal : Option (List Event)
+  pub leaves : SearchLeaves (engine_asked solve) parts (settings_of solve) Quiet
+      (left_with (guide_asked solve parts homes) store journal)
+  pub saved_is : saved ≡ journal_outputs_if_any solve.journal (settings_of solve) journal
