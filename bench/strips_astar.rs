@@ -1,9 +1,12 @@
 // A plain A* over STRIPS tasks with hmax by counters, over std's heap and map, as a yardstick for
 // the proved program: nothing here is proved. It reads the part of PDDL that the tasks of
-// bench/strips and bench/wide are written in. Usage: strips_astar DOMAIN PROBLEM. It prints the
-// cost of a cheapest plan or `none`, how many states it expanded, and how many atoms and ground
-// actions there are. Of atoms it counts those alone that an action, the start or the goal names;
-// at most 1,024 may be. A state has 4 words if they suffice, and else 16.
+// bench/strips and bench/wide are written in. Usage: strips_astar DOMAIN PROBLEM [THREADS]. It
+// prints the cost of a cheapest plan or `none`, how many states it expanded, and how many atoms and
+// ground actions there are. Of atoms it counts those alone that an action, the start or the goal
+// names; at most 1,024 may be. A state has 4 words if they suffice, and else 16. With a number of
+// threads the search is a hash-distributed A* (strips_owners.rs).
+mod strips_owners;
+
 use std::cmp::Reverse;
 use std::collections::{BinaryHeap, HashMap, HashSet};
 use std::{env, fs};
@@ -546,8 +549,13 @@ fn main() {
         &fs::read_to_string(&args[1]).expect("a domain"),
         &fs::read_to_string(&args[2]).expect("a problem"),
     );
-    let search = if task.atoms <= 256 { search::<4> } else { search::<16> };
-    let (cost, expanded) = search(&task);
+    let is_narrow = task.atoms <= 256;
+    let (cost, expanded) = match args.get(3).map(|word| word.parse().expect("a number")) {
+        None if is_narrow => search::<4>(&task),
+        None => search::<16>(&task),
+        Some(threads) if is_narrow => strips_owners::search::<4>(&task, threads),
+        Some(threads) => strips_owners::search::<16>(&task, threads),
+    };
     let cost = cost.map_or("none".to_string(), |cost| cost.to_string());
     println!("{cost} {expanded} {} {}", task.atoms, task.actions.len());
 }

@@ -68,6 +68,16 @@ class Task:
         """The same for `journal`, which no cost concerns."""
         return [*FILE_NAMES[self.kind], *["--row", str(self.row)] * bool(self.row)]
 
+    def has_too_many_atoms(self):
+        """Whether it is refused as it is: of the made tasks only wide ones may be."""
+        checker = load_checker()
+        try:
+            if self.is_wide:
+                checker.KINDS[self.kind][0](self.row, *self.texts.values())
+        except checker.Refused:
+            return True
+        return False
+
     def write(self, folder):
         for name, text in self.texts.items():
             (pathlib.Path(folder) / name).write_bytes(text)
@@ -76,6 +86,18 @@ class Task:
 def drawn_pattern(random):
     """A pattern number for `solve`, in half of the cases none."""
     return str(random.choice([0] * 8 + [1, 2, 3, 3, 4, 6, 9, 12]))
+
+
+def drawn_owners(random, most=64):
+    """Words of a search by owners (hash-distributed A*): so many workers at most, lots to 4,096."""
+    lot = random.choice([1, 2, 3, random.randint(1, 64), random.randint(1, 4096), 4096])
+    return ["--engine", "hda", "--workers", str(random.randint(1, most)), "--lot", str(lot)]
+
+
+def drawn_checkers(random):
+    """Words of a `check` by 1 to 4 workers, who judge the certificate by pieces."""
+    workers = random.randint(1, 4)
+    return ["--workers", str(workers)] if workers > 1 or random.random() < 0.5 else []
 
 
 @dataclasses.dataclass
