@@ -95,11 +95,11 @@ fn estimators_for(
     Ok(estimators)
 }
 
-// The answer of so many workers to a certificate of the map.
-fn answer<R: Threads + Sync, G: Gate>(
+/// The answer of so many workers to a certificate of the map.
+pub fn answer<R: Threads + Sync, G: Gate>(
     rt: &R,
     alloc: Global,
-    text: &str,
+    bytes: &[u8],
     workers: u64,
     piece: u64,
     gate: &G,
@@ -107,7 +107,6 @@ fn answer<R: Threads + Sync, G: Gate>(
     requires some { 1 ≤ workers }
     requires piece { 1 ≤ piece }
 {
-    let bytes = text.as_bytes();
     let task = open_square(alloc)?;
     let choice = stated_choice(bytes);
     let mut estimators = estimators_for(alloc, &task, &choice, workers)?;
@@ -154,11 +153,10 @@ fn finds_first<R: Threads + Sync>(rt: &R, alloc: Global, workers: u64, piece: u6
     requires some { 1 ≤ workers }
     requires piece { 1 ≤ piece }
 {
-    is_low(answer(rt, alloc, TWO_FAULTS, workers, piece, &OpenGate), 14)
-        && is_misspelled(
-            answer(rt, alloc, THREE_FAULTS, workers, piece, &OpenGate),
-            12,
-        )
+    let two = TWO_FAULTS.as_bytes();
+    let three = THREE_FAULTS.as_bytes();
+    is_low(answer(rt, alloc, two, workers, piece, &OpenGate), 14)
+        && is_misspelled(answer(rt, alloc, three, workers, piece, &OpenGate), 12)
 }
 
 #[test]
@@ -205,6 +203,7 @@ fn two_pieces_are_judged_at_once(rt: HostRuntime) {
         begun: AtomicBool::new(false),
         both: AtomicBool::new(false),
     };
-    assert!(rt; is_accepted(answer(&rt, rt.alloc(), SQUARE, 2, 2, &gate), 4));
+    let bytes = SQUARE.as_bytes();
+    assert!(rt; is_accepted(answer(&rt, rt.alloc(), bytes, 2, 2, &gate), 4));
     assert!(rt; gate.both.load(Ordering::SeqCst));
 }
