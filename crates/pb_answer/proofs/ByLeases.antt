@@ -21,10 +21,10 @@ module _ (solve : SolveMeaning) (engine : engine_asked solve ≡ Leases) (parts 
     (graph : GraphValue) (saved : List Output)
     (saved_is : saved ≡ journal_outputs solve.journal (settings_of solve) graph.table.journal) where
   pub quiet_rows : LeavesQuiet parts (settings_of solve) graph
-      → LeavesQuietRows solve parts (home_of graph.task graph.table.graph) (home_store graph) saved
+      → LeavesQuietRows solve parts (home_of graph.task graph.table.abstraction) (home_store graph) saved
   quiet_rows left =
       subst (λ (p : TaskParts).
-      LeavesQuietRows solve parts (home_of p graph.table.graph) (home_store graph) saved)
+      LeavesQuietRows solve parts (home_of p graph.table.abstraction) (home_store graph) saved)
       (sym left.best.task)
       (record {
         end = quiet_end parts (settings_of solve) graph left;

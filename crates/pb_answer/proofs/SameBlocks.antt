@@ -21,9 +21,9 @@ HasItsJournals one other = (text : List ℕ) (events : ℕ) → IsJournalOf one 
 -- no cost decides which blocks there are
 of_grids : BlocksAskForNoCosts → (grid : GridParts) (marks : List Bool) → HasItsJournals (parts.Grid grid) (parts.Grid (record grid { swamp = marks }))
 of_grids blocks grid marks text events is =
-    let there = blocks grid marks is.blocks.settings.wish is.graph is.blocks.graph_of is.blocks.finest in
+    let there = blocks grid marks is.blocks.settings.wish is.abstraction is.blocks.graph_of is.blocks.finest in
     record {
-      graph = is.graph;
+      abstraction = is.abstraction;
       blocks = record { settings = is.blocks.settings; header = is.blocks.header; graph_of = there.0; finest = there.1 };
       finished = is.finished;
     }

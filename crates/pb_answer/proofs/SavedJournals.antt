@@ -38,14 +38,14 @@ module _ (written : WrittenJournalsAreAccepted) (lengths : JournalTextsAreShort)
       → IsJournalOf parts (journal_text (settings_of solve) events) (length events)
   is_journal end events run =
       let ends = run.ends in
-      let legal : IsHistory (blocks_of ends.graph) (settings_of solve) 0 events ends.run.machine.counts =
+      let legal : IsHistory (blocks_of ends.abstraction) (settings_of solve) 0 events ends.run.machine.counts =
       subst (λ (j : List Event).
-      IsHistory (blocks_of ends.graph) (settings_of solve) 0 j ends.run.machine.counts)
+      IsHistory (blocks_of ends.abstraction) (settings_of solve) 0 j ends.run.machine.counts)
       (sym run.events) ends.run.legal in
-      let read = written (blocks_of ends.graph) (settings_of solve) events ends.run.machine.counts
+      let read = written (blocks_of ends.abstraction) (settings_of solve) events ends.run.machine.counts
       ends.few legal ends.run.finished in
       record {
-        graph = ends.graph;
+        abstraction = ends.abstraction;
         blocks = record {
           settings = settings_with_weight (settings_of solve) one;
           header = read.1;
@@ -66,10 +66,10 @@ module _ (written : WrittenJournalsAreAccepted) (lengths : JournalTextsAreShort)
   is_short : (end : End) (events : List Event) → SearchEnds parts (settings_of solve) end events
       → length (journal_text (settings_of solve) events) ≤ most_bytes (length events)
   is_short end events run =
-      lengths (blocks_of run.ends.graph) (settings_of solve) events run.ends.run.machine.counts
+      lengths (blocks_of run.ends.abstraction) (settings_of solve) events run.ends.run.machine.counts
       run.ends.few
       (subst (λ (j : List Event).
-      IsHistory (blocks_of run.ends.graph) (settings_of solve) 0 j run.ends.run.machine.counts)
+      IsHistory (blocks_of run.ends.abstraction) (settings_of solve) 0 j run.ends.run.machine.counts)
       (sym run.events) run.ends.run.legal)
 
   pub of_quiet : (saves : List Output → Type 0) (plan : Option Plan)

@@ -34,7 +34,7 @@ pub record Left : Type 0 where
 abbrev pub left_by_leases : {parts : TaskParts} {settings : Settings} {end : End}
     {journal : List Event} → SearchEnds parts settings end journal → Left
 left_by_leases {parts} {settings} {end} {journal} run = record {
-  guide = searched_guide parts run.ends.graph settings;
+  guide = searched_guide parts run.ends.abstraction settings;
   store = run.ends.run.machine.store;
   journal = Some journal;
 }

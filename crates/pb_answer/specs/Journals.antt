@@ -14,26 +14,27 @@ use Rattle.pb_report.specs.Texts.{journal_report, journal_fault_text}
 
 -- The text has a header, and the graph is the finest one of the task that has no more blocks than
 -- the header wishes for. A task has one at most.
-pub record IsJournalGraph (parts : TaskParts) (text : List ℕ) (graph : AbstractGraph) : Type 0 where
+pub record IsJournalGraph (parts : TaskParts) (text : List ℕ)
+    (abstraction : AbstractGraph) : Type 0 where
   pub settings : Settings
   pub header : settings_of text ≡ Ok settings
-  pub graph_of : IsGraphOf parts graph
-  pub finest : IsFinest parts settings.wish graph.projection
+  pub graph_of : IsGraphOf parts abstraction
+  pub finest : IsFinest parts settings.wish abstraction.projection
 
 -- The text is that of a finished legal history of so many events over the task's blocks, with the
 -- settings of its header.
 pub record IsJournalOf (parts : TaskParts) (text : List ℕ) (events : ℕ) : Type 0 where
-  pub graph : AbstractGraph
-  pub blocks : IsJournalGraph parts text graph
-  pub finished : IsFinishedJournal (blocks_of graph) text events
+  pub abstraction : AbstractGraph
+  pub blocks : IsJournalGraph parts text abstraction
+  pub finished : IsFinishedJournal (blocks_of abstraction) text events
 
 -- A line after the header is the first that is refused, and why. The header can be read, and over
 -- the task's blocks the lines before this one spell events that may come one after another.
 pub record IsEventFault (parts : TaskParts) (text : List ℕ) (line : ℕ) (why : Why) : Type 0 where
-  pub graph : AbstractGraph
-  pub blocks : IsJournalGraph parts text graph
-  pub is_judged : judged (blocks_of graph) text ≡ fault_at line why
-  pub first : IsFirstFault (blocks_of graph) text line why
+  pub abstraction : AbstractGraph
+  pub blocks : IsJournalGraph parts text abstraction
+  pub is_judged : judged (blocks_of abstraction) text ≡ fault_at line why
+  pub first : IsFirstFault (blocks_of abstraction) text line why
 
 -- the line is the first that is refused, in the header or after it
 abbrev pub IsJournalFault : TaskParts → (text : List ℕ) → (line : ℕ) → Why → Type 0

@@ -68,15 +68,15 @@ still_known (Some old) (Some new) kept incumbent known = kept.knows incumbent kn
 still_known None (Some new) kept incumbent known = absurd kept
 still_known (Some old) None kept incumbent known = absurd kept
 
-search_on : (task : TaskParts) (graph : AbstractGraph) (choice : Choice) (old new : Option WatchView) → Keeps old new → IfSome old (λ seen. IsOfSearch task graph choice seen) → IfSome new (λ seen. IsOfSearch task graph choice seen)
-search_on task graph choice None None kept of = tt
-search_on task graph choice (Some old) (Some new) kept of = record {
+search_on : (task : TaskParts) (abstraction : AbstractGraph) (choice : Choice) (old new : Option WatchView) → Keeps old new → IfSome old (λ seen. IsOfSearch task abstraction choice seen) → IfSome new (λ seen. IsOfSearch task abstraction choice seen)
+search_on task abstraction choice None None kept of = tt
+search_on task abstraction choice (Some old) (Some new) kept of = record {
   task_is = ap (λ (view : WatchView). view.task) kept.others ∙ of.task_is;
-  graph_is = ap (λ (view : WatchView). view.graph) kept.others ∙ of.graph_is;
+  graph_is = ap (λ (view : WatchView). view.abstraction) kept.others ∙ of.graph_is;
   choice_is = ap (λ (view : WatchView). view.choice) kept.others ∙ of.choice_is;
 }
-search_on task graph choice None (Some new) kept of = absurd kept
-search_on task graph choice (Some old) None kept of = absurd kept
+search_on task abstraction choice None (Some new) kept of = absurd kept
+search_on task abstraction choice (Some old) None kept of = absurd kept
 
 own_answers : (view : Option WatchView) → HasAnswers view (answers_of view)
 own_answers None = tt
@@ -368,16 +368,16 @@ module _ (space : Space) (guide : Guide) where
 
 -- ---- a lease at work under a watch
 
-module _ (task : TaskParts) (graph : AbstractGraph) (choice : Choice) {read_before read_after : Bool} (old new : LeaseValue) (was now : Option WatchView) (more : ℕ)
-    (turned : HasTurnedWatched (space_of task) (guide_of task graph choice) more 0 read_before read_after old was new now) where
-  at_work_after : IsAtWork task graph choice old → IsAtWork task graph choice new
+module _ (task : TaskParts) (abstraction : AbstractGraph) (choice : Choice) {read_before read_after : Bool} (old new : LeaseValue) (was now : Option WatchView) (more : ℕ)
+    (turned : HasTurnedWatched (space_of task) (guide_of task abstraction choice) more 0 read_before read_after old was new now) where
+  at_work_after : IsAtWork task abstraction choice old → IsAtWork task abstraction choice new
   at_work_after at =
       let known : Option ℕ → Bool = λ incumbent. at.known incumbent || known_by now incumbent in
-      let given : ℕ → ℕ → Store = λ block worker. lent_store (setup_of task graph choice at.settings at.reopenings) block at.machine.store (at.machine.given worker) in
-      let second = lease_work_stays (space_of task) (guide_of task graph choice) old.block more 0 0 (known_by now) known (leased_store old) (leased_store new) turned.turned.work (omega arith)
+      let given : ℕ → ℕ → Store = λ block worker. lent_store (setup_of task abstraction choice at.settings at.reopenings) block at.machine.store (at.machine.given worker) in
+      let second = lease_work_stays (space_of task) (guide_of task abstraction choice) old.block more 0 0 (known_by now) known (leased_store old) (leased_store new) turned.turned.work (omega arith)
       (λ incumbent k. or_right (at.known incumbent) (known_by now incumbent) k) in
-      let both : IsWorked (space_of task) (guide_of task graph choice) old.block (old.used + more) 0 known (given old.block old.worker) (leased_store new) =
-      (lease_work_goes_on (space_of task) (guide_of task graph choice) old.block old.used more 0 at.known known (given old.block old.worker) (leased_store old) (leased_store new)
+      let both : IsWorked (space_of task) (guide_of task abstraction choice) old.block (old.used + more) 0 known (given old.block old.worker) (leased_store new) =
+      (lease_work_goes_on (space_of task) (guide_of task abstraction choice) old.block old.used more 0 at.known known (given old.block old.worker) (leased_store old) (leased_store new)
       at.work second.0 (λ incumbent k. or_left (at.known incumbent) (known_by now incumbent) k)).0 in
       record {
         settings = at.settings;
@@ -388,49 +388,49 @@ module _ (task : TaskParts) (graph : AbstractGraph) (choice : Choice) {read_befo
         lawful = at.lawful;
         leased = ap at.machine.counts.leases turned.same.worker ∙ at.leased ∙ λ i. Some (record { block = sym turned.same.block i; quota = sym turned.same.quota i });
         known = known;
-        work = subst (λ n. IsWorked (space_of task) (guide_of task graph choice) new.block n 0 known (given new.block new.worker) (leased_store new)) (sym turned.used)
-            (subst (λ b. IsWorked (space_of task) (guide_of task graph choice) b (old.used + more) 0 known (given b new.worker) (leased_store new)) (sym turned.same.block)
-            (subst (λ w. IsWorked (space_of task) (guide_of task graph choice) old.block (old.used + more) 0 known (given old.block w) (leased_store new)) (sym turned.same.worker) both));
-        scope = scope_on task graph choice old new more at turned.same (turned.weights at.scope.weights);
+        work = subst (λ n. IsWorked (space_of task) (guide_of task abstraction choice) new.block n 0 known (given new.block new.worker) (leased_store new)) (sym turned.used)
+            (subst (λ b. IsWorked (space_of task) (guide_of task abstraction choice) b (old.used + more) 0 known (given b new.worker) (leased_store new)) (sym turned.same.block)
+            (subst (λ w. IsWorked (space_of task) (guide_of task abstraction choice) old.block (old.used + more) 0 known (given old.block w) (leased_store new)) (sym turned.same.worker) both));
+        scope = scope_on task abstraction choice old new more at turned.same (turned.weights at.scope.weights);
         choice_is = turned.same.choice ∙ at.choice_is;
       }
 
-  pub at_watch_on : IsAtWatch task graph choice was old → new.used ≤ new.quota → IsAtWatch task graph choice now new
+  pub at_watch_on : IsAtWatch task abstraction choice was old → new.used ≤ new.quota → IsAtWatch task abstraction choice now new
   at_watch_on at within = record {
-    search = search_on task graph choice was now turned.kept at.search;
+    search = search_on task abstraction choice was now turned.kept at.search;
     at_work = at_work_after at.at_work;
     watched = turned.watched;
     within = within;
   }
 
 -- turns without an expansion leave it at work under the watch
-module _ (task : TaskParts) (graph : AbstractGraph) (choice : Choice) {read_before read_after : Bool} (old new : LeaseValue) (was now : Option WatchView)
-    (turned : HasTurnedWatched (space_of task) (guide_of task graph choice) 0 0 read_before read_after old was new now) where
-  pub at_watch_still : IsAtWatch task graph choice was old → IsAtWatch task graph choice now new
-  at_watch_still at = at_watch_on task graph choice old new was now 0 turned at (omega (arith, turned.used, turned.same.quota, at.within))
+module _ (task : TaskParts) (abstraction : AbstractGraph) (choice : Choice) {read_before read_after : Bool} (old new : LeaseValue) (was now : Option WatchView)
+    (turned : HasTurnedWatched (space_of task) (guide_of task abstraction choice) 0 0 read_before read_after old was new now) where
+  pub at_watch_still : IsAtWatch task abstraction choice was old → IsAtWatch task abstraction choice now new
+  at_watch_still at = at_watch_on task abstraction choice old new was now 0 turned at (omega (arith, turned.used, turned.same.quota, at.within))
 
-module _ (task : TaskParts) (graph : AbstractGraph) (choice : Choice) (first : LeaseValue) (start : Option WatchView) (old : LeaseValue) (was : Option WatchView) (new : LeaseValue) (now : Option WatchView) where
+module _ (task : TaskParts) (abstraction : AbstractGraph) (choice : Choice) (first : LeaseValue) (start : Option WatchView) (old : LeaseValue) (was : Option WatchView) (new : LeaseValue) (now : Option WatchView) where
   -- and others may follow
-  pub then_still : {read_before read_between read_after : Bool} → IsAtWatch task graph choice start first
-      → HasTurnedWatched (space_of task) (guide_of task graph choice) 0 0 read_before read_between first start old was
-      → (IsAtWatch task graph choice was old → HasTurnedWatched (space_of task) (guide_of task graph choice) 0 0 read_between read_after old was new now)
-      → HasTurnedWatched (space_of task) (guide_of task graph choice) 0 0 read_before read_after first start new now
+  pub then_still : {read_before read_between read_after : Bool} → IsAtWatch task abstraction choice start first
+      → HasTurnedWatched (space_of task) (guide_of task abstraction choice) 0 0 read_before read_between first start old was
+      → (IsAtWatch task abstraction choice was old → HasTurnedWatched (space_of task) (guide_of task abstraction choice) 0 0 read_between read_after old was new now)
+      → HasTurnedWatched (space_of task) (guide_of task abstraction choice) 0 0 read_before read_after first start new now
   then_still at before next =
-      watched_then (space_of task) (guide_of task graph choice) 0 0 0 first start old was new now before (next (at_watch_still task graph choice first old start was before at))
+      watched_then (space_of task) (guide_of task abstraction choice) 0 0 0 first start old was new now before (next (at_watch_still task abstraction choice first old start was before at))
 
   -- how far the work has come
   pub record IsFarWatched (broken : ℕ) (read_after : Bool) : Type 0 where
-    pub turned : HasTurnedWatched (space_of task) (guide_of task graph choice) (new.used - first.used) broken false read_after first start new now
+    pub turned : HasTurnedWatched (space_of task) (guide_of task abstraction choice) (new.used - first.used) broken false read_after first start new now
     pub counted : first.used ≤ new.used
-    pub scope : HasScope graph new
+    pub scope : HasScope abstraction new
 
-  pub far_on : {read_after : Bool} → (more broken : ℕ) → IsAtWatch task graph choice was old → first.used ≤ old.used
-      → HasTurnedWatched (space_of task) (guide_of task graph choice) (old.used - first.used) 0 false false first start old was
-      → HasTurnedWatched (space_of task) (guide_of task graph choice) more broken false read_after old was new now → IsFarWatched broken read_after
+  pub far_on : {read_after : Bool} → (more broken : ℕ) → IsAtWatch task abstraction choice was old → first.used ≤ old.used
+      → HasTurnedWatched (space_of task) (guide_of task abstraction choice) (old.used - first.used) 0 false false first start old was
+      → HasTurnedWatched (space_of task) (guide_of task abstraction choice) more broken false read_after old was new now → IsFarWatched broken read_after
   far_on more broken at counted before turned = record {
-    turned = watched_far (space_of task) (guide_of task graph choice) more broken first start old was new now counted before turned;
+    turned = watched_far (space_of task) (guide_of task abstraction choice) more broken first start old was new now counted before turned;
     counted = omega (arith, turned.used, counted);
-    scope = scope_on task graph choice old new 0 at.at_work turned.same (turned.weights at.at_work.scope.weights);
+    scope = scope_on task abstraction choice old new 0 at.at_work turned.same (turned.weights at.at_work.scope.weights);
   }
 
 -- what work under a watch has done, which began with no read
@@ -442,44 +442,44 @@ as_read space guide more broken old was new now turned = record { turned = turne
 -- ---- what a turn needs
 
 -- one turn that reads nothing, under a watch that does nothing meanwhile
-pub expanded : (task : TaskParts) (graph : AbstractGraph) (choice : Choice) (old new : LeaseValue) (view : Option WatchView) (more broken : ℕ) → IsAtWatch task graph choice view old
-    → HasTurnedOnce (space_of task) (guide_of task graph choice) reads_none old.block more broken (leased_store old) (leased_store new) → IsSameLease old new → new.used ≡ old.used + more → HasWeights new
-    → new.incumbent ≡ old.incumbent → HasTurnedWatched (space_of task) (guide_of task graph choice) more broken true false old view new view
-expanded task graph choice old new view more broken at once same used weights incumbent =
-    unread_turned (space_of task) (guide_of task graph choice) old new view more broken at.watched
-    (record { turned = turned_known (space_of task) (guide_of task graph choice) reads_none (known_by view) old.block more broken (leased_store old) (leased_store new) unread once.turned; once = one })
+pub expanded : (task : TaskParts) (abstraction : AbstractGraph) (choice : Choice) (old new : LeaseValue) (view : Option WatchView) (more broken : ℕ) → IsAtWatch task abstraction choice view old
+    → HasTurnedOnce (space_of task) (guide_of task abstraction choice) reads_none old.block more broken (leased_store old) (leased_store new) → IsSameLease old new → new.used ≡ old.used + more → HasWeights new
+    → new.incumbent ≡ old.incumbent → HasTurnedWatched (space_of task) (guide_of task abstraction choice) more broken true false old view new view
+expanded task abstraction choice old new view more broken at once same used weights incumbent =
+    unread_turned (space_of task) (guide_of task abstraction choice) old new view more broken at.watched
+    (record { turned = turned_known (space_of task) (guide_of task abstraction choice) reads_none (known_by view) old.block more broken (leased_store old) (leased_store new) unread once.turned; once = one })
     same used (λ has. weights) incumbent
   where
     unread : (incumbent : Option ℕ) → IsTrue (reads_none incumbent) → IsTrue (known_by view incumbent)
     unread incumbent k = absurd (true≢false (sym k))
 
     one : (before : List (Option ℕ))
-        → copies_of (space_of task) (guide_of task graph choice) (IsWorked.works (HasTurned.work (turned_known (space_of task) (guide_of task graph choice) reads_none (known_by view) old.block more broken (leased_store old) (leased_store new) unread once.turned))) (leased_store old) before
+        → copies_of (space_of task) (guide_of task abstraction choice) (IsWorked.works (HasTurned.work (turned_known (space_of task) (guide_of task abstraction choice) reads_none (known_by view) old.block more broken (leased_store old) (leased_store new) unread once.turned))) (leased_store old) before
         ≡ old.incumbent ∷ before
     one before =
-        ap (λ works. copies_of (space_of task) (guide_of task graph choice) works (leased_store old) before)
-        (turned_known_works (space_of task) (guide_of task graph choice) reads_none (known_by view) old.block more broken (leased_store old) (leased_store new) unread once.turned)
+        ap (λ works. copies_of (space_of task) (guide_of task abstraction choice) works (leased_store old) before)
+        (turned_known_works (space_of task) (guide_of task abstraction choice) reads_none (known_by view) old.block more broken (leased_store old) (leased_store new) unread once.turned)
         ∙ once.once before
 
-module _ (task : TaskParts) (graph : AbstractGraph) (choice : Choice) (view : Option WatchView) (lease : LeaseValue) (at : IsAtWatch task graph choice view lease) (state : ℕ) (row : Row)
+module _ (task : TaskParts) (abstraction : AbstractGraph) (choice : Choice) (view : Option WatchView) (lease : LeaseValue) (at : IsAtWatch task abstraction choice view lease) (state : ℕ) (row : Row)
     (first : IsFirstRow lease.weight (own_rows lease) state row) (goal : IsTrue ((space_of task).is_goal state)) where
   -- a goal's row of the block
-  pub goal_here : HasGoalWithin (space_of task) (guide_of task graph choice) (leased_store lease) row.g
+  pub goal_here : HasGoalWithin (space_of task) (guide_of task abstraction choice) (leased_store lease) row.g
   goal_here = (
     state,
     goal,
-    (row, subst (λ block. (leased_store lease).rows block state ≡ Some row) (sym (row_is_home task graph choice lease at.at_work state row first.found)) first.found, omega arith),
+    (row, subst (λ block. (leased_store lease).rows block state ≡ Some row) (sym (row_is_home task abstraction choice lease at.at_work state row first.found)) first.found, omega arith),
   )
 
 -- its cost may be told
-pub may_tell : (task : TaskParts) (graph : AbstractGraph) (choice : Choice) (view : Option WatchView) (lease : LeaseValue) (at : IsAtWatch task graph choice view lease) (state : ℕ) (row : Row)
+pub may_tell : (task : TaskParts) (abstraction : AbstractGraph) (choice : Choice) (view : Option WatchView) (lease : LeaseValue) (at : IsAtWatch task abstraction choice view lease) (state : ℕ) (row : Row)
     → IsFirstRow lease.weight (own_rows lease) state row → IsTrue ((space_of task).is_goal state) → IfSome view (λ seen. MayTell seen lease row.g)
-may_tell task graph choice None lease at state row first goal = tt
-may_tell task graph choice (Some view) lease at state row first goal =
-    let cheap : row.g < 2 ^ 61 = row_is_cheap task graph choice lease at.at_work state row first.found at.within in
-    let here : HasGoalWithin (space_of task) (guide_of task graph choice) (leased_store lease) row.g = goal_here task graph choice (Some view) lease at state row first goal in
-    let both : IsWatched (space_of view.task) (guide_of view.task view.graph view.choice) view 0 lease × HasGoalWithin (space_of view.task) (guide_of view.task view.graph view.choice) (leased_store lease) row.g =
-    subst (λ t. IsWatched (space_of t) (guide_of t view.graph view.choice) view 0 lease × HasGoalWithin (space_of t) (guide_of t view.graph view.choice) (leased_store lease) row.g) (sym at.search.task_is)
+may_tell task abstraction choice None lease at state row first goal = tt
+may_tell task abstraction choice (Some view) lease at state row first goal =
+    let cheap : row.g < 2 ^ 61 = row_is_cheap task abstraction choice lease at.at_work state row first.found at.within in
+    let here : HasGoalWithin (space_of task) (guide_of task abstraction choice) (leased_store lease) row.g = goal_here task abstraction choice (Some view) lease at state row first goal in
+    let both : IsWatched (space_of view.task) (guide_of view.task view.abstraction view.choice) view 0 lease × HasGoalWithin (space_of view.task) (guide_of view.task view.abstraction view.choice) (leased_store lease) row.g =
+    subst (λ t. IsWatched (space_of t) (guide_of t view.abstraction view.choice) view 0 lease × HasGoalWithin (space_of t) (guide_of t view.abstraction view.choice) (leased_store lease) row.g) (sym at.search.task_is)
     (subst (λ g. IsWatched (space_of task) (guide_of task g view.choice) view 0 lease × HasGoalWithin (space_of task) (guide_of task g view.choice) (leased_store lease) row.g) (sym at.search.graph_is)
-    (subst (λ h. IsWatched (space_of task) (guide_of task graph h) view 0 lease × HasGoalWithin (space_of task) (guide_of task graph h) (leased_store lease) row.g) (sym at.search.choice_is) (at.watched, here))) in
+    (subst (λ h. IsWatched (space_of task) (guide_of task abstraction h) view 0 lease × HasGoalWithin (space_of task) (guide_of task abstraction h) (leased_store lease) row.g) (sym at.search.choice_is) (at.watched, here))) in
     record { below = omega (arith, cheap); watched = both.0; goal = both.1 }

@@ -25,20 +25,21 @@ own_rows lease = (leased_store lease).rows lease.block
 -- The lease is out in the machine of a lawful moment of a search for this task by the blocks of
 -- this graph, with estimates by this choice. Its rows come from those that it was given or last renewed with, and no expansion was
 -- broken off. Its worker may have read the incumbent after that moment.
-pub record IsAtWork (task : TaskParts) (graph : AbstractGraph) (choice : Choice)
+pub record IsAtWork (task : TaskParts) (abstraction : AbstractGraph) (choice : Choice)
     (lease : LeaseValue) : Type 0 where
   pub settings : Settings
   pub reopenings : ℕ
   pub machine : Machine
-  pub is_setup : IsSetup (setup_of task graph choice settings reopenings) greatest_cost
+  pub is_setup : IsSetup (setup_of task abstraction choice settings reopenings) greatest_cost
   pub in_range : AreInRange settings
-  pub lawful : IsLawful (setup_of task graph choice settings reopenings) machine
+  pub lawful : IsLawful (setup_of task abstraction choice settings reopenings) machine
   pub leased : machine.counts.leases lease.worker ≡ Some (grant_of lease)
   pub known : Option ℕ → Bool
-  pub work : IsWorked (space_of task) (guide_of task graph choice) lease.block lease.used 0 known
-      (lent_store (setup_of task graph choice settings reopenings) lease.block machine.store
+  pub work : IsWorked (space_of task) (guide_of task abstraction choice) lease.block lease.used 0
+      known
+      (lent_store (setup_of task abstraction choice settings reopenings) lease.block machine.store
       (machine.given lease.worker)) (leased_store lease)
-  pub scope : HasScope graph lease
+  pub scope : HasScope abstraction lease
   pub choice_is : lease.choice ≡ choice
 
 -- a worker that reads no incumbent

@@ -21,7 +21,7 @@ use Rattle.pb_expand.specs.Turned.{IsAtWork, HasTurned, copies_of, reads_none}
 -- - the least cost that it has told since the lease was given or last renewed.
 pub record WatchView : Type 0 where
   pub task : TaskParts
-  pub graph : AbstractGraph
+  pub abstraction : AbstractGraph
   pub choice : Choice
   pub lent : Option LeaseValue
   pub read : Option ℕ → Bool
@@ -54,8 +54,10 @@ pub record IsWatched (space : Space) (guide : Guide) (view : WatchView) (most_br
 -- cost as its incumbent before the cost is told. The greatest number stands for an unknown cost.
 pub record MayTell (view : WatchView) (lease : LeaseValue) (cost : ℕ) : Type 0 where
   pub below : cost < 2 ^ 64 - 1
-  pub watched : IsWatched (space_of view.task) (guide_of view.task view.graph view.choice) view 0 lease
-  pub goal : HasGoalWithin (space_of view.task) (guide_of view.task view.graph view.choice) (leased_store lease)
+  pub watched : IsWatched (space_of view.task) (guide_of view.task view.abstraction view.choice)
+      view 0 lease
+  pub goal : HasGoalWithin (space_of view.task) (guide_of view.task view.abstraction view.choice)
+      (leased_store lease)
       cost
 
 -- It is the same search and the same lent lease, what was read stays read, and the least cost
@@ -87,10 +89,10 @@ pub record HasTold (old : WatchView) (cost : ℕ) (new : WatchView) : Type 0 whe
   pub answers : new.answers ≡ old.answers
 
 -- The watch is of a search for this task, by these blocks and by this estimate.
-pub record IsOfSearch (task : TaskParts) (graph : AbstractGraph) (choice : Choice)
+pub record IsOfSearch (task : TaskParts) (abstraction : AbstractGraph) (choice : Choice)
     (view : WatchView) : Type 0 where
   pub task_is : view.task ≡ task
-  pub graph_is : view.graph ≡ graph
+  pub graph_is : view.abstraction ≡ abstraction
   pub choice_is : view.choice ≡ choice
 
 -- ---- a watch, or none: a watch without a view reads none and is told nothing
@@ -141,11 +143,11 @@ Tells None cost (Some new) = ⊥
 Tells (Some old) cost None = ⊥
 
 -- The lease may be worked on under this watch.
-pub record IsAtWatch (task : TaskParts) (graph : AbstractGraph) (choice : Choice)
+pub record IsAtWatch (task : TaskParts) (abstraction : AbstractGraph) (choice : Choice)
     (view : Option WatchView) (lease : LeaseValue) : Type 0 where
-  pub search : IfSome view (λ seen. IsOfSearch task graph choice seen)
-  pub at_work : IsAtWork task graph choice lease
-  pub watched : IsUnder (space_of task) (guide_of task graph choice) view 0 lease
+  pub search : IfSome view (λ seen. IsOfSearch task abstraction choice seen)
+  pub at_work : IsAtWork task abstraction choice lease
+  pub watched : IsUnder (space_of task) (guide_of task abstraction choice) view 0 lease
   pub within : lease.used ≤ lease.quota
 
 -- ---- a read before each turn

@@ -21,29 +21,32 @@ use std::alloc::AllocError;
 pub fn offer_all(
     task: &Task,
     estimator: &mut Estimator,
-    graph: &AbsGraph,
+    abstraction: &AbsGraph,
     lease: &mut Lease,
     succs: &[Succ],
     parent: &Packed,
     g: u64,
 ) -> Result<(), AllocError>
     requires tables { IsOfTask estimator.old task.now lease.old.choice }
-    requires graph { IsGraphOf task.now graph.now }
+    requires of_task { IsGraphOf task.now abstraction.now }
     requires proper { IsProper (space_of task.now) greatest_cost }
     requires succs { succs.now ≡ steps (space_of task.now) parent.now }
-    requires there { LeadsInto (space_of task.now) (guide_of task.now graph.now lease.old.choice) parent.now
+    requires there { LeadsInto (space_of task.now) (guide_of task.now abstraction.now
+        lease.old.choice) parent.now
         lease.old.parts }
     requires cheap { g < 2 ^ 61 }
-    ensures offers { OnOk result (HasOffers (guide_of task.now graph.now lease.old.choice) parent.now g succs.now
+    ensures offers { OnOk result (HasOffers (guide_of task.now abstraction.now lease.old.choice)
+        parent.now g succs.now
         lease.old lease.new) }
-    ensures broken { OnErr result (IsBrokenOff (guide_of task.now graph.now lease.old.choice) parent.now g succs.now
+    ensures broken { OnErr result (IsBrokenOff (guide_of task.now abstraction.now lease.old.choice)
+        parent.now g succs.now
         lease.old lease.new) }
     ensures changes { ChangesRows lease.old lease.new }
     ensures tables { IsOfTask estimator.new task.now lease.old.choice }
 {
     for succ in succs {
         let cost = g + succ.cost;
-        let block = graph.block(task, &succ.state);
+        let block = abstraction.block(task, &succ.state);
         offer(task, estimator, lease, block, succ, parent, cost)?;
     }
     Ok(())

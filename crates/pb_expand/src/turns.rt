@@ -24,22 +24,24 @@ use std::alloc::AllocError;
 pub fn expand(
     task: &Task,
     estimator: &mut Estimator,
-    graph: &AbsGraph,
+    abstraction: &AbsGraph,
     lease: &mut Lease,
     succs: &mut Vec<Succ>,
     state: &Packed,
     row: &Row,
 ) -> Result<(), AllocError>
     requires tables { IsOfTask estimator.old task.now lease.old.choice }
-    requires graph { IsGraphOf task.now graph.now }
+    requires of_task { IsGraphOf task.now abstraction.now }
     requires room { max_degree_of task.now ≤ vec_capacity succs.old }
-    requires at_work { IsAtWork task.now graph.now lease.old.choice lease.old }
+    requires at_work { IsAtWork task.now abstraction.now lease.old.choice lease.old }
     requires next { IsNext (space_of task.now) lease.old state.now row.now }
     requires left { lease.old.used < lease.old.quota }
-    ensures turned { OnOk result (HasTurnedOnce (space_of task.now) (guide_of task.now graph.now lease.old.choice)
+    ensures turned { OnOk result (HasTurnedOnce (space_of task.now)
+        (guide_of task.now abstraction.now lease.old.choice)
         reads_none lease.old.block 1 0 (leased_store lease.old) (leased_store lease.new)) }
     ensures used { OnOk result (lease.new.used ≡ lease.old.used + 1) }
-    ensures broken { OnErr result (HasTurnedOnce (space_of task.now) (guide_of task.now graph.now lease.old.choice)
+    ensures broken { OnErr result (HasTurnedOnce (space_of task.now)
+        (guide_of task.now abstraction.now lease.old.choice)
         reads_none lease.old.block 0 1 (leased_store lease.old) (leased_store lease.new)) }
     ensures unused { OnErr result (lease.new.used ≡ lease.old.used) }
     ensures opened { OnErr result (HasOpened (own_rows lease.new)) }
@@ -50,7 +52,7 @@ pub fn expand(
     ensures room { vec_capacity succs.old ≤ vec_capacity succs.new }
 {
     task.successors(state, succs);
-    offer_all(task, estimator, graph, lease, succs, state, row.g)?;
+    offer_all(task, estimator, abstraction, lease, succs, state, row.g)?;
     close(lease, state);
     lease.spend();
     Ok(())

@@ -37,7 +37,7 @@ fn take_read(lease: &mut Lease, found: Option<u64>)
     ensures { lease.new ≡ record lease.old { incumbent = lesser lease.old.incumbent found } }
 {
     if let Some(cost) = found {
-        lease.take_bound(cost);
+        lease.lower_incumbent(cost);
     }
 }
 
@@ -78,12 +78,15 @@ fn settle_row<W: Watch>(
     row: &Row,
 ) -> bool
     requires can { W.can watch.old }
-    requires at { (graph : AbstractGraph) × (choice : Choice) × IsAtWatch task.now graph choice (W.seen watch.old) lease.old }
+    requires at { (abstraction : AbstractGraph) × (choice : Choice)
+        × IsAtWatch task.now abstraction choice (W.seen watch.old) lease.old }
     requires first { IsFirstRow lease.old.weight (own_rows lease.old) state.now row.now }
     ensures can { W.can watch.new }
     ensures stays { W.stays watch.old watch.new }
-    ensures turned { (graph : AbstractGraph) (choice : Choice) → IsAtWatch task.now graph choice (W.seen watch.old) lease.old
-        → HasTurnedWatched (space_of task.now) (guide_of task.now graph choice) 0 0 true (not result)
+    ensures turned { (abstraction : AbstractGraph) (choice : Choice)
+        → IsAtWatch task.now abstraction choice (W.seen watch.old) lease.old
+        → HasTurnedWatched (space_of task.now) (guide_of task.now abstraction choice) 0 0 true
+        (not result)
         lease.old (W.seen watch.old) lease.new (W.seen watch.new) }
     ensures none { answers_of (W.seen watch.new) ≡ answers_of (W.seen watch.old) }
     ensures fewer { result ≡ true → own_opened lease.new < own_opened lease.old }
@@ -94,7 +97,7 @@ fn settle_row<W: Watch>(
         true
     } else if task.is_goal(state) {
         watch.tell(lease, row.g);
-        lease.take_bound(row.g);
+        lease.lower_incumbent(row.g);
         cut(lease, state);
         true
     } else {
@@ -106,11 +109,14 @@ fn settle_row<W: Watch>(
 // answers that row and its state.
 fn settle<W: Watch>(task: &Task, lease: &mut Lease, watch: &mut W) -> Option<(Packed, Row)>
     requires can { W.can watch.old }
-    requires at { (graph : AbstractGraph) × (choice : Choice) × IsAtWatch task.now graph choice (W.seen watch.old) lease.old }
+    requires at { (abstraction : AbstractGraph) × (choice : Choice)
+        × IsAtWatch task.now abstraction choice (W.seen watch.old) lease.old }
     ensures can { W.can watch.new }
     ensures stays { W.stays watch.old watch.new }
-    ensures turned { (graph : AbstractGraph) (choice : Choice) → IsAtWatch task.now graph choice (W.seen watch.old) lease.old
-        → HasTurnedWatched (space_of task.now) (guide_of task.now graph choice) 0 0 false true lease.old
+    ensures turned { (abstraction : AbstractGraph) (choice : Choice)
+        → IsAtWatch task.now abstraction choice (W.seen watch.old) lease.old
+        → HasTurnedWatched (space_of task.now) (guide_of task.now abstraction choice) 0 0 false true
+        lease.old
         (W.seen watch.old) lease.new (W.seen watch.new) }
     ensures same { IsSameLease lease.old lease.new }
     ensures used { lease.new.used ≡ lease.old.used }
@@ -135,25 +141,26 @@ fn settle<W: Watch>(task: &Task, lease: &mut Lease, watch: &mut W) -> Option<(Pa
 pub fn work_watched<W: Watch>(
     task: &Task,
     estimator: &mut Estimator,
-    graph: &AbsGraph,
+    abstraction: &AbsGraph,
     lease: &mut Lease,
     succs: &mut Vec<Succ>,
     watch: &mut W,
 ) -> Worked
     requires tables { IsOfTask estimator.old task.now lease.old.choice }
-    requires graph { IsGraphOf task.now graph.now }
+    requires of_task { IsGraphOf task.now abstraction.now }
     requires room { max_degree_of task.now ≤ vec_capacity succs.old }
-    requires at_work { IsAtWork task.now graph.now lease.old.choice lease.old }
+    requires at_work { IsAtWork task.now abstraction.now lease.old.choice lease.old }
     requires can { W.can watch.old }
     requires search { IfSome (W.seen watch.old)
-        (λ seen. IsOfSearch task.now graph.now lease.old.choice seen) }
-    requires watched { IsUnder (space_of task.now) (guide_of task.now graph.now lease.old.choice)
+        (λ seen. IsOfSearch task.now abstraction.now lease.old.choice seen) }
+    requires watched { IsUnder (space_of task.now) (guide_of task.now abstraction.now
+        lease.old.choice)
         (W.seen watch.old) 0 lease.old }
 
     // What was done: the counted expansions, one that was broken off if memory ran out, and a read
     // before each turn.
     ensures turned { HasTurnedReading (space_of task.now)
-        (guide_of task.now graph.now lease.old.choice) lease.old.block
+        (guide_of task.now abstraction.now lease.old.choice) lease.old.block
         (lease.new.used - lease.old.used) (broken_by result) (ends_with_read result)
         (leased_store lease.old) (leased_store lease.new) (W.seen watch.old) (W.seen watch.new) }
     ensures counted { lease.old.used ≤ lease.new.used }
@@ -161,7 +168,8 @@ pub fn work_watched<W: Watch>(
 
     // The lease has the least cost that was read or told, and shows what was told.
     ensures copy { IsLevel (W.seen watch.new) lease.new }
-    ensures watched { IsUnder (space_of task.now) (guide_of task.now graph.now lease.old.choice)
+    ensures watched { IsUnder (space_of task.now) (guide_of task.now abstraction.now
+        lease.old.choice)
         (W.seen watch.new) (broken_by result) lease.new }
     ensures kept { Keeps (W.seen watch.old) (W.seen watch.new) }
 
@@ -176,7 +184,7 @@ pub fn work_watched<W: Watch>(
 
     // What stays.
     ensures same { IsSameLease lease.old lease.new }
-    ensures scope { HasScope graph.now lease.new }
+    ensures scope { HasScope abstraction.now lease.new }
     ensures can { W.can watch.new }
     ensures stays { W.stays watch.old watch.new }
     ensures tables { IsOfTask estimator.new task.now lease.old.choice }
@@ -187,7 +195,7 @@ pub fn work_watched<W: Watch>(
         if lease.used() == quota {
             return Worked::Spent;
         }
-        match expand(task, estimator, graph, lease, succs, &state, &row) {
+        match expand(task, estimator, abstraction, lease, succs, &state, &row) {
             Ok(()) => {}
             Err(_) => return Worked::Memory,
         }

@@ -37,17 +37,18 @@ pub enum Worked {
 pub fn work(
     task: &Task,
     estimator: &mut Estimator,
-    graph: &AbsGraph,
+    abstraction: &AbsGraph,
     lease: &mut Lease,
     succs: &mut Vec<Succ>,
 ) -> Worked
     requires tables { IsOfTask estimator.old task.now lease.old.choice }
-    requires graph { IsGraphOf task.now graph.now }
+    requires of_task { IsGraphOf task.now abstraction.now }
     requires room { max_degree_of task.now ≤ vec_capacity succs.old }
-    requires at_work { IsAtWork task.now graph.now lease.old.choice lease.old }
+    requires at_work { IsAtWork task.now abstraction.now lease.old.choice lease.old }
 
     // What was done: the counted expansions, and one that was broken off if memory ran out.
-    ensures turned { HasTurned (space_of task.now) (guide_of task.now graph.now lease.old.choice) reads_none
+    ensures turned { HasTurned (space_of task.now) (guide_of task.now abstraction.now
+        lease.old.choice) reads_none
         lease.old.block (lease.new.used - lease.old.used) (broken_by result)
         (leased_store lease.old) (leased_store lease.new) }
     ensures counted { lease.old.used ≤ lease.new.used }
@@ -55,11 +56,15 @@ pub fn work(
 
     // So a lease that was out in a machine still is. Its work there is in turns, if it was before.
     ensures out { (settings : Settings) (reopenings : ℕ) (machine : Machine)
-        → (before : IsOut (setup_of task.now graph.now lease.old.choice settings reopenings) machine 0 lease.old)
-        → (after : IsOut (setup_of task.now graph.now lease.old.choice settings reopenings) machine
+        → (before : IsOut (setup_of task.now abstraction.now lease.old.choice settings reopenings)
+        machine 0 lease.old)
+        → (after : IsOut (setup_of task.now abstraction.now lease.old.choice settings reopenings)
+        machine
         (broken_by result) lease.new)
-        × (IsInTurns (setup_of task.now graph.now lease.old.choice settings reopenings) machine 0 lease.old before
-        → IsInTurns (setup_of task.now graph.now lease.old.choice settings reopenings) machine (broken_by result)
+        × (IsInTurns (setup_of task.now abstraction.now lease.old.choice settings reopenings)
+        machine 0 lease.old before
+        → IsInTurns (setup_of task.now abstraction.now lease.old.choice settings reopenings) machine
+        (broken_by result)
         lease.new after) }
 
     // Why it stopped.
@@ -73,10 +78,10 @@ pub fn work(
 
     // What stays.
     ensures same { IsSameLease lease.old lease.new }
-    ensures scope { HasScope graph.now lease.new }
+    ensures scope { HasScope abstraction.now lease.new }
     ensures tables { IsOfTask estimator.new task.now lease.old.choice }
     ensures room { vec_capacity succs.old ≤ vec_capacity succs.new }
 {
     let mut watch = NoWatch;
-    work_watched(task, estimator, graph, lease, succs, &mut watch)
+    work_watched(task, estimator, abstraction, lease, succs, &mut watch)
 }

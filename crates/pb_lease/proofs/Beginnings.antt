@@ -111,7 +111,7 @@ module _ (reopening_is_lawful : ReopeningIsLawful) (old new : GraphValue) (weigh
   Next = reopened_machine (setup_in old) weight machine
 
   setup : setup_in new ≡ reopened_setup (setup_in old) weight
-  setup = λ i. setup_of (r.task i) (r.graph i) (r.choice i) (r.settings i) (r.reopenings i)
+  setup = λ i. setup_of (r.task i) (r.abstraction i) (r.choice i) (r.settings i) (r.reopenings i)
 
   home : is_out_in old ≡ false
   home = (lawful_in old k).quiet quiet

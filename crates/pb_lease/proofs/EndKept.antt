@@ -94,7 +94,7 @@ module _ (t : Table) (busy near : List ℕ) (promised spare : ℕ) (k : IsKept t
     off_adds is = record {
       counts = off_counts ∙ sym (reported_counts (blocks t) t.settings memory (counts_after (blocks t) t.settings (counts_of t) (Off worker memory)) refl);
       journal = is ∙ append_assoc t.journal (Off worker memory ∷ []) (ending memory t.end);
-      graph = refl;
+      abstraction = refl;
       settings = refl;
       past = refl;
     }

@@ -44,7 +44,7 @@ module _ (old : GraphValue) (k : IsLeaseGraph old) (lease : LeaseValue) (table :
     leased = ap (λ (c : Counts). c.leases lease.worker) adds.counts ∙ entry_here (counts_in old).leases lease.worker lease.worker (Some (grant_of lease)) (equal_self lease.worker);
     weight = weight ∙ ap weight_of (sym adds.settings);
     choice = choice;
-    scope = record { blocks = λ c. has_scope c ∙ ap (λ (g : AbstractGraph). (blocks_of g).scope lease.block c) (sym adds.graph); weights = own_weight };
+    scope = record { blocks = λ c. has_scope c ∙ ap (λ (g : AbstractGraph). (blocks_of g).scope lease.block c) (sym adds.abstraction); weights = own_weight };
   }
 
   pub given : lease.quota ≡ min old.table.settings.lot old.table.left → lease.used ≡ 0 → lease.incumbent ≡ old.incumbent → homes ≡ record { bundles = vacated scope old.homes.bundles; keys = old.homes.keys }

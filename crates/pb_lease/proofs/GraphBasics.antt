@@ -46,7 +46,7 @@ module _ (g : GraphValue) (k : IsLeaseGraph g) where
   pub setup_is : IsSetup (setup_in g) greatest_cost
   setup_is = record {
     space = (tasks_are_proper g.task k.is_task).0;
-    blocks = abstract_graphs_are_blocks g.task k.is_task g.table.graph k.graph_of (guide_of g.task g.table.graph g.choice) (λ state. refl);
+    blocks = abstract_graphs_are_blocks g.task k.is_task g.table.abstraction k.graph_of (guide_of g.task g.table.abstraction g.choice) (λ state. refl);
     weight = k.legal.range.weight;
   }
 

@@ -34,7 +34,7 @@ use Rattle.pb_lease.proofs.Away.{away, away_at, more_away, same_away, brought_ho
 pub moved_history : (old new : Table) (events : List Event) → Adds old new events → IsHistory (blocks old) old.settings old.past.spent (old.journal ++ events) (counts_along (blocks old) old.settings (counts_of old) events)
     → IsHistory (blocks new) new.settings new.past.spent new.journal (counts_of new)
 moved_history old new events adds history =
-    subst (λ (g : AbstractGraph). IsHistory (blocks_of g) new.settings new.past.spent new.journal (counts_of new)) (sym adds.graph)
+    subst (λ (g : AbstractGraph). IsHistory (blocks_of g) new.settings new.past.spent new.journal (counts_of new)) (sym adds.abstraction)
     (subst (λ (s : Settings). IsHistory (blocks old) s new.past.spent new.journal (counts_of new)) (sym adds.settings)
     (subst (λ (p : Past). IsHistory (blocks old) old.settings p.spent new.journal (counts_of new)) (sym adds.past)
     (subst (λ (j : List Event). IsHistory (blocks old) old.settings old.past.spent j (counts_of new)) (sym adds.journal)
@@ -61,7 +61,7 @@ with_ending old new event memory adds history may report =
 pub away_in : (old new : GraphValue) (events : List Event) (leases : ℕ → Option Grant) → Adds old.table new.table events → (counts_along (blocks old.table) old.table.settings (counts_in old) events).leases ≡ leases → (block : ℕ)
     → away (blocks new.table) new.table.settings.workers (counts_in new).leases block ≡ away (blocks old.table) old.table.settings.workers leases block
 away_in old new events leases adds are block =
-    ap (λ (g : AbstractGraph). away (blocks_of g) new.table.settings.workers (counts_in new).leases block) adds.graph
+    ap (λ (g : AbstractGraph). away (blocks_of g) new.table.settings.workers (counts_in new).leases block) adds.abstraction
     ∙ ap (λ (s : Settings). away (blocks old.table) s.workers (counts_in new).leases block) adds.settings
     ∙ ap (λ (l : ℕ → Option Grant). away (blocks old.table) old.table.settings.workers l block) (ap (λ (c : Counts). c.leases) adds.counts ∙ are)
 
@@ -70,7 +70,7 @@ module _ (old : GraphValue) (k : IsLeaseGraph old) (table : Table) (homes : Home
   New = record { task = old.task; choice = old.choice; table = table; homes = homes; incumbent = incumbent }
 
   count_same : (blocks table).count ≡ (blocks old.table).count
-  count_same = ap (λ (g : AbstractGraph). (blocks_of g).count) adds.graph
+  count_same = ap (λ (g : AbstractGraph). (blocks_of g).count) adds.abstraction
 
   -- what the graph keeps, by what is at home and by the weights
   pub graph_kept : IsHistory (blocks table) table.settings table.past.spent table.journal (counts_of table) → length homes.bundles ≡ length old.homes.bundles → length homes.keys ≡ length old.homes.keys
@@ -79,7 +79,7 @@ module _ (old : GraphValue) (k : IsLeaseGraph old) (table : Table) (homes : Home
   graph_kept legal places keys home weights = record {
     is_task = k.is_task;
     suits = k.suits;
-    graph_of = subst (IsGraphOf old.task) (sym adds.graph) k.graph_of;
+    graph_of = subst (IsGraphOf old.task) (sym adds.abstraction) k.graph_of;
     legal = legal;
     places = places ∙ k.places ∙ sym count_same;
     key_places = keys ∙ k.key_places ∙ sym count_same;
@@ -146,14 +146,14 @@ module _ (old : GraphValue) (k : IsLeaseGraph old) (lease : LeaseValue) (of : Is
       let gone = away_at (blocks old.table) old.table.settings.workers (counts_in old).leases lease.worker (grant_of lease) block ((lawful_in old k).known lease.worker (grant_of lease) of.leased).0 of.leased inside in
       (omega (arith, known, k.places), none_found (content_at old.homes block) (k.home block known ∙ ap not gone))
 
-module _ (old : GraphValue) (k : IsLeaseGraph old) (lease : LeaseValue) (of : IsOfGraph old lease) (trouble : Bool) (table : Table) (homes : HomeTable) (incumbent : Option ℕ)
-    (adds : Adds old.table table (Release lease.worker lease.used trouble ∷ ending trouble old.table.end)) where
-  pub released_kept : refusal (blocks old.table) old.table.settings (counts_in old) (Release lease.worker lease.used trouble) ≡ None → length homes.bundles ≡ length old.homes.bundles → length homes.keys ≡ length old.homes.keys
+module _ (old : GraphValue) (k : IsLeaseGraph old) (lease : LeaseValue) (of : IsOfGraph old lease) (memory : Bool) (table : Table) (homes : HomeTable) (incumbent : Option ℕ)
+    (adds : Adds old.table table (Release lease.worker lease.used memory ∷ ending memory old.table.end)) where
+  pub released_kept : refusal (blocks old.table) old.table.settings (counts_in old) (Release lease.worker lease.used memory) ≡ None → length homes.bundles ≡ length old.homes.bundles → length homes.keys ≡ length old.homes.keys
       → ((block : ℕ) → content_at homes block ≡ option_or (content_in lease.parts block) (content_at old.homes block))
       → IsLeaseGraph (record { task = old.task; choice = old.choice; table = table; homes = homes; incumbent = incumbent })
   released_kept may places keys back =
-      graph_kept old k table homes incumbent (Release lease.worker lease.used trouble ∷ ending trouble old.table.end) adds
-      (with_ending old.table table (Release lease.worker lease.used trouble) trouble adds k.legal may refl) places keys
+      graph_kept old k table homes incumbent (Release lease.worker lease.used memory ∷ ending memory old.table.end) adds
+      (with_ending old.table table (Release lease.worker lease.used memory) memory adds k.legal may refl) places keys
       (λ block lt. by_cases ((blocks old.table).scope lease.block block)
       (λ e. ap is_some (back block ∙ or_some (content_in lease.parts block) (content_at old.homes block) (of.scope.blocks block ∙ e)) ∙ of.scope.blocks block ∙ e
       ∙ ap not (sym (gone block ∙ brought_home (blocks old.table) old.table.settings.workers (counts_in old).leases lease.worker (grant_of lease) of.leased block
@@ -165,8 +165,8 @@ module _ (old : GraphValue) (k : IsLeaseGraph old) (lease : LeaseValue) (of : Is
       (λ e. k.weights block content (sym (or_none (content_in lease.parts block) (content_at old.homes block) (of.scope.blocks block ∙ e)) ∙ sym (back block) ∙ is)))
     where
       gone : (block : ℕ) → away (blocks table) table.settings.workers (counts_of table).leases block ≡ away (blocks old.table) old.table.settings.workers (with_entry (counts_in old).leases lease.worker None) block
-      gone = away_in old (record { task = old.task; choice = old.choice; table = table; homes = homes; incumbent = incumbent }) (Release lease.worker lease.used trouble ∷ ending trouble old.table.end) (with_entry (counts_in old).leases lease.worker None) adds
-          (ending_leases (blocks old.table) old.table.settings (counts_after (blocks old.table) old.table.settings (counts_in old) (Release lease.worker lease.used trouble)) trouble old.table.end)
+      gone = away_in old (record { task = old.task; choice = old.choice; table = table; homes = homes; incumbent = incumbent }) (Release lease.worker lease.used memory ∷ ending memory old.table.end) (with_entry (counts_in old).leases lease.worker None) adds
+          (ending_leases (blocks old.table) old.table.settings (counts_after (blocks old.table) old.table.settings (counts_in old) (Release lease.worker lease.used memory)) memory old.table.end)
 
 -- ---- a lease that goes on
 
@@ -188,7 +188,7 @@ module _ (old : GraphValue) (k : IsLeaseGraph old) (lease : LeaseValue) (of : Is
     choice = choice ∙ of.choice;
     scope = record {
       blocks = λ b. ap (λ (ps : List (ℕ × Content)). is_some (content_in ps b)) parts ∙ of.scope.blocks b ∙ ap (λ n. (blocks old.table).scope n b) (sym block)
-          ∙ ap (λ (g : AbstractGraph). (blocks_of g).scope kept.block b) (sym adds.graph);
+          ∙ ap (λ (g : AbstractGraph). (blocks_of g).scope kept.block b) (sym adds.abstraction);
       weights = λ b content is. of.scope.weights b content (ap (λ (ps : List (ℕ × Content)). content_in ps b) (sym parts) ∙ is) ∙ sym weight;
     };
   }

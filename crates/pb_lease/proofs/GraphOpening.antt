@@ -40,20 +40,20 @@ use Rattle.pb_lease.proofs.Beginnings.{same_is, lawful_moments_begin}
 pub record IsOpening (task : TaskParts) (choice : Choice) (table : Table) (homes : HomeTable) : Type 0 where
   pub is_task : IsTask task
   pub suits : suits task choice ≡ true
-  pub graph_of : IsGraphOf task table.graph
+  pub graph_of : IsGraphOf task table.abstraction
   pub range : AreInRange table.settings
   pub past : table.past ≡ no_past
   pub counts : counts_of table ≡ opening_counts table.settings 0
   pub journal : table.journal ≡ []
-  pub there : home_of task table.graph (space_of task).start < (blocks table).count
-  pub bundles : homes.bundles ≡ slice_set (empty_homes (blocks table).count (weight_of table.settings)).bundles (home_of task table.graph (space_of task).start)
+  pub there : home_of task table.abstraction (space_of task).start < (blocks table).count
+  pub bundles : homes.bundles ≡ slice_set (empty_homes (blocks table).count (weight_of table.settings)).bundles (home_of task table.abstraction (space_of task).start)
       (Some (with_start (record { entries = []; weight = weight_of table.settings }) (space_of task).start (estimate_by task choice (space_of task).start)))
   pub keys : length homes.keys ≡ (blocks table).count
   pub noted : AreNoted homes
 
-module _ (task : TaskParts) (is_task : IsTask task) (choice : Choice) (suited : suits task choice ≡ true) (graph : AbstractGraph) (graph_of : IsGraphOf task graph) (settings : Settings) (range : AreInRange settings) (table : Table) (same_graph : table.graph ≡ graph)
+module _ (task : TaskParts) (is_task : IsTask task) (choice : Choice) (suited : suits task choice ≡ true) (abstraction : AbstractGraph) (graph_of : IsGraphOf task abstraction) (settings : Settings) (range : AreInRange settings) (table : Table) (same_graph : table.abstraction ≡ abstraction)
     (same_settings : table.settings ≡ settings) (past : table.past ≡ no_past) (counts : counts_of table ≡ opening_counts settings 0) (journal : table.journal ≡ []) (start : ℕ) (start_is : start ≡ (space_of task).start)
-    (block : ℕ) (block_is : block ≡ home_of task graph start) (below : block < (blocks_of graph).count) (count : ℕ) (count_is : count ≡ (blocks_of graph).count)
+    (block : ℕ) (block_is : block ≡ home_of task abstraction start) (below : block < (blocks_of abstraction).count) (count : ℕ) (count_is : count ≡ (blocks_of abstraction).count)
     (estimate : Estimate) (estimate_is : estimate ≡ estimate_by task choice (space_of task).start) (first homes : HomeTable) (first_is : first ≡ empty_homes count (weight_of settings))
     (put : (content : Content) → content_at first block ≡ Some content → homes.bundles ≡ slice_set first.bundles block (Some (with_start content start estimate)))
     (key_noted : (content : Content) → content_at homes block ≡ Some content → NotesKey content first.keys homes.keys block) (noted : AreNoted homes) where
@@ -66,8 +66,8 @@ module _ (task : TaskParts) (is_task : IsTask task) (choice : Choice) (suited : 
   at : content_at first block ≡ Some empty
   at = ap (λ (h : HomeTable). content_at h block) first_is ∙ get_or-replicate count block (Some empty) None within
 
-  home_is : block ≡ home_of task table.graph (space_of task).start
-  home_is = block_is ∙ ap (home_of task graph) start_is ∙ ap (λ (g : AbstractGraph). home_of task g (space_of task).start) (sym same_graph)
+  home_is : block ≡ home_of task table.abstraction (space_of task).start
+  home_is = block_is ∙ ap (home_of task abstraction) start_is ∙ ap (λ (g : AbstractGraph). home_of task g (space_of task).start) (sym same_graph)
 
   bundles_first : homes.bundles ≡ slice_set (replicate count (Some empty)) block (Some (with_start empty start estimate))
   bundles_first = put empty at ∙ ap (λ (h : HomeTable). slice_set h.bundles block (Some (with_start empty start estimate))) first_is
@@ -97,11 +97,11 @@ module _ (task : TaskParts) (is_task : IsTask task) (choice : Choice) (suited : 
     there = subst (λ n. n < (blocks table).count) home_is (subst (λ (g : AbstractGraph). block < (blocks_of g).count) (sym same_graph) below);
     bundles = bundles_first
         ∙ ap (λ n. slice_set (replicate count (Some empty)) n (Some (with_start empty start estimate))) home_is
-        ∙ ap (λ n. slice_set (replicate count (Some empty)) (home_of task table.graph (space_of task).start) (Some (with_start empty n estimate))) start_is
-        ∙ ap (λ (e : Estimate). slice_set (replicate count (Some empty)) (home_of task table.graph (space_of task).start) (Some (with_start empty (space_of task).start e))) estimate_is
-        ∙ ap (λ n. slice_set (replicate n (Some empty)) (home_of task table.graph (space_of task).start) (Some (with_start empty (space_of task).start (estimate_by task choice (space_of task).start))))
+        ∙ ap (λ n. slice_set (replicate count (Some empty)) (home_of task table.abstraction (space_of task).start) (Some (with_start empty n estimate))) start_is
+        ∙ ap (λ (e : Estimate). slice_set (replicate count (Some empty)) (home_of task table.abstraction (space_of task).start) (Some (with_start empty (space_of task).start e))) estimate_is
+        ∙ ap (λ n. slice_set (replicate n (Some empty)) (home_of task table.abstraction (space_of task).start) (Some (with_start empty (space_of task).start (estimate_by task choice (space_of task).start))))
         (count_is ∙ ap (λ (g : AbstractGraph). (blocks_of g).count) (sym same_graph))
-        ∙ ap (λ (s : Settings). slice_set (empty_homes (blocks table).count (weight_of s)).bundles (home_of task table.graph (space_of task).start)
+        ∙ ap (λ (s : Settings). slice_set (empty_homes (blocks table).count (weight_of s)).bundles (home_of task table.abstraction (space_of task).start)
         (Some (with_start (record { entries = []; weight = weight_of s }) (space_of task).start (estimate_by task choice (space_of task).start)))) (sym same_settings);
     keys = key_count ∙ count_is ∙ ap (λ (g : AbstractGraph). (blocks_of g).count) (sym same_graph);
     noted = noted;
@@ -111,16 +111,16 @@ module _ (task : TaskParts) (choice : Choice) (table : Table) (homes : HomeTable
   abbrev New : GraphValue
   New = record { task = task; choice = choice; table = table; homes = homes; incumbent = None }
 
-  opened : ((home state : ℕ) → home_rows homes home state ≡ (opening_store (space_of task) (guide_of task table.graph choice) (weight_of table.settings)).rows home state)
+  opened : ((home state : ℕ) → home_rows homes home state ≡ (opening_store (space_of task) (guide_of task table.abstraction choice) (weight_of table.settings)).rows home state)
       × ((block : ℕ) → block < (blocks table).count → (content : Content) × (content_at homes block ≡ Some content) × (content.weight ≡ weight_of table.settings))
-  opened = opening_rows_are_home (space_of task) (guide_of task table.graph choice) (weight_of table.settings) (blocks table).count homes o.there o.bundles
+  opened = opening_rows_are_home (space_of task) (guide_of task table.abstraction choice) (weight_of table.settings) (blocks table).count homes o.there o.bundles
 
-  pub opening_rows : (home state : ℕ) → home_rows homes home state ≡ (opening_store (space_of task) (guide_of task table.graph choice) (weight_of table.settings)).rows home state
+  pub opening_rows : (home state : ℕ) → home_rows homes home state ≡ (opening_store (space_of task) (guide_of task table.abstraction choice) (weight_of table.settings)).rows home state
   opening_rows = opened.0
 
   places : length homes.bundles ≡ (blocks table).count
   places = ap (λ (bs : List (Option Content)). length bs) o.bundles
-      ∙ length-set (replicate (blocks table).count (Some (record { entries = []; weight = weight_of table.settings }))) (home_of task table.graph (space_of task).start)
+      ∙ length-set (replicate (blocks table).count (Some (record { entries = []; weight = weight_of table.settings }))) (home_of task table.abstraction (space_of task).start)
       (Some (with_start (record { entries = []; weight = weight_of table.settings }) (space_of task).start (estimate_by task choice (space_of task).start)))
       ∙ length-replicate (blocks table).count (Some (record { entries = []; weight = weight_of table.settings }))
 
@@ -154,7 +154,7 @@ module _ (task : TaskParts) (choice : Choice) (table : Table) (homes : HomeTable
   opening_at recorded = record {
     lawful = lawful;
     counts = sym o.counts;
-    whole = (all_is_home (setup_in New) (opening_counts table.settings 0) (opening_store (space_of task) (guide_of task table.graph choice) (weight_of table.settings)) (home_rows homes) recorded lawful.counts
+    whole = (all_is_home (setup_in New) (opening_counts table.settings 0) (opening_store (space_of task) (guide_of task table.abstraction choice) (weight_of table.settings)) (home_rows homes) recorded lawful.counts
         (any_false table.settings.workers (λ worker. false) (λ worker. refl))).1 (λ block state. sym (opened.0 block state));
     incumbent = λ worker. refl;
     keys = subst (λ (s : Store). HasKeys s (key_at homes)) (λ i. record { rows = λ home state. opened.0 home state i; incumbent = None; weight = weight_of table.settings })

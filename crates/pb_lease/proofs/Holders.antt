@@ -22,7 +22,7 @@ stays_of_graph old new events adds choice lease same of = record {
   leased = ap (λ (c : Counts). c.leases lease.worker) adds.counts ∙ same ∙ of.leased;
   weight = of.weight ∙ ap weight_of (sym adds.settings);
   choice = of.choice ∙ sym choice;
-  scope = record { blocks = λ b. of.scope.blocks b ∙ ap (λ (g : AbstractGraph). (blocks_of g).scope lease.block b) (sym adds.graph); weights = of.scope.weights };
+  scope = record { blocks = λ b. of.scope.blocks b ∙ ap (λ (g : AbstractGraph). (blocks_of g).scope lease.block b) (sym adds.abstraction); weights = of.scope.weights };
 }
 
 -- another worker's lease changes no lease
@@ -31,10 +31,10 @@ leased_else old worker other new l lease different of =
     stays_of_graph old new (Lease worker other.block other.quota ∷ []) l.events l.choice lease (entry_else (counts_in old).leases worker lease.worker (Some (record { block = other.block; quota = other.quota })) different) of
 
 -- the return of another worker's lease changes no lease
-pub released_else : (old : GraphValue) (other : LeaseValue) (trouble : Bool) (new : GraphValue) → IsReleased old other trouble new → (lease : LeaseValue) → (lease.worker == other.worker) ≡ false → IsOfGraph old lease → IsOfGraph new lease
-released_else old other trouble new r lease different of =
-    stays_of_graph old new (Release other.worker other.used trouble ∷ ending trouble old.table.end) r.events r.choice lease
-    (ap (λ (leases : ℕ → Option Grant). leases lease.worker) (ending_leases (blocks old.table) old.table.settings (counts_after (blocks old.table) old.table.settings (counts_in old) (Release other.worker other.used trouble)) trouble old.table.end)
+pub released_else : (old : GraphValue) (other : LeaseValue) (memory : Bool) (new : GraphValue) → IsReleased old other memory new → (lease : LeaseValue) → (lease.worker == other.worker) ≡ false → IsOfGraph old lease → IsOfGraph new lease
+released_else old other memory new r lease different of =
+    stays_of_graph old new (Release other.worker other.used memory ∷ ending memory old.table.end) r.events r.choice lease
+    (ap (λ (leases : ℕ → Option Grant). leases lease.worker) (ending_leases (blocks old.table) old.table.settings (counts_after (blocks old.table) old.table.settings (counts_in old) (Release other.worker other.used memory)) memory old.table.end)
     ∙ entry_else (counts_in old).leases other.worker lease.worker None different) of
 
 -- an end changes no lease

@@ -73,9 +73,9 @@ module _ (old : GraphValue) (lease : LeaseValue) (new : GraphValue) (is : new.in
   known worker = subst (λ o. with_incumbent machine.known (brought_incumbent machine lease) worker o ≡ true) brought (known_new (machine.known worker) (brought_incumbent machine lease))
 
   -- a lease that comes back
-  pub releases_in_order : (trouble : Bool) → ReleasesNext old lease trouble new → IsOutInTurns (setup_in old) machine (one_if trouble) lease
-      → (next : Machine) × FollowsInOrder old machine (Release lease.worker lease.used trouble ∷ ending trouble old.table.end) new recorded next
-  releases_in_order trouble releases out =
+  pub releases_in_order : (memory : Bool) → ReleasesNext old lease memory new → IsOutInTurns (setup_in old) machine (one_if memory) lease
+      → (next : Machine) × FollowsInOrder old machine (Release lease.worker lease.used memory ∷ ending memory old.table.end) new recorded next
+  releases_in_order memory releases out =
       let step = releases recorded machine m.at out.0 shows known in (
         step.0,
         record {

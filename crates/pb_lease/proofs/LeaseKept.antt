@@ -58,7 +58,7 @@ module _ (t : Table) (busy near : List ℕ) (promised spare : ℕ) (k : IsKept t
         (seat_kept t.seats worker Leased there (λ (s : Seat). s.signed_off) (sym stays)) refl refl refl refl
 
     pub lease_adds : (counts_of t).signed_off worker ≡ false → after ≡ t.journal ++ Lease worker block quota ∷ [] → Adds t leased_table (Lease worker block (min t.settings.lot t.left) ∷ [])
-    lease_adds stays is = subst (λ q. Adds t leased_table (Lease worker block q ∷ [])) quota_is (record { counts = leased_counts stays; journal = is; graph = refl; settings = refl; past = refl })
+    lease_adds stays is = subst (λ q. Adds t leased_table (Lease worker block q ∷ [])) quota_is (record { counts = leased_counts stays; journal = is; abstraction = refl; settings = refl; past = refl })
 
     pub lease_room : rooms leased_table ≡ with_entry (rooms t) worker 63
     lease_room = λ i k'. seat_set t.seats worker Leased there (λ (s : Seat). s.room) k' i
@@ -122,7 +122,7 @@ module _ (t : Table) (busy near : List ℕ) (promised spare : ℕ) (k : IsKept t
         (ap (λ (o : Option Grant). (t.left + (quota_of o - used)) - quota) (sym has)) refl refl
 
     pub renewal_adds : after ≡ t.journal ++ Renew worker used quota ∷ [] → Adds t renewed_table (Renew worker used the_quota ∷ [])
-    renewal_adds is = subst (λ q. Adds t renewed_table (Renew worker used q ∷ [])) quota_same (record { counts = renewed_counts; journal = is; graph = refl; settings = refl; past = refl })
+    renewal_adds is = subst (λ q. Adds t renewed_table (Renew worker used q ∷ [])) quota_same (record { counts = renewed_counts; journal = is; abstraction = refl; settings = refl; past = refl })
 
     pub renewal_room : rooms renewed_table ≡ with_entry (rooms t) worker (rooms t worker - 1)
     renewal_room = λ i k'. (seat_set t.seats worker Renewed there (λ (s : Seat). s.room) k' ∙ ap (λ (s : Seat). with_entry (rooms t) worker (s.room - 1) k') is_was) i

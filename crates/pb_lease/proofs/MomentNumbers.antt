@@ -51,7 +51,7 @@ module _ (old : GraphValue) (k : IsLeaseGraph old) (events : List Event) (new : 
   )
     where
       setup : setup_in new ≡ setup_in old
-      setup = same_setup old new (ap (λ (g : GraphValue). g.task) rest) (ap (λ (g : GraphValue). g.choice) rest) adds.graph adds.settings adds.past
+      setup = same_setup old new (ap (λ (g : GraphValue). g.task) rest) (ap (λ (g : GraphValue). g.choice) rest) adds.abstraction adds.settings adds.past
 
 -- ---- one event that may come
 
@@ -107,15 +107,15 @@ stood_next old k end standing stands = subst (λ (o : Option End). KeepsLeases o
 
 -- ---- a worker that signs off
 
-pub signed_off_next : (old : GraphValue) → IsLeaseGraph old → (worker : ℕ) (trouble : Bool) (new : GraphValue) → Adds old.table new.table (Off worker trouble ∷ ending trouble old.table.end) → new ≡ record old { table = new.table }
-    → refusal (blocks old.table) old.table.settings (counts_in old) (Off worker trouble) ≡ None → KeepsLeases old (Off worker trouble ∷ ending trouble old.table.end) new
-signed_off_next old k worker trouble new adds rest may = keeps_next old k (Off worker trouble ∷ ending trouble old.table.end) new adds rest
+pub signed_off_next : (old : GraphValue) → IsLeaseGraph old → (worker : ℕ) (memory : Bool) (new : GraphValue) → Adds old.table new.table (Off worker memory ∷ ending memory old.table.end) → new ≡ record old { table = new.table }
+    → refusal (blocks old.table) old.table.settings (counts_in old) (Off worker memory) ≡ None → KeepsLeases old (Off worker memory ∷ ending memory old.table.end) new
+signed_off_next old k worker memory new adds rest may = keeps_next old k (Off worker memory ∷ ending memory old.table.end) new adds rest
     (λ recorded machine m. (
-      record machine { counts = counts_after (blocks old.table) old.table.settings machine.counts (Off worker trouble) },
-      record { may = may_then old old machine (Off worker trouble) m.counts may; counts = refl; rows = (refl, refl, refl, refl, refl) },
+      record machine { counts = counts_after (blocks old.table) old.table.settings machine.counts (Off worker memory) },
+      record { may = may_then old old machine (Off worker memory) m.counts may; counts = refl; rows = (refl, refl, refl, refl, refl) },
       tt,
-      then_ended (setup_in old) trouble (counts_after (blocks old.table) old.table.settings (counts_in old) (Off worker trouble))
-          (record machine { counts = counts_after (blocks old.table) old.table.settings machine.counts (Off worker trouble) })
-          (ap (λ (c : Counts). counts_after (blocks old.table) old.table.settings c (Off worker trouble)) m.counts) refl,
+      then_ended (setup_in old) memory (counts_after (blocks old.table) old.table.settings (counts_in old) (Off worker memory))
+          (record machine { counts = counts_after (blocks old.table) old.table.settings machine.counts (Off worker memory) })
+          (ap (λ (c : Counts). counts_after (blocks old.table) old.table.settings c (Off worker memory)) m.counts) refl,
     ))
-    (λ counts. ending_leases (blocks old.table) old.table.settings (counts_after (blocks old.table) old.table.settings counts (Off worker trouble)) trouble old.table.end)
+    (λ counts. ending_leases (blocks old.table) old.table.settings (counts_after (blocks old.table) old.table.settings counts (Off worker memory)) memory old.table.end)

@@ -62,11 +62,11 @@ then_ended setup memory counts machine is report = go (memory && is_none counts.
   where
     go : (r : Bool) → (memory && is_none counts.end) ≡ r → counts.trouble ≡ r
         → RunsInOrder setup machine (moves_of (cond r (Ended Memory ∷ []) [])) (record machine { counts = counts_along setup.blocks setup.settings machine.counts (cond r (Ended Memory ∷ []) []) })
-    go false e trouble = refl
-    go true e trouble = (
+    go false e waits = refl
+    go true e waits = (
       record machine { counts = counts_after setup.blocks setup.settings machine.counts (Ended Memory) },
       record {
-        may = subst (λ (c : Counts). refusal setup.blocks setup.settings c (Ended Memory) ≡ None) (sym is) ((ends_are_legal setup.blocks setup.settings counts (none_end counts.end (and_true memory (is_none counts.end) e).1)).2 trouble);
+        may = subst (λ (c : Counts). refusal setup.blocks setup.settings c (Ended Memory) ≡ None) (sym is) ((ends_are_legal setup.blocks setup.settings counts (none_end counts.end (and_true memory (is_none counts.end) e).1)).2 waits);
         counts = refl;
         rows = (refl, refl, refl, refl, refl);
       },
@@ -120,15 +120,15 @@ module _ (old : GraphValue) (k : IsLeaseGraph old) (lease : LeaseValue) (of : Is
 
   -- ---- a lease that comes back
 
-  module _ (trouble : Bool) where
-    pub release_is_legal : refusal (blocks old.table) old.table.settings (counts_in old) (Release lease.worker lease.used trouble) ≡ None
-    release_is_legal = release_may (blocks old.table) old.table.settings (counts_in old) lease.worker lease.used trouble (grant_of lease) (lawful_in old k) of.leased few refl
+  module _ (memory : Bool) where
+    pub release_is_legal : refusal (blocks old.table) old.table.settings (counts_in old) (Release lease.worker lease.used memory) ≡ None
+    release_is_legal = release_may (blocks old.table) old.table.settings (counts_in old) lease.worker lease.used memory (grant_of lease) (lawful_in old k) of.leased few refl
 
-    module _ (new : GraphValue) (r : IsReleased old lease trouble new) where
+    module _ (new : GraphValue) (r : IsReleased old lease memory new) where
       setup : setup_in new ≡ setup_in old
-      setup = same_setup old new r.task r.choice r.events.graph r.events.settings r.events.past
+      setup = same_setup old new r.task r.choice r.events.abstraction r.events.settings r.events.past
 
-      module _ (recorded : (worker : ℕ) → Rows) (machine : Machine) (m : IsMomentAt old recorded machine) (out : IsOut (setup_in old) machine (one_if trouble) lease) (shows : ShowsTold old machine lease) where
+      module _ (recorded : (worker : ℕ) → Rows) (machine : Machine) (m : IsMomentAt old recorded machine) (out : IsOut (setup_in old) machine (one_if memory) lease) (shows : ShowsTold old machine lease) where
         abbrev Home : Bool → Machine
         Home t = record machine {
           counts = counts_after (blocks old.table) old.table.settings machine.counts (Release lease.worker lease.used t);
@@ -147,41 +147,41 @@ module _ (old : GraphValue) (k : IsLeaseGraph old) (lease : LeaseValue) (of : Is
         order true o turns = (came recorded machine m 1 o shows, turns)
 
         abbrev Last : Machine
-        Last = record (Home trouble) { counts = counts_along (blocks old.table) old.table.settings (Home trouble).counts (ending trouble old.table.end) }
+        Last = record (Home memory) { counts = counts_along (blocks old.table) old.table.settings (Home memory).counts (ending memory old.table.end) }
 
-        home_counts : (Home trouble).counts ≡ counts_after (blocks old.table) old.table.settings (counts_in old) (Release lease.worker lease.used trouble)
-        home_counts = ap (λ (c : Counts). counts_after (blocks old.table) old.table.settings c (Release lease.worker lease.used trouble)) m.counts
+        home_counts : (Home memory).counts ≡ counts_after (blocks old.table) old.table.settings (counts_in old) (Release lease.worker lease.used memory)
+        home_counts = ap (λ (c : Counts). counts_after (blocks old.table) old.table.settings c (Release lease.worker lease.used memory)) m.counts
 
-        ends : RunsInOrder (setup_in old) (Home trouble) (moves_of (ending trouble old.table.end)) Last
-        ends = then_ended (setup_in old) trouble (counts_after (blocks old.table) old.table.settings (counts_in old) (Release lease.worker lease.used trouble)) (Home trouble) home_counts refl
+        ends : RunsInOrder (setup_in old) (Home memory) (moves_of (ending memory old.table.end)) Last
+        ends = then_ended (setup_in old) memory (counts_after (blocks old.table) old.table.settings (counts_in old) (Release lease.worker lease.used memory)) (Home memory) home_counts refl
 
-        comes : Moves (setup_in old) machine (event_move (Release lease.worker lease.used trouble)) (Home trouble)
-        comes = record { may = may_then old new machine (Release lease.worker lease.used trouble) m.counts release_is_legal; counts = refl; rows = rows trouble out }
+        comes : Moves (setup_in old) machine (event_move (Release lease.worker lease.used memory)) (Home memory)
+        comes = record { may = may_then old new machine (Release lease.worker lease.used memory) m.counts release_is_legal; counts = refl; rows = rows memory out }
 
-        runs : Runs (setup_in old) machine (moves_of (Release lease.worker lease.used trouble ∷ ending trouble old.table.end)) Last
-        runs = (Home trouble, comes, ordered_runs_are_runs (setup_in old) (moves_of (ending trouble old.table.end)) (Home trouble) Last ends)
+        runs : Runs (setup_in old) machine (moves_of (Release lease.worker lease.used memory ∷ ending memory old.table.end)) Last
+        runs = (Home memory, comes, ordered_runs_are_runs (setup_in old) (moves_of (ending memory old.table.end)) (Home memory) Last ends)
 
-        ordered : IsInTurns (setup_in old) machine (one_if trouble) lease out → RunsInOrder (setup_in old) machine (moves_of (Release lease.worker lease.used trouble ∷ ending trouble old.table.end)) Last
-        ordered turns = (Home trouble, comes, order trouble out turns, ends)
+        ordered : IsInTurns (setup_in old) machine (one_if memory) lease out → RunsInOrder (setup_in old) machine (moves_of (Release lease.worker lease.used memory ∷ ending memory old.table.end)) Last
+        ordered turns = (Home memory, comes, order memory out turns, ends)
 
         whole : IsWhole (setup_in old) Last.counts (home_rows new.homes) recorded (Merged machine)
-        whole = others_keep_whole (setup_in old) (Home trouble).counts Last.counts (Merged machine) (Merged machine) (home_rows new.homes) recorded
-            (ending_leases (blocks old.table) old.table.settings (Home trouble).counts trouble old.table.end) refl
-            (releasing_keeps_whole (setup_in old) greatest_cost machine.counts machine.store (leased_store lease) (home_rows old.homes) (home_rows new.homes) recorded lease.worker lease.used trouble (grant_of lease)
+        whole = others_keep_whole (setup_in old) (Home memory).counts Last.counts (Merged machine) (Merged machine) (home_rows new.homes) recorded
+            (ending_leases (blocks old.table) old.table.settings (Home memory).counts memory old.table.end) refl
+            (releasing_keeps_whole (setup_in old) greatest_cost machine.counts machine.store (leased_store lease) (home_rows old.homes) (home_rows new.homes) recorded lease.worker lease.used memory (grant_of lease)
             (setup_is old k) m.lawful.counts m.whole (leased_then recorded machine m)
             (λ home state inside. ap (λ o. rows_in o state) (r.home home ∙ or_some (content_in lease.parts home) (content_at old.homes home) (of.scope.blocks home ∙ inside)))
             (λ home state out. ap (λ o. rows_in o state) (r.home home ∙ or_none (content_in lease.parts home) (content_at old.homes home) (of.scope.blocks home ∙ not_true _ out))))
 
-      pub released_next : ReleasesNext old lease trouble new
+      pub released_next : ReleasesNext old lease memory new
       released_next recorded machine m out shows known = (
         Last recorded machine m out shows,
         record {
           setup = setup;
           moves = runs recorded machine m out shows;
           moment = moment_as old new recorded (Last recorded machine m out shows) setup
-              (runs_are_lawful (setup_in old) greatest_cost (moves_of (Release lease.worker lease.used trouble ∷ ending trouble old.table.end)) machine (Last recorded machine m out shows) (setup_is old k) m.lawful
+              (runs_are_lawful (setup_in old) greatest_cost (moves_of (Release lease.worker lease.used memory ∷ ending memory old.table.end)) machine (Last recorded machine m out shows) (setup_is old k) m.lawful
               (runs recorded machine m out shows))
-              (ap (λ (c : Counts). counts_along (blocks old.table) old.table.settings c (Release lease.worker lease.used trouble ∷ ending trouble old.table.end)) m.counts ∙ sym r.events.counts)
+              (ap (λ (c : Counts). counts_along (blocks old.table) old.table.settings c (Release lease.worker lease.used memory ∷ ending memory old.table.end)) m.counts ∙ sym r.events.counts)
               (whole recorded machine m out shows) known (merged_keys recorded machine m new.homes.keys r.noted);
         },
         refl,
@@ -201,7 +201,7 @@ module _ (old : GraphValue) (k : IsLeaseGraph old) (lease : LeaseValue) (of : Is
 
     module _ (new : GraphValue) (n : IsRenewed old lease Kept new) where
       setup_too : setup_in new ≡ setup_in old
-      setup_too = same_setup old new n.task n.choice n.events.graph n.events.settings n.events.past
+      setup_too = same_setup old new n.task n.choice n.events.abstraction n.events.settings n.events.past
 
       module _ (recorded : (worker : ℕ) → Rows) (machine : Machine) (m : IsMomentAt old recorded machine) (out : IsOut (setup_in old) machine 0 lease) (shows : ShowsTold old machine lease) (known : IsKnownThen machine lease new.incumbent) where
         abbrev Next : Machine

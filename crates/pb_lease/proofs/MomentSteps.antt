@@ -27,8 +27,8 @@ use Rattle.pb_lease.proofs.NextEvents.{lease_may}
 use Rattle.pb_lease.proofs.GraphBasics.{setup_is, chosen_known, has_opened, choice_is}
 
 module _ (old new : GraphValue) where
-  pub same_setup : new.task ≡ old.task → new.choice ≡ old.choice → new.table.graph ≡ old.table.graph → new.table.settings ≡ old.table.settings → new.table.past ≡ old.table.past → setup_in new ≡ setup_in old
-  same_setup task choice graph settings past = λ i. setup_of (task i) (graph i) (choice i) (settings i) (past i).reopenings
+  pub same_setup : new.task ≡ old.task → new.choice ≡ old.choice → new.table.abstraction ≡ old.table.abstraction → new.table.settings ≡ old.table.settings → new.table.past ≡ old.table.past → setup_in new ≡ setup_in old
+  same_setup task choice abstraction settings past = λ i. setup_of (task i) (abstraction i) (choice i) (settings i) (past i).reopenings
 
   pub moment_as : (recorded : (worker : ℕ) → Rows) (next : Machine) → setup_in new ≡ setup_in old → IsLawful (setup_in old) next → next.counts ≡ counts_in new
       → IsWhole (setup_in old) next.counts (home_rows new.homes) recorded next.store → ((worker : ℕ) → next.known worker new.incumbent ≡ true) → HasKeys next.store (key_at new.homes)
@@ -61,7 +61,7 @@ module _ (old : GraphValue) (k : IsLeaseGraph old) (lease : LeaseValue) (new : G
       (lease_may (blocks old.table) old.table.settings (counts_in old) lease.worker lease.block (chosen_known old k lease.block l.first) inside stays vacant refl k.legal.range.lot.0 l.first.0.0)
 
   setup : setup_in new ≡ setup_in old
-  setup = same_setup old new l.task l.choice l.events.graph l.events.settings l.events.past
+  setup = same_setup old new l.task l.choice l.events.abstraction l.events.settings l.events.past
 
   module _ (recorded : (worker : ℕ) → Rows) (machine : Machine) (m : IsMomentAt old recorded machine) where
     abbrev Next : Machine

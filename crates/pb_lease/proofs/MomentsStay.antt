@@ -13,7 +13,7 @@ use Rattle.pb_bundles.specs.Stores.{HasKeys}
 use Rattle.pb_lease.specs.GraphValue.{GraphValue, setup_in, IsLeaseGraph}
 use Rattle.pb_lease.specs.Moments.{moves_of}
 use Rattle.pb_lease.specs.Laws.{TellsKeepMoments, NoneOutIsMoment, EventsLeaveOthers}
-use Rattle.pb_lease.specs.Steps.{TakesBound}
+use Rattle.pb_lease.specs.Steps.{LowersIncumbent}
 use Rattle.pb_lease.proofs.GraphBasics.{setup_is}
 
 pub tells_keep_moments : TellsKeepMoments
@@ -63,7 +63,7 @@ bounded_kept g k incumbent = record {
   weights = k.weights;
 }
 
-pub bound_taken : (g : GraphValue) (cost : ℕ) → TakesBound g cost (record g { incumbent = lesser g.incumbent (Some cost) })
+pub bound_taken : (g : GraphValue) (cost : ℕ) → LowersIncumbent g cost (record g { incumbent = lesser g.incumbent (Some cost) })
 bound_taken g cost recorded machine m known = record {
   lawful = m.lawful;
   counts = m.counts;

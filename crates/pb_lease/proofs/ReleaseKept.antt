@@ -89,7 +89,7 @@ module _ (t : Table) (busy near : List ℕ) (promised spare : ℕ) (k : IsKept t
         release_adds is = record {
           counts = home_is ∙ sym (reported_counts (blocks t) t.settings memory home_counts refl);
           journal = is ∙ append_assoc t.journal (Release worker used memory ∷ []) (ending memory t.end);
-          graph = refl;
+          abstraction = refl;
           settings = refl;
           past = refl;
         }

@@ -35,7 +35,7 @@ rival_near g block near result each rival = subst (λ (n : ℕ → Bool). IsRiva
 pub rival_is : (g : GraphValue) (block : ℕ) (result : Option ℕ) → IsRivalBy (interferes (blocks g.table) block) (key_at g.homes) block result → (recorded : (worker : ℕ) → Rows) (machine : Machine) → IsMomentAt g recorded machine
     → IsRival (blocks g.table) machine.store block result
 rival_is g block result rival recorded machine m = (rivals_are_by_key (blocks g.table) machine.store (key_at g.homes) (interferes (blocks g.table) block) block result m.keys (λ other. refl)
-    (λ other near. interferes_known g.table.graph.scopes block other near)).0 rival
+    (λ other near. interferes_known g.table.abstraction.scopes block other near)).0 rival
 
 -- ---- there is one best block
 

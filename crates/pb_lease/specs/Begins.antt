@@ -43,7 +43,7 @@ pub record IsBegin (g : GraphValue) : Type 0 where
 -- settings, and the same runs before it.
 pub record IsOfRun (begin g : GraphValue) : Type 0 where
   pub task : g.task ≡ begin.task
-  pub graph : g.table.graph ≡ begin.table.graph
+  pub abstraction : g.table.abstraction ≡ begin.table.abstraction
   pub choice : g.choice ≡ begin.choice
   pub settings : g.table.settings ≡ begin.table.settings
   pub past : g.table.past ≡ begin.table.past
@@ -67,7 +67,7 @@ LawfulMomentsBegin =
 -- stays, and the journal is empty.
 pub record IsReopened (old : GraphValue) (weight : Weight) (new : GraphValue) : Type 0 where
   pub task : new.task ≡ old.task
-  pub graph : new.table.graph ≡ old.table.graph
+  pub abstraction : new.table.abstraction ≡ old.table.abstraction
   pub choice : new.choice ≡ old.choice
   pub settings : new.table.settings
       ≡ settings_with old.table.settings weight old.table.settings.pattern

@@ -19,7 +19,7 @@ counts_along of settings counts (event ∷ events) =
 pub record Adds (old new : Table) (events : List Event) : Type 0 where
   pub counts : counts_of new ≡ counts_along (blocks old) old.settings (counts_of old) events
   pub journal : new.journal ≡ old.journal ++ events
-  pub graph : new.graph ≡ old.graph
+  pub abstraction : new.abstraction ≡ old.abstraction
   pub settings : new.settings ≡ old.settings
   pub past : new.past ≡ old.past
 

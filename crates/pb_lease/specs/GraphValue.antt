@@ -27,7 +27,7 @@ pub record GraphValue : Type 0 where
 -- what the graph's search is: its task, by its blocks, with its estimate and its settings, opened
 -- again as often as the graph was
 abbrev pub setup_in : GraphValue → Setup
-setup_in g = setup_of g.task g.table.graph g.choice g.table.settings g.table.past.reopenings
+setup_in g = setup_of g.task g.table.abstraction g.choice g.table.settings g.table.past.reopenings
 
 -- who has which lease, what is left, which blocks are hot, and who has signed off
 abbrev pub counts_in : GraphValue → Counts
@@ -39,7 +39,7 @@ counts_in g = counts_of g.table
 pub record IsLeaseGraph (g : GraphValue) : Type 0 where
   pub is_task : IsTask g.task
   pub suits : suits g.task g.choice ≡ true
-  pub graph_of : IsGraphOf g.task g.table.graph
+  pub graph_of : IsGraphOf g.task g.table.abstraction
   pub legal : IsHistory (blocks g.table) g.table.settings g.table.past.spent g.table.journal
       (counts_in g)
   pub places : length g.homes.bundles ≡ (blocks g.table).count
@@ -55,4 +55,4 @@ pub record IsOfGraph (g : GraphValue) (lease : LeaseValue) : Type 0 where
   pub leased : (counts_in g).leases lease.worker ≡ Some (grant_of lease)
   pub weight : lease.weight ≡ weight_of g.table.settings
   pub choice : lease.choice ≡ g.choice
-  pub scope : HasScope g.table.graph lease
+  pub scope : HasScope g.table.abstraction lease

@@ -16,16 +16,16 @@ use Rattle.pb_lease.specs.LeaseValue.{LeaseValue, leased_store, HasWeights}
 -- the guide of a search by blocks: the estimate of each state by the choice, and the block that is
 -- its home
 abbrev pub guide_of : TaskParts → AbstractGraph → Choice → Guide
-guide_of task graph choice =
-    record { estimate = estimate_by task choice; home = home_of task graph }
+guide_of task abstraction choice =
+    record { estimate = estimate_by task choice; home = home_of task abstraction }
 
 -- what is searched, and by what: the task, by the blocks of the graph, with estimates by the choice
 abbrev pub setup_of : TaskParts → AbstractGraph → Choice → Settings → (reopenings : ℕ) → Setup
-setup_of task graph choice settings reopenings =
+setup_of task abstraction choice settings reopenings =
     record {
       space = space_of task;
-      guide = guide_of task graph choice;
-      blocks = blocks_of graph;
+      guide = guide_of task abstraction choice;
+      blocks = blocks_of abstraction;
       settings = settings;
       reopenings = reopenings;
     }
@@ -57,7 +57,7 @@ IsOutInTurns setup machine most_broken lease =
     (out : IsOut setup machine most_broken lease) × IsInTurns setup machine most_broken lease out
 
 -- The lease has the bundles of its block's scope and no others, each with its weight.
-pub record HasScope (graph : AbstractGraph) (lease : LeaseValue) : Type 0 where
+pub record HasScope (abstraction : AbstractGraph) (lease : LeaseValue) : Type 0 where
   pub blocks : (block : ℕ) → is_some (content_in lease.parts block)
-      ≡ (blocks_of graph).scope lease.block block
+      ≡ (blocks_of abstraction).scope lease.block block
   pub weights : HasWeights lease

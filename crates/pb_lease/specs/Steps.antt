@@ -95,9 +95,9 @@ pub record IsMarked (old : GraphValue) (worker : ℕ) (event : Event) (new : Gra
 
 -- The sign-off is the one event, unless the worker reports out of memory before the end. In that
 -- case the end by this report is a second event. Nothing else changed.
-pub record IsSignedOff (old : GraphValue) (worker : ℕ) (trouble : Bool) (new : GraphValue) : Type 0
+pub record IsSignedOff (old : GraphValue) (worker : ℕ) (memory : Bool) (new : GraphValue) : Type 0
   where
-    pub events : Adds old.table new.table (Off worker trouble ∷ ending trouble old.table.end)
+    pub events : Adds old.table new.table (Off worker memory ∷ ending memory old.table.end)
     pub room : rooms new.table ≡ rooms old.table
     pub rest : new ≡ record old { table = new.table }
 
@@ -106,13 +106,13 @@ pub record IsSignedOff (old : GraphValue) (worker : ℕ) (trouble : Bool) (new :
 -- The lease's bundles are home, their keys are noted, and the incumbent is the lesser of both. The
 -- release is the one event, unless the worker reports out of memory before the end. In that case
 -- the end by this report is a second event. All else is as before.
-pub record IsReleased (old : GraphValue) (lease : LeaseValue) (trouble : Bool) (new : GraphValue) :
+pub record IsReleased (old : GraphValue) (lease : LeaseValue) (memory : Bool) (new : GraphValue) :
     Type 0 where
   pub home : (block : ℕ) → content_at new.homes block
       ≡ option_or (content_in lease.parts block) (content_at old.homes block)
   pub noted : NotesKeys lease.parts old.homes.keys new.homes.keys
-  pub events : Adds old.table new.table (Release lease.worker lease.used trouble
-      ∷ ending trouble old.table.end)
+  pub events : Adds old.table new.table (Release lease.worker lease.used memory
+      ∷ ending memory old.table.end)
   pub room : rooms new.table ≡ with_entry (rooms old.table) lease.worker 0
   pub task : new.task ≡ old.task
   pub choice : new.choice ≡ old.choice
@@ -122,19 +122,19 @@ pub record IsReleased (old : GraphValue) (lease : LeaseValue) (trouble : Bool) (
 -- broken off. Let the lease show what its worker told. If each worker can then have read the new
 -- graph's incumbent, these events lead to a moment of the new graph. They are in order if the
 -- lease has worked in turns.
-abbrev pub ReleasesNext : (old : GraphValue) → LeaseValue → (trouble : Bool) → (new : GraphValue)
+abbrev pub ReleasesNext : (old : GraphValue) → LeaseValue → (memory : Bool) → (new : GraphValue)
     → Type 0
-ReleasesNext old lease trouble new =
+ReleasesNext old lease memory new =
     (recorded : (worker : ℕ) → Rows) (machine : Machine) → IsMomentAt old recorded machine
-    → (out : IsOut (setup_in old) machine (one_if trouble) lease)
+    → (out : IsOut (setup_in old) machine (one_if memory) lease)
     → ShowsTold old machine lease → IsKnownThen machine lease new.incumbent
-    → (next : Machine) × Follows old machine (Release lease.worker lease.used trouble
-    ∷ ending trouble old.table.end) new recorded next
+    → (next : Machine) × Follows old machine (Release lease.worker lease.used memory
+    ∷ ending memory old.table.end) new recorded next
     × (next.store.incumbent ≡ brought_incumbent machine lease)
     × (next.told ≡ with_entry machine.told lease.worker None)
-    × (IsInTurns (setup_in old) machine (one_if trouble) lease out
+    × (IsInTurns (setup_in old) machine (one_if memory) lease out
     → RunsInOrder (setup_in old) machine
-    (moves_of (Release lease.worker lease.used trouble ∷ ending trouble old.table.end)) next)
+    (moves_of (Release lease.worker lease.used memory ∷ ending memory old.table.end)) next)
 
 -- the quota that a lease is renewed with: a lot, or all that is left with what it didn't use
 abbrev pub renewed_quota : GraphValue → LeaseValue → ℕ
@@ -214,8 +214,8 @@ pub record IsSwitched (old : GraphValue) (lease next : LeaseValue) (new : GraphV
 
 -- Take a moment of the old graph at which every worker can have read the cost. The new graph is
 -- that moment too, with the same rows recorded.
-abbrev pub TakesBound : (old : GraphValue) → (cost : ℕ) → (new : GraphValue) → Type 0
-TakesBound old cost new =
+abbrev pub LowersIncumbent : (old : GraphValue) → (cost : ℕ) → (new : GraphValue) → Type 0
+LowersIncumbent old cost new =
     (recorded : (worker : ℕ) → Rows) (machine : Machine) → IsMomentAt old recorded machine
     → ((worker : ℕ) → IsTrue (machine.known worker (Some cost)))
     → IsMomentAt new recorded machine

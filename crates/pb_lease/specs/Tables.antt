@@ -11,7 +11,7 @@ use Rattle.pb_lease.specs.declared.seat.Seat.{Seat}
 
 -- what a caller sees of the tables
 pub record Table : Type 0 where
-  pub graph : AbstractGraph
+  pub abstraction : AbstractGraph
   pub settings : Settings
   pub past : Past  -- what earlier runs on the same rows did
   pub seats : List Seat  -- by worker
@@ -34,7 +34,7 @@ seat_of seats worker = get_or seats worker vacant
 
 -- the blocks of the tables
 abbrev pub blocks : Table → Blocks
-blocks table = blocks_of table.graph
+blocks table = blocks_of table.abstraction
 
 -- The counts of the tables. No out-of-memory report waits in them, since the end that follows from
 -- one comes in the same call.

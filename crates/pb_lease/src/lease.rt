@@ -135,7 +135,7 @@ impl Lease {
     }
 
     /// Takes a cost at which a goal is reached: the incumbent becomes the lesser of both.
-    pub fn take_bound(&mut self, cost: u64)
+    pub fn lower_incumbent(&mut self, cost: u64)
         ensures { self.new ≡ record self.old { incumbent = lesser self.old.incumbent (Some cost) } }
     {
         self.incumbent = match self.incumbent {

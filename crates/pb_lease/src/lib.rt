@@ -5,36 +5,23 @@
 
 mod answer;
 mod begins;
-mod closing;
-mod counters;
-mod ending;
-mod granting;
 mod graph;
-mod hot;
 mod laws;
 mod lease;
-mod leasing;
-mod lowering;
-mod marking;
-mod marks;
 mod past;
-mod returning;
 mod seat;
-mod seats;
-mod store;
-mod switching;
 mod tables;
 
 pub use answer::{LeaseReply, Renewed, SwitchReply};
 pub use begins::{lawful_moments_begin, reopened_graphs_begin};
 pub use graph::LeaseGraph;
+pub use graph::store::home_rows_are_whole;
 pub use laws::{
     events_leave_others, leases_stay_out, none_out_can_be_leased, none_out_is_moment,
     opened_blocks_may_be_leased, tells_keep_moments, worked_leases_are_out,
 };
 pub use lease::Lease;
-pub use leasing::ROOM;
 pub use past::Past;
 pub use seat::Seat;
-pub use store::home_rows_are_whole;
 pub use tables::MachineTables;
+pub use tables::leasing::ROOM;

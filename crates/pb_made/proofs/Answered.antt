@@ -47,7 +47,7 @@ no_fault verdict fault e = cc
 module _ (parts : TaskParts) (graph : GraphValue) (workers : ℕ)
     (left : LeavesQuiet parts (made_settings workers) graph) where
   abbrev guide : Guide
-  guide = searched_guide parts graph.table.graph (made_settings workers)
+  guide = searched_guide parts graph.table.abstraction (made_settings workers)
 
   -- a plan that the rows at home lead to, or none
   abbrev pub IsPlanOfRows : Option Plan → Type 0
@@ -59,19 +59,19 @@ module _ (parts : TaskParts) (graph : GraphValue) (workers : ℕ)
 
   -- what is said of the rows by the graph's own settings
   pub plan_of_rows : (plan : Option Plan)
-      → IsPlanOf parts (searched_guide parts graph.table.graph graph.table.settings)
+      → IsPlanOf parts (searched_guide parts graph.table.abstraction graph.table.settings)
       (home_store graph) plan → IsPlanOfRows plan
   plan_of_rows plan is =
-      subst (λ (s : Settings). IsPlanOf parts (searched_guide parts graph.table.graph s)
+      subst (λ (s : Settings). IsPlanOf parts (searched_guide parts graph.table.abstraction s)
       (home_store graph) plan) left.settings_are is
 
   pub text_of_rows : (plan : Option Plan) (text : List ℕ)
       → IsCertificateOf parts Plain unweighted
-      (searched_guide parts graph.table.graph graph.table.settings) (home_store graph) plan text
+      (searched_guide parts graph.table.abstraction graph.table.settings) (home_store graph) plan text
       → IsOfRows plan text
   text_of_rows plan text is =
       subst (λ (s : Settings). IsCertificateOf parts Plain unweighted
-      (searched_guide parts graph.table.graph s) (home_store graph) plan text) left.settings_are is
+      (searched_guide parts graph.table.abstraction s) (home_store graph) plan text) left.settings_are is
 
   -- the search with the settings that the graph has
   pub with_its_settings : LeavesQuiet parts graph.table.settings graph
@@ -97,7 +97,7 @@ module _ (parts : TaskParts) (graph : GraphValue) (workers : ℕ)
     run = search_ends parts (made_settings workers) graph left;
     backed = subst (λ (s : Store). IsBackedBy s.incumbent plan) left.run.rows best.backed;
     traced = subst (λ (s : Store). IsTracedIfAny (space_of parts)
-        (searched_guide parts left.run.ends.graph (made_settings workers)) s plan) left.run.rows
+        (searched_guide parts left.run.ends.abstraction (made_settings workers)) s plan) left.run.rows
         (subst (λ (g : AbstractGraph).
         IsTracedIfAny (space_of parts) (searched_guide parts g (made_settings workers)) (home_store graph) plan) left.run.blocks
         best.traced);
@@ -105,11 +105,11 @@ module _ (parts : TaskParts) (graph : GraphValue) (workers : ℕ)
 
   -- it is the certificate of the search's rows
   is_of_search : (plan : Option Plan) (text : List ℕ) → IsOfRows plan text
-      → IsCertificateOf parts Plain unweighted (searched_guide parts left.run.ends.graph (made_settings workers))
+      → IsCertificateOf parts Plain unweighted (searched_guide parts left.run.ends.abstraction (made_settings workers))
       left.run.ends.run.machine.store plan text
   is_of_search plan text is =
       subst (λ (s : Store).
-      IsCertificateOf parts Plain unweighted (searched_guide parts left.run.ends.graph (made_settings workers)) s plan text)
+      IsCertificateOf parts Plain unweighted (searched_guide parts left.run.ends.abstraction (made_settings workers)) s plan text)
       left.run.rows
       (subst (λ (g : AbstractGraph).
       IsCertificateOf parts Plain unweighted (searched_guide parts g (made_settings workers)) (home_store graph) plan text)

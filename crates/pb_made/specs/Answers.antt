@@ -44,7 +44,7 @@ IsCertified parts workers verdict =
     × (found : Finds parts (made_settings workers) journal plan)
     × (text : List ℕ)
     × IsCertificateOf parts Plain unweighted
-    (searched_guide parts found.run.ends.graph (made_settings workers))
+    (searched_guide parts found.run.ends.abstraction (made_settings workers))
     found.run.ends.run.machine.store plan text
     × (verdict ≡ verdict_of unweighted plan)
 

@@ -18,5 +18,5 @@ pub record Finds (parts : TaskParts) (settings : Settings) (journal : List Event
     (plan : Option Plan) : Type 0 where
   pub run : SearchEnds parts settings Quiet journal
   pub backed : IsBackedBy run.ends.run.machine.store.incumbent plan
-  pub traced : IsTracedIfAny (space_of parts) (searched_guide parts run.ends.graph settings)
+  pub traced : IsTracedIfAny (space_of parts) (searched_guide parts run.ends.abstraction settings)
       run.ends.run.machine.store plan

@@ -134,7 +134,7 @@ fn answer_end(
 fn best_plan(alloc: Global, task: &Task, graph: &LeaseGraph) -> Result<Option<Plan>, AllocError>
     requires { LeavesQuiet task.now graph.now.table.settings graph.now }
     ensures { IfOk result (IsPlanOf task.now
-        (searched_guide task.now graph.now.table.graph graph.now.table.settings)
+        (searched_guide task.now graph.now.table.abstraction graph.now.table.settings)
         (home_store graph.now)) }
 {
     match graph.incumbent() {
@@ -148,7 +148,7 @@ fn traced_plan(alloc: Global, task: &Task, graph: &LeaseGraph) -> Result<Option<
     requires quiet { LeavesQuiet task.now graph.now.table.settings graph.now }
     requires known { (cost : ℕ) × (graph.now.incumbent ≡ Some cost) }
     ensures { IfOk result (IsPlanOf task.now
-        (searched_guide task.now graph.now.table.graph graph.now.table.settings)
+        (searched_guide task.now graph.now.table.abstraction graph.now.table.settings)
         (home_store graph.now)) }
 {
     let _lawful = task.max_degree();
@@ -167,10 +167,10 @@ fn certificate_text(
     requires weight { weight_of graph.now.table.settings ≡ unweighted }
     requires choice { choice_of graph.now.table.settings ≡ Plain }
     requires plan { IsPlanOf task.now
-        (searched_guide task.now graph.now.table.graph graph.now.table.settings)
+        (searched_guide task.now graph.now.table.abstraction graph.now.table.settings)
         (home_store graph.now) plan }
     ensures { IfOk result (λ text. IsCertificateOf task.now Plain unweighted
-        (searched_guide task.now graph.now.table.graph graph.now.table.settings)
+        (searched_guide task.now graph.now.table.abstraction graph.now.table.settings)
         (home_store graph.now) plan text.items) }
 {
     let _lawful = task.max_degree();

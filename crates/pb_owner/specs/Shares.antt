@@ -22,10 +22,10 @@ use Rattle.pb_owner.specs.declared.share.Share.{Share}
 
 -- the owner of a state has the number of its block mod the number of owners
 abbrev pub guide_for : TaskParts → AbstractGraph → (owners : ℕ) → Choice → Guide
-guide_for task graph owners choice =
+guide_for task abstraction owners choice =
     record {
       estimate = estimate_by task choice;
-      home = λ state. home_of task graph state % owners;
+      home = λ state. home_of task abstraction state % owners;
     }
 
 abbrev pub weight_of : ℕ × ℕ → Weight

@@ -67,7 +67,7 @@ pub fn offer(
 fn offer_all<K: LetterRule, R: Wait>(
     rt: &R,
     task: &Task,
-    graph: &AbsGraph,
+    abstraction: &AbsGraph,
     owners: u32,
     choice: &Choice,
     number: u32,
@@ -80,7 +80,7 @@ fn offer_all<K: LetterRule, R: Wait>(
     g: u64,
 ) -> Result<(), AllocError>
     requires tables { IsOfTask estimator.old task.now choice.now }
-    requires graph { IsGraphOf task.now graph.now }
+    requires of_task { IsGraphOf task.now abstraction.now }
     requires proper { IsProper (space_of task.now) greatest_cost }
     requires succs { succs.now ≡ steps (space_of task.now) parent.now }
     requires cheap { g < 2 ^ 61 }
@@ -89,16 +89,17 @@ fn offer_all<K: LetterRule, R: Wait>(
     requires some { 0 < owners }
     requires fits { (state : ℕ) → IsTrue ((space_of task.now).is_state state)
         → IsTrue (K.fits state) }
-    ensures offers { OnOk result (HasOffered (guide_for task.now graph.now owners choice.now) number
+    ensures offers { OnOk result (HasOffered (guide_for task.now abstraction.now owners choice.now)
+        number
         parent.now g succs.now post.now share.old share.new pass.old pass.new) }
     ensures broken { OnErr result ((count : ℕ) × (count < length succs.now)
-        × HasOffered (guide_for task.now graph.now owners choice.now) number parent.now g
+        × HasOffered (guide_for task.now abstraction.now owners choice.now) number parent.now g
         (take count succs.now) post.now share.old share.new pass.old pass.new) }
     ensures tables { IsOfTask estimator.new task.now choice.now }
 {
     for succ in succs {
         let cost = g + succ.cost;
-        let to = graph.block(task, &succ.state) % owners;
+        let to = abstraction.block(task, &succ.state) % owners;
         if to == number {
             match offer(
                 task,
@@ -135,7 +136,7 @@ fn offer_all<K: LetterRule, R: Wait>(
 pub fn expand<K: LetterRule, R: Wait>(
     rt: &R,
     task: &Task,
-    graph: &AbsGraph,
+    abstraction: &AbsGraph,
     owners: u32,
     choice: &Choice,
     number: u32,
@@ -149,11 +150,11 @@ pub fn expand<K: LetterRule, R: Wait>(
     row: &Row,
 ) -> Result<(), AllocError>
     requires tables { IsOfTask estimator.old task.now choice.now }
-    requires graph { IsGraphOf task.now graph.now }
+    requires of_task { IsGraphOf task.now abstraction.now }
     requires proper { IsProper (space_of task.now) greatest_cost }
     requires room { max_degree_of task.now ≤ vec_capacity succs.old }
     requires within { AreOwnWithin (space_of task.now)
-        (guide_for task.now graph.now owners choice.now) number (2 ^ 61 - 1)
+        (guide_for task.now abstraction.now owners choice.now) number (2 ^ 61 - 1)
         (row_of share.old.bundle) }
     requires next { IsNextRow (space_of task.now) (weight_of weight) share.old state.now row.now }
     requires own { IsPassOf post.now pass.old }
@@ -162,10 +163,12 @@ pub fn expand<K: LetterRule, R: Wait>(
     requires fits { (state : ℕ) → IsTrue ((space_of task.now).is_state state)
         → IsTrue (K.fits state) }
     ensures expanded { OnOk result (HasExpanded (space_of task.now)
-        (guide_for task.now graph.now owners choice.now) (weight_of weight) number 1 0 post.now
+        (guide_for task.now abstraction.now owners choice.now)
+        (weight_of weight) number 1 0 post.now
         share.old share.new pass.old pass.new) }
     ensures broken { OnErr result (HasExpanded (space_of task.now)
-        (guide_for task.now graph.now owners choice.now) (weight_of weight) number 0 1 post.now
+        (guide_for task.now abstraction.now owners choice.now)
+        (weight_of weight) number 0 1 post.now
         share.old share.new pass.old pass.new) }
     ensures opened { OnErr result (HasOpened (row_of share.new.bundle)) }
     ensures weight { share.new.bundle.weight ≡ share.old.bundle.weight }
@@ -176,7 +179,7 @@ pub fn expand<K: LetterRule, R: Wait>(
     match offer_all(
         rt,
         task,
-        graph,
+        abstraction,
         owners,
         choice,
         number,

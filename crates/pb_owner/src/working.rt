@@ -44,7 +44,7 @@ pub enum WorkEnd {
 pub fn work<K: LetterRule, R: Wait>(
     rt: &R,
     task: &Task,
-    graph: &AbsGraph,
+    abstraction: &AbsGraph,
     owners: u32,
     choice: &Choice,
     number: u32,
@@ -57,13 +57,13 @@ pub fn work<K: LetterRule, R: Wait>(
     quota: u64,
 ) -> (u64, WorkEnd)
     requires tables { IsOfTask estimator.old task.now choice.now }
-    requires graph { IsGraphOf task.now graph.now }
+    requires of_task { IsGraphOf task.now abstraction.now }
     requires proper { IsProper (space_of task.now) greatest_cost }
     requires room { max_degree_of task.now ≤ vec_capacity succs.old }
     requires weight { IsWeight (weight_of weight) }
     requires of_weight { share.old.bundle.weight ≡ weight_of weight }
     requires within { (most : ℕ) × AreOwnWithin (space_of task.now)
-        (guide_for task.now graph.now owners choice.now) number most (row_of share.old.bundle)
+        (guide_for task.now abstraction.now owners choice.now) number most (row_of share.old.bundle)
         × (most + greatest_cost * quota < 2 ^ 61) }
     requires own { IsPassOf post.now pass.old }
     requires owners { owners_of post.now ≡ owners }
@@ -73,7 +73,7 @@ pub fn work<K: LetterRule, R: Wait>(
 
     // What was done: the counted expansions, and one that was broken off if memory ran out.
     ensures worked { HasExpanded (space_of task.now)
-        (guide_for task.now graph.now owners choice.now) (weight_of weight) number result.0
+        (guide_for task.now abstraction.now owners choice.now) (weight_of weight) number result.0
         (broken_at result.1) post.now share.old share.new pass.old pass.new }
     ensures quota { result.0 ≤ quota }
 
@@ -97,8 +97,20 @@ pub fn work<K: LetterRule, R: Wait>(
             return (used, WorkEnd::Spent);
         }
         match expand(
-            rt, task, graph, owners, choice, number, weight, estimator, share, succs, post, pass,
-            &state, &row,
+            rt,
+            task,
+            abstraction,
+            owners,
+            choice,
+            number,
+            weight,
+            estimator,
+            share,
+            succs,
+            post,
+            pass,
+            &state,
+            &row,
         ) {
             Ok(()) => used += 1,
             Err(_) => return (used, WorkEnd::Memory),

@@ -33,15 +33,15 @@ quiet_is_best end v is_task suits_it ended is =
 
 module _ (parts : TaskParts) (abstraction : AbstractGraph) (settings : Settings) (range : AreInRange settings) (is_task : IsTask parts) (graph_of : IsGraphOf parts abstraction) (finest : IsFinest parts settings.wish abstraction.projection) where
   -- from the owners at the start of a search to those at its end
-  pub leaves : (old new : OwnersValue) → old.task ≡ parts → old.graph ≡ abstraction → old.choice ≡ choice_with settings.pattern → old.settings ≡ settings → IsOpening old → IsSameSearch old new → (end : End) → OwnersEnd end new → LeavesOwners parts settings end new
-  leaves old new task graph choice settings_are opening same end ended =
+  pub leaves : (old new : OwnersValue) → old.task ≡ parts → old.abstraction ≡ abstraction → old.choice ≡ choice_with settings.pattern → old.settings ≡ settings → IsOpening old → IsSameSearch old new → (end : End) → OwnersEnd end new → LeavesOwners parts settings end new
+  leaves old new task of_abstraction choice settings_are opening same end ended =
       let task_is : new.task ≡ parts = same.task ∙ task in
-      let graph_is : new.graph ≡ abstraction = same.graph ∙ graph in
+      let graph_is : new.abstraction ≡ abstraction = same.abstraction ∙ of_abstraction in
       let are : new.settings ≡ settings = same.settings ∙ settings_are in
-      let its_graph : IsGraphOf parts new.graph = subst (λ (a : AbstractGraph). IsGraphOf parts a) (sym graph_is) graph_of in
+      let its_graph : IsGraphOf parts new.abstraction = subst (λ (a : AbstractGraph). IsGraphOf parts a) (sym graph_is) graph_of in
       record {
         task = task_is;
-        graph = its_graph;
+        abstraction = its_graph;
         finest = subst (λ (a : AbstractGraph). IsFinest parts settings.wish a.projection) (sym graph_is) finest;
         settings_are = are;
         choice = same.choice ∙ choice;
@@ -49,7 +49,7 @@ module _ (parts : TaskParts) (abstraction : AbstractGraph) (settings : Settings)
         quiet = λ is. subst (λ (p : TaskParts). IsQuietEnd (space_of p) (guide_in new) (owners_store new)) task_is
             (quiet_is_best end new (subst IsTask (sym task_is) is_task) ((λ i. suits (same.task i) (same.choice i)) ∙ opening.suits) ended is);
         lookable = record {
-          graph = subst (λ (p : TaskParts). IsGraphOf p new.graph) (sym task_is) its_graph;
+          abstraction = subst (λ (p : TaskParts). IsGraphOf p new.abstraction) (sym task_is) its_graph;
           workers = subst (λ (s : Settings). (1 ≤ s.workers) × (s.workers ≤ 64)) (sym are) range.workers;
           many = ended.many;
         };

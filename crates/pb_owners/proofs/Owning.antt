@@ -35,7 +35,7 @@ module _ (end : End) (v : OwnersValue) (is_task : IsTask v.task) (range : AreInR
       }
 
   -- the search was of the task, the blocks and the choice that the owners have
-  pub owners_ended : (task : TaskParts) (graph : AbstractGraph) (choice : Choice) → v.task ≡ task → v.graph ≡ graph → v.choice ≡ choice
-      → IsSearched (space_of task) (guide_for task graph v.settings.workers choice) (weight_in v) v.settings.workers v.spent (share_at v.shares) → IsEnd v.settings.budget v.spent (share_at v.shares) end → v.spent ≤ v.settings.budget → length v.shares ≡ v.settings.workers → OwnersEnd end v
-  owners_ended task graph choice task_is graph_is choice_is searched =
+  pub owners_ended : (task : TaskParts) (abstraction : AbstractGraph) (choice : Choice) → v.task ≡ task → v.abstraction ≡ abstraction → v.choice ≡ choice
+      → IsSearched (space_of task) (guide_for task abstraction v.settings.workers choice) (weight_in v) v.settings.workers v.spent (share_at v.shares) → IsEnd v.settings.budget v.spent (share_at v.shares) end → v.spent ≤ v.settings.budget → length v.shares ≡ v.settings.workers → OwnersEnd end v
+  owners_ended task abstraction choice task_is graph_is choice_is searched =
       owners_end (subst (λ (t : TaskParts × AbstractGraph × Choice). IsSearched (space_of t.0) (guide_for t.0 t.1 v.settings.workers t.2) (weight_in v) v.settings.workers v.spent (share_at v.shares)) (λ i. (sym task_is i, sym graph_is i, sym choice_is i)) searched)

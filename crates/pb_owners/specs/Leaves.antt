@@ -19,8 +19,8 @@ use Rattle.pb_owners.specs.Owners.{OwnersValue, guide_in, owners_store, CanLookU
 pub record LeavesOwners (parts : TaskParts) (settings : Settings) (end : End)
     (owners : OwnersValue) : Type 0 where
   pub task : owners.task ≡ parts
-  pub graph : IsGraphOf parts owners.graph
-  pub finest : IsFinest parts settings.wish owners.graph.projection
+  pub abstraction : IsGraphOf parts owners.abstraction
+  pub finest : IsFinest parts settings.wish owners.abstraction.projection
   pub settings_are : owners.settings ≡ settings
   pub choice : owners.choice ≡ choice_with settings.pattern
   pub ended : OwnersEnd end owners

@@ -23,7 +23,7 @@ use Rattle.pb_owners.specs.Shares.{share_at, IsEnd}
 
 pub record OwnersValue : Type 0 where
   pub task : TaskParts
-  pub graph : AbstractGraph
+  pub abstraction : AbstractGraph
   pub choice : Choice
   pub settings : Settings
   pub spent : ℕ
@@ -33,7 +33,7 @@ abbrev pub space_in : OwnersValue → Space
 space_in owners = space_of owners.task
 
 abbrev pub guide_in : OwnersValue → Guide
-guide_in owners = guide_for owners.task owners.graph owners.settings.workers owners.choice
+guide_in owners = guide_for owners.task owners.abstraction owners.settings.workers owners.choice
 
 abbrev pub weight_in : OwnersValue → Weight
 weight_in owners = weight_of owners.settings
@@ -52,7 +52,7 @@ pub record IsOpeningShare (weight : Weight) (is_home : Bool) (start : ℕ) (esti
 
 -- the owners are those at the start of a search
 pub record IsOpening (owners : OwnersValue) : Type 0 where
-  pub graph : IsGraphOf owners.task owners.graph
+  pub abstraction : IsGraphOf owners.task owners.abstraction
   pub suits : suits owners.task owners.choice ≡ true
   pub settings : AreInRange owners.settings
   pub many : length owners.shares ≡ owners.settings.workers
@@ -64,7 +64,7 @@ pub record IsOpening (owners : OwnersValue) : Type 0 where
 -- all but the rows and the number of expansions stays
 pub record IsSameSearch (old new : OwnersValue) : Type 0 where
   pub task : new.task ≡ old.task
-  pub graph : new.graph ≡ old.graph
+  pub abstraction : new.abstraction ≡ old.abstraction
   pub choice : new.choice ≡ old.choice
   pub settings : new.settings ≡ old.settings
 
@@ -83,6 +83,6 @@ pub record OwnersEnd (end : End) (owners : OwnersValue) : Type 0 where
 -- The home of each state of the task can be computed: the blocks are those of the task, and each
 -- of 1 to 64 owners has a share.
 pub record CanLookUp (owners : OwnersValue) : Type 0 where
-  pub graph : IsGraphOf owners.task owners.graph
+  pub abstraction : IsGraphOf owners.task owners.abstraction
   pub workers : (1 ≤ owners.settings.workers) × (owners.settings.workers ≤ 64)
   pub many : length owners.shares ≡ owners.settings.workers

@@ -14,14 +14,14 @@ abbrev pub space_in : Plan → Space
 space_in plan = space_of plan.task.now
 
 abbrev pub guide_in : Plan → Guide
-guide_in plan = guide_for plan.task.now plan.graph.now plan.owners plan.choice.now
+guide_in plan = guide_for plan.task.now plan.abstraction.now plan.owners plan.choice.now
 
 abbrev pub weight_in : Plan → Weight
 weight_in plan = weight_of plan.weight
 
 -- the blocks are those of the task, and the weight and the number of owners are in range
 pub record IsPlan (plan : Plan) : Type 0 where
-  pub graph : IsGraphOf plan.task.now plan.graph.now
+  pub abstraction : IsGraphOf plan.task.now plan.abstraction.now
   pub proper : IsProper (space_in plan) greatest_cost
   pub weight : IsWeight (weight_in plan)
   pub some : 0 < plan.owners

@@ -42,7 +42,7 @@ impl Model for Owners {
 
     ghost view = { λ o. record {
       task = arc_value o.task;
-      graph = arc_value o.abstraction;
+      abstraction = arc_value o.abstraction;
       choice = o.choice;
       settings = o.settings;
       spent = o.spent;
@@ -116,13 +116,13 @@ impl Owners {
         estimate: Estimate,
         settings: Settings,
     ) -> Result<Owners, AllocError>
-        requires graph { IsGraphOf (arc_value task) (arc_value abstraction) }
+        requires of_task { IsGraphOf (arc_value task) (arc_value abstraction) }
         requires suits { suits (arc_value task) choice ≡ true }
         requires estimate { estimate ≡ estimate_by (arc_value task) choice
             (space_of (arc_value task)).start }
         requires settings { AreInRange settings }
         ensures task { IfOk result (λ owners. owners.task ≡ arc_value task) }
-        ensures graph { IfOk result (λ owners. owners.graph ≡ arc_value abstraction) }
+        ensures abstraction { IfOk result (λ owners. owners.abstraction ≡ arc_value abstraction) }
         ensures choice { IfOk result (λ owners. owners.choice ≡ choice) }
         ensures settings { IfOk result (λ owners. owners.settings ≡ settings) }
         ensures opening { IfOk result IsOpening }

@@ -52,7 +52,7 @@ pub fn begin<K: LetterRule, R: Wait, G: Gate>(
             let (count, end) = work(
                 rt,
                 plan.task,
-                plan.graph,
+                plan.abstraction,
                 plan.owners,
                 plan.choice,
                 number,

@@ -7,7 +7,7 @@ use pb_task::Task;
 #[derive(Drop)]
 pub struct Plan<'a> {
     pub task: &'a Task,
-    pub graph: &'a AbsGraph,
+    pub abstraction: &'a AbsGraph,
     pub choice: &'a Choice,
     pub weight: (u64, u64),
     pub owners: u32,

@@ -165,7 +165,7 @@ pub fn run_owners<R: Threads + Wait + Sync, G: Gate>(
     table: Option<&Arc<Table>>,
 ) -> Result<End, AllocError>
     requires task { owners.old.task ≡ task.now }
-    requires abstraction { owners.old.graph ≡ abstraction.now }
+    requires abstraction { owners.old.abstraction ≡ abstraction.now }
     requires opening { IsOpening owners.old }
     requires table { HasTable task.now owners.old.choice
         (option_map arc_value (option_copied table)) }
@@ -177,7 +177,7 @@ pub fn run_owners<R: Threads + Wait + Sync, G: Gate>(
     let choice = owners.choice.clone()?;
     let plan = Plan {
         task,
-        graph: abstraction,
+        abstraction: abstraction,
         choice: &choice,
         weight: (settings.num, settings.den),
         owners: settings.workers,

@@ -33,14 +33,14 @@ fn opening(
     table: Option<&Arc<Table>>,
     settings: Settings,
 ) -> Result<Owners, AllocError>
-    requires graph { IsGraphOf (arc_value task.now) (arc_value abstraction.now) }
+    requires of_task { IsGraphOf (arc_value task.now) (arc_value abstraction.now) }
     requires range { AreInRange settings }
     requires suits { suits (arc_value task.now) choice ≡ true }
     requires table { HasTable (arc_value task.now) choice
         (option_map arc_value (option_copied table)) }
     ensures lawful { IsTask (arc_value task.now) }
     ensures task { IfOk result (λ owners. owners.task ≡ arc_value task.now) }
-    ensures graph { IfOk result (λ owners. owners.graph ≡ arc_value abstraction.now) }
+    ensures abstraction { IfOk result (λ owners. owners.abstraction ≡ arc_value abstraction.now) }
     ensures choice { IfOk result (λ owners. owners.choice ≡ choice) }
     ensures settings { IfOk result (λ owners. owners.settings ≡ settings) }
     ensures opening { IfOk result IsOpening }

@@ -89,7 +89,7 @@ module _ (parts : TaskParts) (settings : Settings) (range : AreInRange settings)
     leases_within journal run =
         let ended = run.ends.run in
         let works = ended.works in
-        let guide = searched_guide parts run.ends.graph settings in
+        let guide = searched_guide parts run.ends.abstraction settings in
         let store = ended.machine.store in
         let none = ended.none_broken in
         let within = ended.ended_so.0 in
@@ -130,10 +130,10 @@ module _ (parts : TaskParts) (settings : Settings) (range : AreInRange settings)
     leases_are_short end journal run =
         let ends = run.ends in
         let counts = ends.run.machine.counts in
-        let legal : IsHistory (blocks_of ends.graph) settings 0 journal counts =
-        subst (λ (j : List Event). IsHistory (blocks_of ends.graph) settings 0 j counts)
+        let legal : IsHistory (blocks_of ends.abstraction) settings 0 journal counts =
+        subst (λ (j : List Event). IsHistory (blocks_of ends.abstraction) settings 0 j counts)
         (sym run.events) ends.run.legal in
-        let text = lengths (blocks_of ends.graph) settings journal counts ends.few legal in
+        let text = lengths (blocks_of ends.abstraction) settings journal counts ends.few legal in
         let same : length journal ≡ length (journal_of run.moves) = ap length run.events in
         let short = ends.short in
         let sum = ends.run.lawful.counts.sum in

@@ -136,7 +136,7 @@ module _ (parts : TaskParts) (abstraction : AbstractGraph) (settings : Settings)
   ends_by : (end : End) → h.machine.counts.end ≡ Some end → EndsBy parts settings end h.moves
   unfolding run_ends run_ended
   ends_by end is = record {
-    graph = abstraction;
+    abstraction = abstraction;
     graph_of = graph_of;
     finest = finest;
     few = few;

@@ -21,7 +21,7 @@ use Rattle.pb_search.proofs.Clauses.{run_ends}
 
 module _ (view : View) (g : GraphValue) (end : End) (begins : IsLeaseGraph view.begin) (c : IsClosed view g) (within : KeepsWithinRoom g.table.journal) (is : g.table.end ≡ Some end) where
   setup_same : setup_in g ≡ setup_in view.begin
-  setup_same = λ i. setup_of (c.of_run.task i) (c.of_run.graph i) (c.of_run.choice i) (c.of_run.settings i) (c.of_run.past i).reopenings
+  setup_same = λ i. setup_of (c.of_run.task i) (c.of_run.abstraction i) (c.of_run.choice i) (c.of_run.settings i) (c.of_run.past i).reopenings
 
   end_is : c.machine.counts.end ≡ Some end
   end_is = ap (λ (n : Counts). n.end) (c.moment (λ worker home state. None)).at.counts ∙ is

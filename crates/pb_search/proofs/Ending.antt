@@ -69,7 +69,7 @@ module _ (parts : TaskParts) (abstraction : AbstractGraph) (settings : Settings)
         let run : LeadsInTime setup to.moves last.0 = subst (λ (s : Setup). LeadsInTime s to.moves last.0) old_setup (subst (λ (m : Machine). RunsInTime (setup_in old) m to.moves last.0) opens.opening to.run) in
         record {
           task = same.task ∙ opens.task;
-          graph_is = same.graph ∙ opens.graph_is;
+          graph_is = same.abstraction ∙ opens.graph_is;
           choice_is = same.choice ∙ opens.choice_is;
           settings_are = same.settings ∙ opens.settings_are;
           past = same.past ∙ opens.past;
@@ -92,8 +92,8 @@ module _ (parts : TaskParts) (abstraction : AbstractGraph) (settings : Settings)
     task : new.task ≡ parts
     task = sym closed.search.task ∙ keeps.task ∙ opens.task
 
-    graph : new.table.graph ≡ abstraction
-    graph = sym closed.search.graph ∙ keeps.graph ∙ opens.graph_is
+    abstraction_is : new.table.abstraction ≡ abstraction
+    abstraction_is = sym closed.search.abstraction ∙ keeps.abstraction ∙ opens.graph_is
 
     choice : new.choice ≡ choice_of settings
     choice = sym closed.search.choice ∙ keeps.choice ∙ opens.choice_is
@@ -105,7 +105,7 @@ module _ (parts : TaskParts) (abstraction : AbstractGraph) (settings : Settings)
     past = closed.of_run.past ∙ ap (λ (g : GraphValue). g.table.past) keeps.begin ∙ opens.past
 
     new_setup : setup_in new ≡ setup
-    new_setup = λ i. setup_of (task i) (graph i) (choice i) (are i) (past i).reopenings
+    new_setup = λ i. setup_of (task i) (abstraction_is i) (choice i) (are i) (past i).reopenings
 
     begins : begin_machine view.begin ≡ opening_machine setup
     begins = ap begin_machine keeps.begin ∙ opens.opening ∙ ap (λ (s : Setup). opening_machine s) old_setup
@@ -117,7 +117,7 @@ module _ (parts : TaskParts) (abstraction : AbstractGraph) (settings : Settings)
         subst (λ (m : Machine). RunsInTime setup m closed.moves closed.machine) begins (subst (λ (s : Setup). RunsInTime s (begin_machine view.begin) closed.moves closed.machine) new_setup closed.run) in
         record {
           task = task;
-          graph_is = graph;
+          graph_is = abstraction_is;
           choice_is = choice;
           settings_are = are;
           past = past;

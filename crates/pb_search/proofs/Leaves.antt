@@ -40,14 +40,14 @@ module _ (parts : TaskParts) (given settings : Settings) (graph : GraphValue)
 module _ (parts : TaskParts) (settings : Settings) (graph : GraphValue)
     (left : LeavesQuiet parts settings graph) where
   -- the rows at home are those of a quiet end
-  pub quiet_end : IsQuietEnd (space_of parts) (searched_guide parts graph.table.graph settings)
+  pub quiet_end : IsQuietEnd (space_of parts) (searched_guide parts graph.table.abstraction settings)
       (home_store graph)
   quiet_end =
       subst (λ (c : Choice).
-      IsQuietEnd (space_of parts) (guide_of parts graph.table.graph c) (home_store graph))
+      IsQuietEnd (space_of parts) (guide_of parts graph.table.abstraction c) (home_store graph))
       left.best.choice
       (subst (λ (p : TaskParts).
-      IsQuietEnd (space_of p) (guide_of p graph.table.graph graph.choice) (home_store graph))
+      IsQuietEnd (space_of p) (guide_of p graph.table.abstraction graph.choice) (home_store graph))
       left.best.task
       (record {
         sound = left.best.best.sound;

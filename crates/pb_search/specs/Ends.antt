@@ -38,7 +38,7 @@ choice_of settings = choice_with settings.pattern
 
 -- what a search with these settings is guided by: the estimate of each state, and its block
 abbrev pub searched_guide : TaskParts → AbstractGraph → Settings → Guide
-searched_guide parts graph settings = guide_of parts graph (choice_of settings)
+searched_guide parts abstraction settings = guide_of parts abstraction (choice_of settings)
 
 -- ---- the rows at a quiet end
 
@@ -62,7 +62,7 @@ pub record IsBestOf (parts : TaskParts) (settings : Settings) (graph : GraphValu
 
 -- what is searched, and with what: the task, by these blocks, with these settings, from its start
 abbrev pub search_of : TaskParts → AbstractGraph → Settings → Setup
-search_of parts graph settings = setup_of parts graph (choice_of settings) settings 0
+search_of parts abstraction settings = setup_of parts abstraction (choice_of settings) settings 0
 
 -- these moves lead from the machine that has the start's row alone to this one
 abbrev pub Leads : Setup → List Move → Machine → Type 0
@@ -77,9 +77,9 @@ LeadsInTime setup moves machine = RunsInTime setup (opening_machine setup) moves
 
 -- this work leads from the start's row alone, at the weight of the settings, to this store
 abbrev pub ComesFromStart : TaskParts → AbstractGraph → Settings → List Work → Store → Type 0
-ComesFromStart parts graph settings works store =
+ComesFromStart parts abstraction settings works store =
     let space = space_of parts in
-    let guide = searched_guide parts graph settings in
+    let guide = searched_guide parts abstraction settings in
     Comes space guide works (opening_store space guide (weight_of settings)) store
 
 -- What an end says of the rows and of the number of expansions that led to them. A quiet end: no
@@ -133,13 +133,13 @@ EndsFrom begin end moves =
 -- settings. There are no more events than the expansions can have brought about.
 pub record EndsBy (parts : TaskParts) (settings : Settings) (end : End) (moves : List Move)
     : Type 0 where
-  pub graph : AbstractGraph
-  pub graph_of : IsGraphOf parts graph
-  pub finest : IsFinest parts settings.wish graph.projection
-  pub few : (blocks_of graph).count ≤ 4096
-  pub run : RunEnds (search_of parts graph settings) 0
-      (opening_machine (search_of parts graph settings)) end moves
-  pub comes : ComesFromStart parts graph settings run.works run.machine.store
+  pub abstraction : AbstractGraph
+  pub graph_of : IsGraphOf parts abstraction
+  pub finest : IsFinest parts settings.wish abstraction.projection
+  pub few : (blocks_of abstraction).count ≤ 4096
+  pub run : RunEnds (search_of parts abstraction settings) 0
+      (opening_machine (search_of parts abstraction settings)) end moves
+  pub comes : ComesFromStart parts abstraction settings run.works run.machine.store
   pub short : length (journal_of moves)
       ≤ most_events (space_of parts).actions run.machine.counts.spent settings.workers
 
@@ -157,7 +157,7 @@ pub record EndsQuietly (parts : TaskParts) (settings : Settings) (journal : List
   pub moves : List Move
   pub journal_is : journal ≡ journal_of moves
   pub ends : EndsBy parts settings Quiet moves
-  pub blocks : graph.table.graph ≡ ends.graph
+  pub blocks : graph.table.abstraction ≡ ends.abstraction
   pub rows : home_store graph ≡ ends.run.machine.store
 
 -- ---- marks

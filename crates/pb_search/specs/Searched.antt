@@ -21,7 +21,7 @@ use Rattle.pb_search.specs.Ends.{choice_of, search_of, Leads, LeadsInTime}
 pub record Opens (parts : TaskParts) (abstraction : AbstractGraph) (settings : Settings)
     (graph : GraphValue) : Type 0 where
   pub task : graph.task ≡ parts
-  pub graph_is : graph.table.graph ≡ abstraction
+  pub graph_is : graph.table.abstraction ≡ abstraction
   pub choice_is : graph.choice ≡ choice_of settings
   pub settings_are : graph.table.settings ≡ settings
   pub past : graph.table.past ≡ no_past
@@ -37,7 +37,7 @@ pub record Opens (parts : TaskParts) (abstraction : AbstractGraph) (settings : S
 pub record HasSearched (parts : TaskParts) (abstraction : AbstractGraph) (settings : Settings)
     (graph : GraphValue) : Type 0 where
   pub task : graph.task ≡ parts
-  pub graph_is : graph.table.graph ≡ abstraction
+  pub graph_is : graph.table.abstraction ≡ abstraction
   pub choice_is : graph.choice ≡ choice_of settings
   pub settings_are : graph.table.settings ≡ settings
   pub past : graph.table.past ≡ no_past

@@ -26,7 +26,7 @@ pub fn opening(
     table: Option<&Arc<Table>>,
     settings: Settings,
 ) -> Result<LeaseGraph, AllocError>
-    requires graph { IsGraphOf (arc_value task.now) (arc_value abstraction.now) }
+    requires of_task { IsGraphOf (arc_value task.now) (arc_value abstraction.now) }
     requires range { AreInRange settings }
     requires choice { choice ≡ choice_of settings }
     requires table { HasTable (arc_value task.now) choice

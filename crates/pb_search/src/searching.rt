@@ -37,9 +37,9 @@ pub fn search<R: Threads + Wait + Sync, G: Gate>(
 
     // What was searched, by which blocks, and with what.
     ensures task { IfOk result (λ graph. graph.task ≡ arc_value task.now) }
-    ensures blocks { IfOk result (λ graph. IsGraphOf (arc_value task.now) graph.table.graph) }
+    ensures blocks { IfOk result (λ graph. IsGraphOf (arc_value task.now) graph.table.abstraction) }
     ensures finest { IfOk result (λ graph.
-        IsFinest (arc_value task.now) settings.wish graph.table.graph.projection) }
+        IsFinest (arc_value task.now) settings.wish graph.table.abstraction.projection) }
     ensures settings { IfOk result (λ graph. graph.table.settings ≡ settings) }
     ensures choice { IfOk result (λ graph. graph.choice ≡ choice_of settings) }
 

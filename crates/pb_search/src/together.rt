@@ -29,7 +29,7 @@ pub fn search_together<R: Threads + Wait + Sync, G: Gate>(
     table: Option<&Arc<Table>>,
 ) -> Result<LeaseGraph, AllocError>
     requires opens { Opens task.now abstraction.now opening.table.settings opening }
-    requires graph { IsGraphOf task.now abstraction.now }
+    requires of_task { IsGraphOf task.now abstraction.now }
     requires several { 1 < opening.table.settings.workers }
     requires table { HasTable task.now opening.choice
         (option_map arc_value (option_copied table)) }

@@ -43,18 +43,18 @@ fn graph_of(alloc: Global, task: &Task, wish: u32) -> Result<AbsGraph, AllocErro
 }
 
 // The scope of a block, where there is one of this number.
-fn scope(graph: &AbsGraph, block: u32) -> &[u32] {
-    if block < graph.count() {
-        graph.scope(block)
+fn scope(abstraction: &AbsGraph, block: u32) -> &[u32] {
+    if block < abstraction.count() {
+        abstraction.scope(block)
     } else {
         &[]
     }
 }
 
 // The interference of a block, where there is one of this number.
-fn interference(graph: &AbsGraph, block: u32) -> &[u32] {
-    if block < graph.count() {
-        graph.interference(block)
+fn interference(abstraction: &AbsGraph, block: u32) -> &[u32] {
+    if block < abstraction.count() {
+        abstraction.interference(block)
     } else {
         &[]
     }
@@ -69,23 +69,23 @@ fn add_list(
 ) -> Result<(), AllocError> {
     let (example, wish, block) = row;
     let task = task_of(alloc, example)?;
-    let graph = graph_of(alloc, &task, wish)?;
+    let abstraction = graph_of(alloc, &task, wish)?;
     let list = if is_scope {
-        scope(&graph, block)
+        scope(&abstraction, block)
     } else {
-        interference(&graph, block)
+        interference(&abstraction, block)
     };
-    let line = format!(in alloc; "of {}, {block}: {list:?}\n", graph.count())?;
+    let line = format!(in alloc; "of {}, {block}: {list:?}\n", abstraction.count())?;
     text.push_str(line.as_str())?;
     Ok(())
 }
 
 // The block of a state, if it is one.
-fn block(graph: &AbsGraph, task: &Task, state: &Packed) -> Option<u32>
-    requires { IsGraphOf task.now graph.now }
+fn block(abstraction: &AbsGraph, task: &Task, state: &Packed) -> Option<u32>
+    requires { IsGraphOf task.now abstraction.now }
 {
     if task.is_state(state) {
-        Some(graph.block(task, state))
+        Some(abstraction.block(task, state))
     } else {
         None
     }
@@ -104,10 +104,10 @@ fn block_of(
     bits: u64,
 ) -> Result<(u32, Option<u32>), AllocError> {
     let task = task_of(alloc, example)?;
-    let graph = graph_of(alloc, &task, wish)?;
+    let abstraction = graph_of(alloc, &task, wish)?;
     let state = Packed::zero().with_bits(0, 64, bits);
-    let count = crosses_threads(&graph).count();
-    Ok((count, block(&graph, &task, &state)))
+    let count = crosses_threads(&abstraction).count();
+    Ok((count, block(&abstraction, &task, &state)))
 }
 
 const SCOPES: &str = "of 9, 4: [1, 3, 4, 5, 7]

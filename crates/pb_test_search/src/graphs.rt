@@ -41,12 +41,12 @@ pub(crate) fn start_estimate(alloc: Global, task: &Task) -> Result<Estimate, All
 fn beginning(alloc: Global, task: &Task) -> Result<(Estimate, Arc<AbsGraph>), AllocError>
     ensures estimate { IfOk result (λ found. found.0
         ≡ estimate_of task.now (space_of task.now).start) }
-    ensures graph { IfOk result (λ found. IsGraphOf task.now (arc_value found.1)) }
+    ensures abstraction { IfOk result (λ found. IsGraphOf task.now (arc_value found.1)) }
 {
     let estimate = start_estimate(alloc, task)?;
     let blocks = AbsGraph::of(alloc, task, 256)?;
-    let graph = Arc::new(alloc, blocks)?;
-    Ok((estimate, graph))
+    let abstraction = Arc::new(alloc, blocks)?;
+    Ok((estimate, abstraction))
 }
 
 // The graph of a search that opens.
@@ -64,7 +64,7 @@ fn open(alloc: Global, task: Arc<Task>, settings: Settings) -> Result<LeaseGraph
 fn lease_first(graph: &mut LeaseGraph) -> Option<Lease>
     requires { IsNewGraph graph.old }
     ensures leased { IfSome result (λ lease. IsLeased graph.old 0 lease graph.new) }
-    ensures at_work { IfSome result (λ lease. IsAtWork graph.new.task graph.new.table.graph
+    ensures at_work { IfSome result (λ lease. IsAtWork graph.new.task graph.new.table.abstraction
         lease.choice lease) }
 {
     let _ = graph.settings();
@@ -234,7 +234,7 @@ fn work_with(
 ) -> (Worked, u64)
     requires task { graph.now.task ≡ task.now }
     requires of_graph { IsOfGraph graph.now lease.old }
-    requires at_work { IsAtWork graph.now.task graph.now.table.graph lease.old.choice
+    requires at_work { IsAtWork graph.now.task graph.now.table.abstraction lease.old.choice
         lease.old }
     requires tools { IsOfTask estimator.old task.now lease.old.choice }
     requires room { max_degree_of task.now ≤ vec_capacity succs.old }
@@ -253,7 +253,7 @@ fn work_on(
 ) -> Result<(Worked, u64), AllocError>
     requires task { graph.now.task ≡ task.now }
     requires of_graph { IsOfGraph graph.now lease.old }
-    requires at_work { IsAtWork graph.now.task graph.now.table.graph lease.old.choice
+    requires at_work { IsAtWork graph.now.task graph.now.table.abstraction lease.old.choice
         lease.old }
     ensures { IsOfGraph graph.now lease.new }
 {

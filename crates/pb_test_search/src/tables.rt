@@ -64,7 +64,7 @@ fn play(tables: &mut MachineTables, call: &Call) -> Option<u64> {
 
 // The quota of the lease. It is greater than all that are wanted if memory runs out.
 fn lease(tables: &mut MachineTables, worker: u32, block: u32) -> Option<u64> {
-    if worker >= tables.settings().workers || block >= tables.graph().count() {
+    if worker >= tables.settings().workers || block >= tables.abstraction().count() {
         return None;
     }
     let seat = tables.seat(worker);
@@ -80,7 +80,7 @@ fn renew(tables: &mut MachineTables, worker: u32, used: u64) -> Option<u64> {
     }
     let seat = tables.seat(worker);
     let own = seat.grant?;
-    if used > own.quota || own.block >= tables.graph().count() || seat.room == 0 {
+    if used > own.quota || own.block >= tables.abstraction().count() || seat.room == 0 {
         return None;
     }
     if !tables.can_be_leased_after(worker, used, own.block) {
@@ -119,7 +119,7 @@ fn mark(
     block: u32,
     outranked: Option<bool>,
 ) -> Option<u64> {
-    if worker >= tables.settings().workers || block >= tables.graph().count() {
+    if worker >= tables.settings().workers || block >= tables.abstraction().count() {
         return None;
     }
     if tables.seat(worker).grant.is_none() {
@@ -162,7 +162,7 @@ fn end(tables: &mut MachineTables, budget: bool) -> Option<u64> {
 // The blocks that can be leased, as a bit each.
 fn free_blocks(tables: &MachineTables) -> u64 {
     let mut bits = 0;
-    for block in 0..tables.graph().count().min(64) {
+    for block in 0..tables.abstraction().count().min(64) {
         if tables.can_be_leased(block) {
             bits |= 1 << block;
         }
@@ -172,7 +172,7 @@ fn free_blocks(tables: &MachineTables) -> u64 {
 
 // How many leased or hot blocks interfere with the block.
 fn near(tables: &MachineTables, block: u32, hot: bool) -> Option<u64> {
-    if block >= tables.graph().count() {
+    if block >= tables.abstraction().count() {
         return None;
     }
     if hot {
@@ -211,8 +211,8 @@ fn played(
     lot: u64,
     calls: &[(Call, Option<u64>)],
 ) -> Result<(usize, Option<End>), AllocError> {
-    let graph = Arc::new(alloc, blocks(alloc, in_corridor)?)?;
-    let mut tables = MachineTables::new(alloc, graph, settings_of(2, budget, lot))?;
+    let abstraction = Arc::new(alloc, blocks(alloc, in_corridor)?)?;
+    let mut tables = MachineTables::new(alloc, abstraction, settings_of(2, budget, lot))?;
     let agreed = play_all(&mut tables, calls);
     Ok((agreed, tables.end()))
 }

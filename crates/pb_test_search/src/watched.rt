@@ -38,7 +38,7 @@ struct Seen {
 fn work_beside<W: Wait>(
     rt: &W,
     task: &Task,
-    graph: &AbsGraph,
+    abstraction: &AbsGraph,
     estimator: &mut Estimator,
     succs: &mut Vec<Succ>,
     watch: &mut YardWatch,
@@ -47,7 +47,7 @@ fn work_beside<W: Wait>(
 ) -> Seen
     requires own { IsWatchOf watch.old }
     requires other { IsOf watch.old.yard.now other.old }
-    requires leased { IsLeased task.now graph.now (view_of watch.old.pass) lease }
+    requires leased { IsLeased task.now abstraction.now (view_of watch.old.pass) lease }
     requires ready { IsReady (view_of other.old) }
     requires tools { IsOfTask estimator.old task.now (view_of watch.old.pass).choice }
     requires room { max_degree_of task.now ≤ vec_capacity succs.old }
@@ -60,7 +60,7 @@ fn work_beside<W: Wait>(
     ensures room { max_degree_of task.now ≤ vec_capacity succs.new }
 {
     let before = watch.yard.glance(other);
-    let worked = work_watched(task, estimator, graph, &mut lease, succs, watch);
+    let worked = work_watched(task, estimator, abstraction, &mut lease, succs, watch);
     let after = watch.yard.glance(other);
     let waits = is_told_to_wait(rt, watch.yard, other);
     match worked {
@@ -80,7 +80,7 @@ fn work_beside<W: Wait>(
 fn lease_beside<W: Wait>(
     rt: &W,
     task: &Task,
-    graph: &AbsGraph,
+    abstraction: &AbsGraph,
     estimator: &mut Estimator,
     succs: &mut Vec<Succ>,
     watch: &mut YardWatch,
@@ -88,7 +88,7 @@ fn lease_beside<W: Wait>(
 ) -> Option<Seen>
     requires own { IsWatchOf watch.old }
     requires other { IsOf watch.old.yard.now other.old }
-    requires idle { IsIdle task.now graph.now (view_of watch.old.pass) }
+    requires idle { IsIdle task.now abstraction.now (view_of watch.old.pass) }
     requires ready { IsReady (view_of other.old) }
     requires tools { IsOfTask estimator.old task.now (view_of watch.old.pass).choice }
     requires room { max_degree_of task.now ≤ vec_capacity succs.old }
@@ -102,7 +102,14 @@ fn lease_beside<W: Wait>(
 {
     match watch.yard.lease(rt, &mut watch.pass) {
         LeaseReply::Leased(lease) => Some(work_beside(
-            rt, task, graph, estimator, succs, watch, lease, other,
+            rt,
+            task,
+            abstraction,
+            estimator,
+            succs,
+            watch,
+            lease,
+            other,
         )),
         LeaseReply::NotYet => None,
         LeaseReply::Over(_) => None,

@@ -64,8 +64,8 @@ fn what_is_written_is_accepted(rt: HostRuntime) -> Result<(), Fail> {
     assert!(rt; shelf.has("j"));
     let text = shelf.file("j");
     assert!(rt; text == WRITTEN.as_bytes());
-    let graph = AbsGraph::of(rt.alloc(), &solved_board(rt.alloc())?, 256)?;
-    assert!(rt; check_journal(rt.alloc(), &graph, text) == Ok(4));
+    let abstraction = AbsGraph::of(rt.alloc(), &solved_board(rt.alloc())?, 256)?;
+    assert!(rt; check_journal(rt.alloc(), &abstraction, text) == Ok(4));
     assert!(rt;
         read_header(text)
             == Ok(Settings {

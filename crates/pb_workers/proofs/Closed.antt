@@ -13,24 +13,24 @@ use Rattle.pb_workers.specs.Runs.{IsSameSearch, RunsOn}
 use Rattle.pb_workers.proofs.Going.{keeping_runs}
 use Rattle.pb_workers.proofs.Returned.{ending_same, ended_by_memory}
 
-module _ (old : GraphValue) (trouble : Bool) (new : GraphValue) (s : IsSignedOff old 0 trouble new) where
+module _ (old : GraphValue) (memory : Bool) (new : GraphValue) (s : IsSignedOff old 0 memory new) where
   abbrev Gone : Counts
-  Gone = counts_after (blocks old.table) old.table.settings (counts_in old) (Off 0 trouble)
+  Gone = counts_after (blocks old.table) old.table.settings (counts_in old) (Off 0 memory)
 
   pub closed_same : IsSameSearch old new
-  closed_same = record { task = ap (λ (v : GraphValue). v.task) s.rest; graph = s.events.graph; choice = ap (λ (v : GraphValue). v.choice) s.rest; settings = s.events.settings; past = s.events.past }
+  closed_same = record { task = ap (λ (v : GraphValue). v.task) s.rest; abstraction = s.events.abstraction; choice = ap (λ (v : GraphValue). v.choice) s.rest; settings = s.events.settings; past = s.events.past }
 
   closed_leases : (counts_in new).leases ≡ (counts_in old).leases
-  closed_leases = ap (λ (c : Counts). c.leases) s.events.counts ∙ ending_same (λ c. c.leases) (blocks old.table) old.table.settings Gone trouble old.table.end (λ c. refl)
+  closed_leases = ap (λ (c : Counts). c.leases) s.events.counts ∙ ending_same (λ c. c.leases) (blocks old.table) old.table.settings Gone memory old.table.end (λ c. refl)
 
   pub closed_home : is_out_in old ≡ false → is_out_in new ≡ false
   closed_home home = (λ i. is_any_out (s.events.settings i).workers (closed_leases i)) ∙ home
 
   pub closed_signed : (counts_in new).signed_off 0 ≡ true
-  closed_signed = ap (λ (c : Counts). c.signed_off 0) s.events.counts ∙ ending_same (λ c. c.signed_off 0) (blocks old.table) old.table.settings Gone trouble old.table.end (λ c. refl)
+  closed_signed = ap (λ (c : Counts). c.signed_off 0) s.events.counts ∙ ending_same (λ c. c.signed_off 0) (blocks old.table) old.table.settings Gone memory old.table.end (λ c. refl)
 
-  pub closed_runs : KeepsLeases old (Off 0 trouble ∷ ending trouble old.table.end) new → RunsOn old new
-  closed_runs keeps = keeping_runs old (Off 0 trouble ∷ ending trouble old.table.end) new (ending_grants_none trouble old.table.end) keeps (ap (λ (v : GraphValue). v.incumbent) s.rest) s.events.journal
+  pub closed_runs : KeepsLeases old (Off 0 memory ∷ ending memory old.table.end) new → RunsOn old new
+  closed_runs keeps = keeping_runs old (Off 0 memory ∷ ending memory old.table.end) new (ending_grants_none memory old.table.end) keeps (ap (λ (v : GraphValue). v.incumbent) s.rest) s.events.journal
 
 pub closed_end : (old new : GraphValue) → IsSignedOff old 0 false new → new.table.end ≡ old.table.end
 closed_end old new s = ap (λ (c : Counts). c.end) s.events.counts

@@ -34,9 +34,9 @@ module _ (g : GraphValue) (k : IsLeaseGraph g) (home : is_out_in g ≡ false) (r
   best_end quiet =
       let end = ap (λ (c : Counts). c.end) m.at.counts ∙ quiet in
       record {
-        sound = subst (λ (s : Store). IsSound (space_of g.task) (guide_of g.task g.table.graph g.choice) s) store_is (lawful_stores_are_sound (setup_in g) greatest_cost machine (setup_is g k) m.at.lawful);
+        sound = subst (λ (s : Store). IsSound (space_of g.task) (guide_of g.task g.table.abstraction g.choice) s) store_is (lawful_stores_are_sound (setup_in g) greatest_cost machine (setup_is g k) m.at.lawful);
         quiet = subst (λ (s : Store). IsQuiet s) store_is (m.at.lawful.quiet end);
-        shown = subst (λ (s : Store). IsShown (space_of g.task) (guide_of g.task g.table.graph g.choice) s) store_is (none_out_is_shown (setup_in g) greatest_cost machine (setup_is g k) m.at.lawful out);
+        shown = subst (λ (s : Store). IsShown (space_of g.task) (guide_of g.task g.table.abstraction g.choice) s) store_is (none_out_is_shown (setup_in g) greatest_cost machine (setup_is g k) m.at.lawful out);
         holds = subst (λ o. IncumbentHolds (space_of g.task) (weight_of g.table.settings) o) m.incumbent
             (quiet_ends_are_best (setup_in g) greatest_cost machine (setup_is g k) m.at.lawful end (estimates_are_admissible g.task g.choice k.is_task k.suits));
       }
@@ -48,7 +48,7 @@ module _ (g : GraphValue) (k : IsLeaseGraph g) (home : is_out_in g ≡ false) (r
         first_weight = all.0;
         is_weight = all.2;
         works = all.1;
-        comes = subst (λ (s : Store). Comes (space_of g.task) (guide_of g.task g.table.graph g.choice) all.1 (opening_store (space_of g.task) (guide_of g.task g.table.graph g.choice) all.0) s) store_is all.3;
+        comes = subst (λ (s : Store). Comes (space_of g.task) (guide_of g.task g.table.abstraction g.choice) all.1 (opening_store (space_of g.task) (guide_of g.task g.table.abstraction g.choice) all.0) s) store_is all.3;
         all = all.4;
         none_broken = all.5;
         reopened = all.6;

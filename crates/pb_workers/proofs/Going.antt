@@ -21,16 +21,16 @@ use Rattle.pb_workers.specs.Serving.{searched_in}
 -- ---- the same search
 
 pub same_self : (g : GraphValue) → IsSameSearch g g
-same_self g = record { task = refl; graph = refl; choice = refl; settings = refl; past = refl }
+same_self g = record { task = refl; abstraction = refl; choice = refl; settings = refl; past = refl }
 
 pub same_then : (old mid new : GraphValue) → IsSameSearch old mid → IsSameSearch mid new → IsSameSearch old new
-same_then old mid new first second = record { task = second.task ∙ first.task; graph = second.graph ∙ first.graph; choice = second.choice ∙ first.choice; settings = second.settings ∙ first.settings; past = second.past ∙ first.past }
+same_then old mid new first second = record { task = second.task ∙ first.task; abstraction = second.abstraction ∙ first.abstraction; choice = second.choice ∙ first.choice; settings = second.settings ∙ first.settings; past = second.past ∙ first.past }
 
 pub setup_is_same : (old new : GraphValue) → IsSameSearch old new → setup_in new ≡ setup_in old
-setup_is_same old new same = λ i. setup_of (same.task i) (same.graph i) (same.choice i) (same.settings i) (same.past i).reopenings
+setup_is_same old new same = λ i. setup_of (same.task i) (same.abstraction i) (same.choice i) (same.settings i) (same.past i).reopenings
 
 pub same_searched : (old new : GraphValue) → IsSameSearch old new → searched_in new ≡ searched_in old
-same_searched old new same = λ i. record { task = same.task i; abstraction = same.graph i; choice = same.choice i }
+same_searched old new same = λ i. record { task = same.task i; abstraction = same.abstraction i; choice = same.choice i }
 
 -- ---- runs
 

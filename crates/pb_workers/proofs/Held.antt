@@ -31,8 +31,8 @@ use Rattle.pb_workers.proofs.Marked.{marked_same, marked_homes, marked_leases, m
 use Rattle.pb_workers.proofs.Returned.{returned_same, returned_signed, returned_vacant, returned_left, returned_end, none_opened_then, fewer_opened}
 
 module _ (g : GraphValue) (lease : LeaseValue) (held : IsHeld g lease) where
-  pub at_work : (task : TaskParts) (graph : AbstractGraph) → g.task ≡ task → g.table.graph ≡ graph → IsLeaseGraph g → IsAtWork task graph lease.choice lease
-  at_work task graph task_is graph_is k = subst (λ (a : AbstractGraph). IsAtWork task a lease.choice lease) graph_is (subst (λ (p : TaskParts). IsAtWork p g.table.graph lease.choice lease) task_is (subst (λ h. IsAtWork g.task g.table.graph h lease) (sym held.of_graph.choice) (record {
+  pub at_work : (task : TaskParts) (abstraction : AbstractGraph) → g.task ≡ task → g.table.abstraction ≡ abstraction → IsLeaseGraph g → IsAtWork task abstraction lease.choice lease
+  at_work task abstraction task_is graph_is k = subst (λ (a : AbstractGraph). IsAtWork task a lease.choice lease) graph_is (subst (λ (p : TaskParts). IsAtWork p g.table.abstraction lease.choice lease) task_is (subst (λ h. IsAtWork g.task g.table.abstraction h lease) (sym held.of_graph.choice) (record {
     settings = g.table.settings;
     reopenings = g.table.past.reopenings;
     machine = held.machine;
@@ -47,10 +47,10 @@ module _ (g : GraphValue) (lease : LeaseValue) (held : IsHeld g lease) where
   })))
 
   -- what a worker for the graph's task, by its blocks, made of the lease
-  pub work_of : (task : TaskParts) (graph : AbstractGraph) → g.task ≡ task → g.table.graph ≡ graph → (worked : LeaseValue) (broken : ℕ) → Works task graph lease.choice lease worked broken → worked.used ≤ worked.quota
-      → IsSameLease lease worked → HasScope graph worked → IsWorkOf g lease worked broken
-  work_of task graph task_is graph_is worked broken works within same scope = record {
-    works = subst (λ (p : TaskParts). Works p g.table.graph lease.choice lease worked broken) (sym task_is) (subst (λ (a : AbstractGraph). Works task a lease.choice lease worked broken) (sym graph_is) works);
+  pub work_of : (task : TaskParts) (abstraction : AbstractGraph) → g.task ≡ task → g.table.abstraction ≡ abstraction → (worked : LeaseValue) (broken : ℕ) → Works task abstraction lease.choice lease worked broken → worked.used ≤ worked.quota
+      → IsSameLease lease worked → HasScope abstraction worked → IsWorkOf g lease worked broken
+  work_of task abstraction task_is graph_is worked broken works within same scope = record {
+    works = subst (λ (p : TaskParts). Works p g.table.abstraction lease.choice lease worked broken) (sym task_is) (subst (λ (a : AbstractGraph). Works task a lease.choice lease worked broken) (sym graph_is) works);
     within = within;
     same = same;
     scope = subst (λ (a : AbstractGraph). HasScope a worked) (sym graph_is) scope;
@@ -70,7 +70,7 @@ module _ (g : GraphValue) (lease : LeaseValue) (held : IsHeld g lease) where
 
     worked_out : (machine : Machine) → IsOutInTurns (setup_in g) machine 0 lease → IsOutInTurns (setup_in g) machine broken worked
     worked_out machine out =
-        let here = subst (λ h. Works g.task g.table.graph h lease worked broken) held.of_graph.choice w.works in
+        let here = subst (λ h. Works g.task g.table.abstraction h lease worked broken) held.of_graph.choice w.works in
         let after = here g.table.settings g.table.past.reopenings machine out.0 in
         (after.0, after.1 out.1)
 
@@ -82,7 +82,7 @@ module _ (g : GraphValue) (lease : LeaseValue) (held : IsHeld g lease) where
         leased = (λ i. marked_leases g worked.worker marked mark i worked.worker) ∙ worked_of_graph.leased;
         weight = worked_of_graph.weight ∙ (λ i. record { num = (sym (marked_same g worked.worker marked mark).settings i).num; den = (sym (marked_same g worked.worker marked mark).settings i).den });
         choice = worked_of_graph.choice ∙ sym (marked_same g worked.worker marked mark).choice;
-        scope = subst (λ (a : AbstractGraph). HasScope a worked) (sym (marked_same g worked.worker marked mark).graph) worked_of_graph.scope;
+        scope = subst (λ (a : AbstractGraph). HasScope a worked) (sym (marked_same g worked.worker marked mark).abstraction) worked_of_graph.scope;
       }
 
       -- a run leads on to the marked graph, at which the lease is still out
@@ -147,7 +147,7 @@ module _ (g : GraphValue) (lease : LeaseValue) (held : IsHeld g lease) (worked :
     opened = subst (λ (h : HomeTable). is_some (key_at h worked.block) ≡ true) (sym (marked_homes g worked.worker marked mark)) (subst (λ b. is_some (key_at g.homes b) ≡ true) (sym w.same.block) held.opened)
 
     same_opened : opened_blocks marked ≡ opened_blocks g
-    same_opened = λ i. count_below (blocks_of ((marked_same g worked.worker marked mark).graph i)).count (λ block. is_some (key_at (marked_homes g worked.worker marked mark i) block))
+    same_opened = λ i. count_below (blocks_of ((marked_same g worked.worker marked mark).abstraction i)).count (λ block. is_some (key_at (marked_homes g worked.worker marked mark i) block))
 
     nearer_empty : (HasOpened ((leased_store worked).rows worked.block) → ⊥) → IsNearer g lease new
     nearer_empty none =
@@ -168,16 +168,16 @@ module _ (g : GraphValue) (lease : LeaseValue) (held : IsHeld g lease) (worked :
 
 -- a run from where the lease was given
 module _ (begin : GraphValue) (given : LeaseValue) (marked : GraphValue) (worked : LeaseValue) (k : IsLeaseGraph marked) (new : GraphValue) where
-  back_with : (trouble : Bool) (t : IsToReturn begin given marked worked (one_if trouble)) (r : IsReleased marked worked trouble new) → RunsHome t.first t.held new → IsNearer t.first t.held new → IsBack begin given new
-  back_with trouble t r home nearer = record {
+  back_with : (memory : Bool) (t : IsToReturn begin given marked worked (one_if memory)) (r : IsReleased marked worked memory new) → RunsHome t.first t.held new → IsNearer t.first t.held new → IsBack begin given new
+  back_with memory t r home nearer = record {
     home = home_then begin t.first new given t.held t.on.same t.on.runs home;
-    vacant = ap (counts_in new).leases (sym (t.work.same.worker ∙ t.on.worker)) ∙ returned_vacant marked worked trouble new r;
+    vacant = ap (counts_in new).leases (sym (t.work.same.worker ∙ t.on.worker)) ∙ returned_vacant marked worked memory new r;
     nearer = nearer_then begin t.first new given t.held t.on.on nearer;
-    same = same_then begin t.first new t.on.same (same_then t.first marked new (marked_same t.first worked.worker marked t.mark) (returned_same marked worked trouble new r));
-    signed_off = returned_signed marked worked trouble new r ∙ marked_signed t.first worked.worker marked t.mark ∙ t.on.signed_off;
+    same = same_then begin t.first new t.on.same (same_then t.first marked new (marked_same t.first worked.worker marked t.mark) (returned_same marked worked memory new r));
+    signed_off = returned_signed marked worked memory new r ∙ marked_signed t.first worked.worker marked t.mark ∙ t.on.signed_off;
   }
 
-  pub back : (trouble : Bool) → IsToReturn begin given marked worked (one_if trouble) → HasCause worked trouble → IsReleased marked worked trouble new → ReleasesNext marked worked trouble new → IsBack begin given new
+  pub back : (memory : Bool) → IsToReturn begin given marked worked (one_if memory) → HasCause worked memory → IsReleased marked worked memory new → ReleasesNext marked worked memory new → IsBack begin given new
   back true t cause r next =
       back_with true t r (broken_home t.first t.held t.on.held worked t.work marked t.mark new r next) (nearer_memory t.first t.held t.on.held worked t.work marked t.mark new r)
   back false t cause r next =
@@ -188,7 +188,7 @@ module _ (begin : GraphValue) (given : LeaseValue) (marked : GraphValue) (worked
 module _ (g : GraphValue) (lease : LeaseValue) (held : IsHeld g lease) (worked : LeaseValue) (w : IsWorkOf g lease worked 0) (marked : GraphValue) (mark : IsMarkedAtMost g worked.worker marked) (new : GraphValue) (kept : LeaseValue)
     (n : IsRenewed marked worked kept new) (goes : GoesOn marked worked new) where
   kept_same : IsSameSearch g new
-  kept_same = same_then g marked new (marked_same g worked.worker marked mark) (record { task = n.task; graph = n.events.graph; choice = n.choice; settings = n.events.settings; past = n.events.past })
+  kept_same = same_then g marked new (marked_same g worked.worker marked mark) (record { task = n.task; abstraction = n.events.abstraction; choice = n.choice; settings = n.events.settings; past = n.events.past })
 
   kept_signed : (counts_in new).signed_off ≡ (counts_in g).signed_off
   kept_signed = ap (λ (c : Counts). c.signed_off) n.events.counts ∙ marked_signed g worked.worker marked mark

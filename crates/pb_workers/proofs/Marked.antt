@@ -31,7 +31,7 @@ module _ (old : GraphValue) (worker : ℕ) (new : GraphValue) where
   pub marked_same : IsMarkedAtMost old worker new → IsSameSearch old new
   marked_same m = record {
     task = by_mark (λ v. v.task) (λ block is. ap (λ (v : GraphValue). v.task) is.rest) m;
-    graph = by_mark (λ v. v.table.graph) (λ block is. is.events.graph) m;
+    abstraction = by_mark (λ v. v.table.abstraction) (λ block is. is.events.abstraction) m;
     choice = by_mark (λ v. v.choice) (λ block is. ap (λ (v : GraphValue). v.choice) is.rest) m;
     settings = by_mark (λ v. v.table.settings) (λ block is. is.events.settings) m;
     past = by_mark (λ v. v.table.past) (λ block is. is.events.past) m;

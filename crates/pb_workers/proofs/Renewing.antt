@@ -22,5 +22,5 @@ pub renewal_searched : (old : GraphValue) (lease : LeaseValue) (new : GraphValue
     → (reply ≡ Given → (GoesOn old lease new → ⊥) × IsReleased old lease false new) → searched_in new ≡ searched_in old
 renewal_searched old lease new (Kept kept) goes back =
     let n = (goes kept refl).1 in
-    same_searched old new (record { task = n.task; graph = n.events.graph; choice = n.choice; settings = n.events.settings; past = n.events.past })
+    same_searched old new (record { task = n.task; abstraction = n.events.abstraction; choice = n.choice; settings = n.events.settings; past = n.events.past })
 renewal_searched old lease new Given goes back = same_searched old new (returned_same old lease false new (back refl).1)

@@ -46,25 +46,25 @@ ended_by_memory blocks settings counts end none = subst (λ (o : Option End). (c
 
 -- ---- numbers
 
-module _ (old : GraphValue) (lease : LeaseValue) (trouble : Bool) (new : GraphValue) (r : IsReleased old lease trouble new) where
+module _ (old : GraphValue) (lease : LeaseValue) (memory : Bool) (new : GraphValue) (r : IsReleased old lease memory new) where
   abbrev Back : Counts
-  Back = counts_after (blocks old.table) old.table.settings (counts_in old) (Release lease.worker lease.used trouble)
+  Back = counts_after (blocks old.table) old.table.settings (counts_in old) (Release lease.worker lease.used memory)
 
   pub returned_same : IsSameSearch old new
-  returned_same = record { task = r.task; graph = r.events.graph; choice = r.choice; settings = r.events.settings; past = r.events.past }
+  returned_same = record { task = r.task; abstraction = r.events.abstraction; choice = r.choice; settings = r.events.settings; past = r.events.past }
 
   pub returned_vacant : (counts_in new).leases lease.worker ≡ None
   returned_vacant = ap (λ (c : Counts). c.leases lease.worker) r.events.counts
-      ∙ ending_same (λ c. c.leases lease.worker) (blocks old.table) old.table.settings Back trouble old.table.end (λ c. refl)
+      ∙ ending_same (λ c. c.leases lease.worker) (blocks old.table) old.table.settings Back memory old.table.end (λ c. refl)
       ∙ entry_here (counts_in old).leases lease.worker lease.worker None (equal_self lease.worker)
 
   pub returned_signed : (counts_in new).signed_off ≡ (counts_in old).signed_off
   returned_signed = ap (λ (c : Counts). c.signed_off) r.events.counts
-      ∙ ending_same (λ c. c.signed_off) (blocks old.table) old.table.settings Back trouble old.table.end (λ c. refl)
+      ∙ ending_same (λ c. c.signed_off) (blocks old.table) old.table.settings Back memory old.table.end (λ c. refl)
 
   pub returned_left : (counts_in old).leases lease.worker ≡ Some (grant_of lease) → new.table.left ≡ old.table.left + (lease.quota - lease.used)
   returned_left leased = ap (λ (c : Counts). c.left) r.events.counts
-      ∙ ending_same (λ c. c.left) (blocks old.table) old.table.settings Back trouble old.table.end (λ c. refl)
+      ∙ ending_same (λ c. c.left) (blocks old.table) old.table.settings Back memory old.table.end (λ c. refl)
       ∙ ap (λ (o : Option Grant). old.table.left + (quota_of o - lease.used)) leased
 
 pub returned_end : (old : GraphValue) (lease : LeaseValue) (new : GraphValue) → IsReleased old lease true new → old.table.end ≡ None → new.table.end ≡ Some Memory
@@ -103,6 +103,6 @@ module _ (old : GraphValue) (k : IsLeaseGraph old) (lease : LeaseValue) (of : Is
     -- fewer blocks have an Opened row: not the lease's any more, and no other one that had none
     pub fewer_opened : is_some (key_at old.homes lease.block) ≡ true → (HasOpened ((leased_store lease).rows lease.block) → ⊥) → opened_blocks new < opened_blocks old
     fewer_opened opened none =
-        subst (λ (a : AbstractGraph). count_below (blocks_of a).count (λ block. is_some (key_at new.homes block)) < opened_blocks old) (sym r.events.graph)
+        subst (λ (a : AbstractGraph). count_below (blocks_of a).count (λ block. is_some (key_at new.homes block)) < opened_blocks old) (sym r.events.abstraction)
         (count_fewer (blocks old.table).count lease.block (λ block. is_some (key_at new.homes block)) (λ block. is_some (key_at old.homes block)) still_opened (block_known old lease new r.noted (setup_is old k) of recorded machine m.at)
         (none_here old lease new r.noted (setup_is old k) of recorded machine m.at none) opened)

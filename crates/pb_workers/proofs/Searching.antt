@@ -36,7 +36,7 @@ module _ (g : GraphValue) (alone : g.table.settings.workers ≡ 1) where
 
 module _ (old : GraphValue) (worker : ℕ) (lease : LeaseValue) (new : GraphValue) (l : IsLeased old worker lease new) where
   pub leased_same : IsSameSearch old new
-  leased_same = record { task = l.task; graph = l.events.graph; choice = l.choice; settings = l.events.settings; past = l.events.past }
+  leased_same = record { task = l.task; abstraction = l.events.abstraction; choice = l.choice; settings = l.events.settings; past = l.events.past }
 
   pub none_ended : old.table.end ≡ None
   none_ended = (passes_from (blocks old.table) old.table.settings (counts_in old) lease.block l.first.0.0).3
@@ -52,7 +52,7 @@ module _ (old : GraphValue) (worker : ℕ) (lease : LeaseValue) (new : GraphValu
       omega (arith, left, low)
 
   pub leased_opened : opened_blocks new ≡ opened_blocks old
-  leased_opened = λ i. count_below (blocks_of (l.events.graph i)).count (λ block. is_some (get_or (l.keys i) block None))
+  leased_opened = λ i. count_below (blocks_of (l.events.abstraction i)).count (λ block. is_some (get_or (l.keys i) block None))
 
   leased_held : LeasesNext old lease new → IsAnyMoment old → IsHeld new lease
   leased_held next any =
@@ -104,7 +104,7 @@ comes_nearer old mid new worker lease l same near =
     subst (λ b. distance new < (if b then 0 else 1 + (old.table.left * (1 + (blocks old.table).count) + opened_blocks old))) (sym (ap is_some (none_ended old worker lease mid l))) (go (is_some new.table.end) refl near)
   where
     count_is : (blocks new.table).count ≡ (blocks old.table).count
-    count_is = ap (λ (a : AbstractGraph). (blocks_of a).count) (same.graph ∙ l.events.graph)
+    count_is = ap (λ (a : AbstractGraph). (blocks_of a).count) (same.abstraction ∙ l.events.abstraction)
 
     go : (b : Bool) → is_some new.table.end ≡ b → IsNearer mid lease new
         → (if b then 0 else 1 + (new.table.left * (1 + (blocks new.table).count) + opened_blocks new)) < 1 + (old.table.left * (1 + (blocks old.table).count) + opened_blocks old)
@@ -134,7 +134,7 @@ module _ (old : GraphValue) (end : End) (new : GraphValue) (e : IsEnded old end 
       go (Some standing) = refl
 
   pub ended_same : IsSameSearch old new
-  ended_same = record { task = ap (λ (v : GraphValue). v.task) e.rest; graph = e.events.graph; choice = ap (λ (v : GraphValue). v.choice) e.rest; settings = e.events.settings; past = e.events.past }
+  ended_same = record { task = ap (λ (v : GraphValue). v.task) e.rest; abstraction = e.events.abstraction; choice = ap (λ (v : GraphValue). v.choice) e.rest; settings = e.events.settings; past = e.events.past }
 
   pub ended_leases : (counts_in new).leases ≡ (counts_in old).leases
   ended_leases = end_same (λ c. c.leases) (λ c. refl)

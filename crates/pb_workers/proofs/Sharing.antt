@@ -48,7 +48,7 @@ HasNoOff events = list_any is_off events ≡ false
 -- ---- the same holder
 
 pub holder_self : (v : View) → IsSameHolder v v
-holder_self v = record { worker = refl; taken_in = refl; made = refl; task = refl; graph = refl; choice = refl; settings = refl; begin = refl }
+holder_self v = record { worker = refl; taken_in = refl; made = refl; task = refl; abstraction = refl; choice = refl; settings = refl; begin = refl }
 
 pub holder_then : (old mid new : View) → IsSameHolder old mid → IsSameHolder mid new → IsSameHolder old new
 holder_then old mid new one two = record {
@@ -56,7 +56,7 @@ holder_then old mid new one two = record {
   taken_in = two.taken_in ∙ one.taken_in;
   made = two.made ∙ one.made;
   task = two.task ∙ one.task;
-  graph = two.graph ∙ one.graph;
+  abstraction = two.abstraction ∙ one.abstraction;
   choice = two.choice ∙ one.choice;
   settings = two.settings ∙ one.settings;
   begin = two.begin ∙ one.begin;
@@ -66,7 +66,7 @@ holder_then old mid new one two = record {
 
 module _ (step : GraphValue → GraphValue → Type 0) (list : GraphValue → List Event) (old : View) (lent : Option LeaseValue) (told : Option ℕ) (new : View) (h : Holds step list old lent told new) where
   pub holder : IsSameHolder old new
-  holder = subst (λ (v : View). IsSameHolder old v) (sym h.view) record { worker = refl; taken_in = refl; made = refl; task = refl; graph = refl; choice = refl; settings = refl; begin = refl }
+  holder = subst (λ (v : View). IsSameHolder old v) (sym h.view) record { worker = refl; taken_in = refl; made = refl; task = refl; abstraction = refl; choice = refl; settings = refl; begin = refl }
 
   lent_is : new.lent ≡ lent
   lent_is = ap (λ (v : View). v.lent) h.view
@@ -79,36 +79,36 @@ module _ (step : GraphValue → GraphValue → Type 0) (list : GraphValue → Li
       (list_any-append is_off old.journal.own.events (events_of old.journal.own.worker (list h.found))
       ∙ or_from (list_any is_off old.journal.own.events) (list_any is_off (events_of old.journal.own.worker (list h.found))) stays (own_none_off old.journal.own.worker (list h.found) none))
 
-  module _ (task : TaskParts) (graph : AbstractGraph) where
-    idle_then : IsIdle task graph old → lent ≡ None → HasNoOff (list h.found) → IsIdle task graph new
-    idle_then i free none = record { of_task = i.of_task; task_is = holder.task ∙ i.task_is; graph_is = holder.graph ∙ i.graph_is; vacant = lent_is ∙ free; stays = still_active i.stays none }
+  module _ (task : TaskParts) (abstraction : AbstractGraph) where
+    idle_then : IsIdle task abstraction old → lent ≡ None → HasNoOff (list h.found) → IsIdle task abstraction new
+    idle_then i free none = record { of_task = i.of_task; task_is = holder.task ∙ i.task_is; graph_is = holder.abstraction ∙ i.graph_is; vacant = lent_is ∙ free; stays = still_active i.stays none }
 
 -- ---- a pass that read the incumbent under the turn
 
 module _ (old between : View) (r : HasRead old between) where
   pub read_holder : IsSameHolder old between
-  read_holder = subst (λ (v : View). IsSameHolder old v) (sym r.view) record { worker = refl; taken_in = refl; made = refl; task = refl; graph = refl; choice = refl; settings = refl; begin = refl }
+  read_holder = subst (λ (v : View). IsSameHolder old v) (sym r.view) record { worker = refl; taken_in = refl; made = refl; task = refl; abstraction = refl; choice = refl; settings = refl; begin = refl }
 
   read_active : IsActive old → IsActive between
   read_active stays = subst (λ (v : View). IsActive v) (sym r.view) stays
 
-  read_idle : (task : TaskParts) (graph : AbstractGraph) → IsIdle task graph old → IsIdle task graph between
-  read_idle task graph i = subst (λ (v : View). IsIdle task graph v) (sym r.view) record { of_task = i.of_task; task_is = i.task_is; graph_is = i.graph_is; vacant = i.vacant; stays = i.stays }
+  read_idle : (task : TaskParts) (abstraction : AbstractGraph) → IsIdle task abstraction old → IsIdle task abstraction between
+  read_idle task abstraction i = subst (λ (v : View). IsIdle task abstraction v) (sym r.view) record { of_task = i.of_task; task_is = i.task_is; graph_is = i.graph_is; vacant = i.vacant; stays = i.stays }
 
 pub reader_holds : (step : GraphValue → GraphValue → Type 0) (list : GraphValue → List Event) (old : View) (lent : Option LeaseValue) (told : Option ℕ) (new : View) → ReadsAndHolds step list old lent told new → IsSameHolder old new
 reader_holds step list old lent told new (between, r, h) = holder_then old between new (read_holder old between r) (holder step list between lent told new h)
 
 -- ---- a lease that is asked for
 
-module _ (task : TaskParts) (graph : AbstractGraph) (worker : ℕ) (old new : View) (first : IsIdle task graph old) where
-  pub leased_then : (lease : LeaseValue) → Leases worker old (Leased lease) new → IsLeased task graph new lease
+module _ (task : TaskParts) (abstraction : AbstractGraph) (worker : ℕ) (old new : View) (first : IsIdle task abstraction old) where
+  pub leased_then : (lease : LeaseValue) → Leases worker old (Leased lease) new → IsLeased task abstraction new lease
   leased_then lease (between, r, h) =
-      let i = read_idle old between r task graph first in
+      let i = read_idle old between r task abstraction first in
       let same = holder (LeasesAs worker (Leased lease)) (lease_events worker (Leased lease)) between (Some lease) None new h in
       record {
         of_task = i.of_task;
         task_is = same.task ∙ i.task_is;
-        graph_is = same.graph ∙ i.graph_is;
+        graph_is = same.abstraction ∙ i.graph_is;
         lent = ap (λ (v : View). v.lent) h.view;
         untold = ap (λ (v : View). v.told) h.view;
         stays = still_active (LeasesAs worker (Leased lease)) (lease_events worker (Leased lease)) between (Some lease) None new h i.stays refl;
@@ -116,13 +116,13 @@ module _ (task : TaskParts) (graph : AbstractGraph) (worker : ℕ) (old new : Vi
         at = h.after;
       }
 
-  pub wait_then : (list : GraphValue → List Event) (step : GraphValue → GraphValue → Type 0) → ReadsAndHolds step list old old.lent old.told new → ((g : GraphValue) → HasNoOff (list g)) → IsIdle task graph new
-  wait_then list step (between, r, h) none = idle_then step list between old.lent old.told new h task graph (read_idle old between r task graph first) first.vacant (none h.found)
+  pub wait_then : (list : GraphValue → List Event) (step : GraphValue → GraphValue → Type 0) → ReadsAndHolds step list old old.lent old.told new → ((g : GraphValue) → HasNoOff (list g)) → IsIdle task abstraction new
+  wait_then list step (between, r, h) none = idle_then step list between old.lent old.told new h task abstraction (read_idle old between r task abstraction first) first.vacant (none h.found)
 
   -- the search is over, as the journal that the pass has seen tells
-  pub over_then : (end : End) → Leases worker old (Over end) new → IsIdle task graph new × (is_some (end_in new.journal.seen) ≡ true)
+  pub over_then : (end : End) → Leases worker old (Over end) new → IsIdle task abstraction new × (is_some (end_in new.journal.seen) ≡ true)
   over_then end (between, r, h) = (
-    idle_then (LeasesAs worker (Over end)) (lease_events worker (Over end)) between old.lent old.told new h task graph (read_idle old between r task graph first) first.vacant (end_none_off h.found.table.end end),
+    idle_then (LeasesAs worker (Over end)) (lease_events worker (Over end)) between old.lent old.told new h task abstraction (read_idle old between r task abstraction first) first.vacant (end_none_off h.found.table.end end),
     ap (λ (v : View). is_some (end_in v.journal.seen)) h.view ∙ ap (λ j. is_some (end_in j)) (sym h.added)
         ∙ ap is_some (sym (ends_are_told (blocks h.left.table) h.left.table.settings h.left.table.past.spent h.left.table.journal (counts_in h.left) (history h.left h.after.shared h.after.views h.after.yard)))
         ∙ ap is_some (ended_end h.found h.left end h.step_is.0 h.step_is.1),
@@ -130,7 +130,7 @@ module _ (task : TaskParts) (graph : AbstractGraph) (worker : ℕ) (old new : Vi
 
 -- ---- work on a lease
 
-module _ (task : TaskParts) (graph : AbstractGraph) (view : View) (live : view.journal.is_live ≡ true) (lease : LeaseValue) (l : IsLeased task graph view lease) where
+module _ (task : TaskParts) (abstraction : AbstractGraph) (view : View) (live : view.journal.is_live ≡ true) (lease : LeaseValue) (l : IsLeased task abstraction view lease) where
   of_view : IsViewOf l.yard l.at.yard.machine l.at.yard.lent view
   of_view = l.at.yard.each l.at.seat view l.at.mine live
 
@@ -147,12 +147,12 @@ module _ (task : TaskParts) (graph : AbstractGraph) (view : View) (live : view.j
   pub choice_is : view.choice ≡ lease.choice
   choice_is = of_view.search.choice ∙ sym (l.at.yard.lent_is view.journal.own.worker lease lent_to).of_graph.choice
 
-  pub at_work : IsAtWork task graph lease.choice lease
+  pub at_work : IsAtWork task abstraction lease.choice lease
   at_work =
       let y = l.at.yard in
       let is = y.lent_is view.journal.own.worker lease lent_to in
-      subst (λ (a : AbstractGraph). IsAtWork task a lease.choice lease) (sym of_view.search.graph ∙ l.graph_is) (subst (λ (p : TaskParts). IsAtWork p l.yard.table.graph lease.choice lease) (sym of_view.search.task ∙ l.task_is)
-      (subst (λ h. IsAtWork l.yard.task l.yard.table.graph h lease) (sym is.of_graph.choice) (record {
+      subst (λ (a : AbstractGraph). IsAtWork task a lease.choice lease) (sym of_view.search.abstraction ∙ l.graph_is) (subst (λ (p : TaskParts). IsAtWork p l.yard.table.abstraction lease.choice lease) (sym of_view.search.task ∙ l.task_is)
+      (subst (λ h. IsAtWork l.yard.task l.yard.table.abstraction h lease) (sym is.of_graph.choice) (record {
         settings = l.yard.table.settings;
         reopenings = l.yard.table.past.reopenings;
         machine = y.machine;
@@ -177,7 +177,7 @@ module _ (task : TaskParts) (graph : AbstractGraph) (view : View) (live : view.j
   told_none cost is = let bad : ◌≡◌ {A = Option ℕ} None (Some cost) = sym l.untold ∙ is in absurd cc
 
   -- nothing has been done
-  pub watched : IsWatched (space_of task) (guide_of task graph lease.choice) (watch_view view) 0 lease
+  pub watched : IsWatched (space_of task) (guide_of task abstraction lease.choice) (watch_view view) 0 lease
   watched = record {
     from = record {
       lent = lease;
@@ -191,7 +191,7 @@ module _ (task : TaskParts) (graph : AbstractGraph) (view : View) (live : view.j
   }
 
   -- the watch is of the same search
-  pub of_search : IsOfSearch task graph lease.choice (watch_view view)
+  pub of_search : IsOfSearch task abstraction lease.choice (watch_view view)
   of_search = record { task_is = l.task_is; graph_is = l.graph_is; choice_is = choice_is }
 
   -- after work on the lease under a watch
@@ -202,7 +202,7 @@ module _ (task : TaskParts) (graph : AbstractGraph) (view : View) (live : view.j
       taken_in = ap (λ (j : of_machine.View). j.taken_in) still.journal;
       made = ap (λ (j : of_machine.View). j.made) still.journal;
       task = still.task;
-      graph = still.graph;
+      abstraction = still.abstraction;
       choice = still.choice;
       settings = still.settings;
       begin = still.begin;
@@ -214,8 +214,8 @@ module _ (task : TaskParts) (graph : AbstractGraph) (view : View) (live : view.j
     pub work_task : new.task ≡ task
     work_task = still.task ∙ l.task_is
 
-    pub work_graph : new.graph ≡ graph
-    work_graph = still.graph ∙ l.graph_is
+    pub work_graph : new.abstraction ≡ abstraction
+    work_graph = still.abstraction ∙ l.graph_is
 
     work_choice : new.choice ≡ lease.choice
     work_choice = still.choice ∙ choice_is
@@ -226,11 +226,11 @@ module _ (task : TaskParts) (graph : AbstractGraph) (view : View) (live : view.j
       ap grant_in (still.lent ∙ l.lent) ∙ (λ i. Some (record { block = sym same.block i; quota = sym same.quota i })),
     )
 
-    module _ (broken : ℕ) (w : IsWatched (space_of task) (guide_of task graph lease.choice) (watch_view new) broken worked) (scope : HasScope graph worked) where
-      of_new : IsWatched (space_of new.task) (guide_of new.task new.graph new.choice) (watch_view new) broken worked
-      of_new = subst (λ (p : TaskParts). IsWatched (space_of p) (guide_of p new.graph new.choice) (watch_view new) broken worked) (sym work_task)
+    module _ (broken : ℕ) (w : IsWatched (space_of task) (guide_of task abstraction lease.choice) (watch_view new) broken worked) (scope : HasScope abstraction worked) where
+      of_new : IsWatched (space_of new.task) (guide_of new.task new.abstraction new.choice) (watch_view new) broken worked
+      of_new = subst (λ (p : TaskParts). IsWatched (space_of p) (guide_of p new.abstraction new.choice) (watch_view new) broken worked) (sym work_task)
           (subst (λ (a : AbstractGraph). IsWatched (space_of task) (guide_of task a new.choice) (watch_view new) broken worked) (sym work_graph)
-          (subst (λ h. IsWatched (space_of task) (guide_of task graph h) (watch_view new) broken worked) (sym work_choice) w))
+          (subst (λ h. IsWatched (space_of task) (guide_of task abstraction h) (watch_view new) broken worked) (sym work_choice) w))
 
       pub brought : IsBrought new broken worked
       brought = record {
@@ -254,7 +254,7 @@ module _ (old : View) (most_broken : ℕ) (lease : LeaseValue) (b : IsBrought ol
 
   pub still_brought : (step : GraphValue → GraphValue → Type 0) (list : GraphValue → List Event) (new : View) → Looks step list old new → IsBrought new most_broken lease
   still_brought step list new h =
-      let stays = lease_work_stays (space_of old.task) (guide_of old.task old.graph old.choice) b.lent.block lease.used most_broken most_broken (was_read old)
+      let stays = lease_work_stays (space_of old.task) (guide_of old.task old.abstraction old.choice) b.lent.block lease.used most_broken most_broken (was_read old)
       (was_read (view_then h.found.table.journal (list h.found) old.lent old.told old)) (leased_store b.lent) (leased_store lease) b.work (omega arith)
       (read_too h.found.table.journal (list h.found)) in
       subst (λ (v : View). IsBrought v most_broken lease) (sym h.view) record {
@@ -263,17 +263,17 @@ module _ (old : View) (most_broken : ℕ) (lease : LeaseValue) (b : IsBrought ol
         same = b.same;
         weights = b.weights;
         work = stays.0;
-        turns = subst (λ (works : List Work). AreLeaseTurns (space_of old.task) (guide_of old.task old.graph old.choice) works (leased_store b.lent)) (sym stays.1) b.turns;
+        turns = subst (λ (works : List Work). AreLeaseTurns (space_of old.task) (guide_of old.task old.abstraction old.choice) works (leased_store b.lent)) (sym stays.1) b.turns;
         copy = b.copy;
         told = b.told;
       }
 
-pub rival_known : (lease : LeaseValue) (old new : View) (rival : ℕ) → old.journal.is_live ≡ true → AsksRival lease old (Some rival) new → rival < (blocks_of new.graph).count
+pub rival_known : (lease : LeaseValue) (old new : View) (rival : ℕ) → old.journal.is_live ≡ true → AsksRival lease old (Some rival) new → rival < (blocks_of new.abstraction).count
 rival_known lease old new rival live h =
     let y = h.before.yard in
-    let known : rival < (blocks_of h.found.table.graph).count = (h.step_is.1 (λ worker. rows_of (y.lent worker)) y.machine y.moment).0.known in
+    let known : rival < (blocks_of h.found.table.abstraction).count = (h.step_is.1 (λ worker. rows_of (y.lent worker)) y.machine y.moment).0.known in
     subst (λ (a : AbstractGraph). rival < (blocks_of a).count)
-    (sym (y.each h.before.seat old h.before.mine live).search.graph ∙ sym (ap (λ (v : View). v.graph) h.view)) known
+    (sym (y.each h.before.seat old h.before.mine live).search.abstraction ∙ sym (ap (λ (v : View). v.abstraction) h.view)) known
 
 mark_no_off : (event : Event) (done : Bool) → is_off event ≡ false → HasNoOff (mark_events event done)
 mark_no_off event true none = or_from (is_off event) false none refl
@@ -288,15 +288,15 @@ mark_stays worker block done old new h stays =
 
 -- ---- a lease that goes on, or comes back
 
-module _ (task : TaskParts) (graph : AbstractGraph) (old new : View) (of_task : IsGraphOf task graph) (task_is : old.task ≡ task) (graph_is : old.graph ≡ graph) (stays : IsActive old) (worked : LeaseValue) where
-  pub kept_then : (kept : LeaseValue) → Renews worked old (Kept kept) new → IsLeased task graph new kept
+module _ (task : TaskParts) (abstraction : AbstractGraph) (old new : View) (of_task : IsGraphOf task abstraction) (task_is : old.task ≡ task) (graph_is : old.abstraction ≡ abstraction) (stays : IsActive old) (worked : LeaseValue) where
+  pub kept_then : (kept : LeaseValue) → Renews worked old (Kept kept) new → IsLeased task abstraction new kept
   kept_then kept (between, r, h) =
       let list : GraphValue → List Event = λ found. renewal_events worked (Kept kept) in
       let same = reader_holds (RenewsAs worked (Kept kept)) list old (Some kept) None new (between, r, h) in
       record {
         of_task = of_task;
         task_is = same.task ∙ task_is;
-        graph_is = same.graph ∙ graph_is;
+        graph_is = same.abstraction ∙ graph_is;
         lent = ap (λ (v : View). v.lent) h.view;
         untold = ap (λ (v : View). v.told) h.view;
         stays = still_active (RenewsAs worked (Kept kept)) list between (Some kept) None new h (read_active old between r stays) refl;
@@ -304,40 +304,40 @@ module _ (task : TaskParts) (graph : AbstractGraph) (old new : View) (of_task : 
         at = h.after;
       }
 
-  gone : (step : GraphValue → GraphValue → Type 0) (list : GraphValue → List Event) → ReadsAndHolds step list old None None new → ((g : GraphValue) → HasNoOff (list g)) → IsIdle task graph new
+  gone : (step : GraphValue → GraphValue → Type 0) (list : GraphValue → List Event) → ReadsAndHolds step list old None None new → ((g : GraphValue) → HasNoOff (list g)) → IsIdle task abstraction new
   gone step list (between, r, h) none =
       let same = reader_holds step list old None None new (between, r, h) in
       record {
         of_task = of_task;
         task_is = same.task ∙ task_is;
-        graph_is = same.graph ∙ graph_is;
+        graph_is = same.abstraction ∙ graph_is;
         vacant = ap (λ (v : View). v.lent) h.view;
         stays = still_active step list between None None new h (read_active old between r stays) (none h.found);
       }
 
-  pub given_then : Renews worked old Given new → IsIdle task graph new
+  pub given_then : Renews worked old Given new → IsIdle task abstraction new
   given_then h = gone (RenewsAs worked Given) (λ found. renewal_events worked Given) h (λ g. refl)
 
-  pub released_then : (trouble : Bool) → Releases worked trouble old new → IsIdle task graph new
-  released_then trouble h = gone (ReleasesAs worked trouble) (release_events worked trouble) h (λ g. ending_none_off trouble g.table.end)
+  pub released_then : (memory : Bool) → Releases worked memory old new → IsIdle task abstraction new
+  released_then memory h = gone (ReleasesAs worked memory) (release_events worked memory) h (λ g. ending_none_off memory g.table.end)
 
 -- ---- a lease that comes back, and another that is asked for at once
 
-module _ (task : TaskParts) (graph : AbstractGraph) (old new : View) (of_task : IsGraphOf task graph) (task_is : old.task ≡ task) (graph_is : old.graph ≡ graph) (stays : IsActive old) (worked : LeaseValue) (worker : ℕ) where
-  gave_idle : (between : View) → Renews worked old Given between → IsIdle task graph between
-  gave_idle between gives = given_then task graph old between of_task task_is graph_is stays worked gives
+module _ (task : TaskParts) (abstraction : AbstractGraph) (old new : View) (of_task : IsGraphOf task abstraction) (task_is : old.task ≡ task) (graph_is : old.abstraction ≡ abstraction) (stays : IsActive old) (worked : LeaseValue) (worker : ℕ) where
+  gave_idle : (between : View) → Renews worked old Given between → IsIdle task abstraction between
+  gave_idle between gives = given_then task abstraction old between of_task task_is graph_is stays worked gives
 
-  pub switched_then : (next : LeaseValue) → GivesAndLeases worked worker old (Leased next) new → IsLeased task graph new next
-  switched_then next (between, gives, leases) = leased_then task graph worker between new (gave_idle between gives) next leases
+  pub switched_then : (next : LeaseValue) → GivesAndLeases worked worker old (Leased next) new → IsLeased task abstraction new next
+  switched_then next (between, gives, leases) = leased_then task abstraction worker between new (gave_idle between gives) next leases
 
-  pub wait_home : GivesAndLeases worked worker old NotYet new → IsIdle task graph new
-  wait_home (between, gives, leases) = wait_then task graph worker between new (gave_idle between gives) (lease_events worker NotYet) (LeasesAs worker NotYet) leases (λ g. refl)
+  pub wait_home : GivesAndLeases worked worker old NotYet new → IsIdle task abstraction new
+  wait_home (between, gives, leases) = wait_then task abstraction worker between new (gave_idle between gives) (lease_events worker NotYet) (LeasesAs worker NotYet) leases (λ g. refl)
 
-  pub memory_home : GivesAndLeases worked worker old Memory new → IsIdle task graph new
-  memory_home (between, gives, leases) = wait_then task graph worker between new (gave_idle between gives) (lease_events worker Memory) (LeasesAs worker Memory) leases (λ g. refl)
+  pub memory_home : GivesAndLeases worked worker old Memory new → IsIdle task abstraction new
+  memory_home (between, gives, leases) = wait_then task abstraction worker between new (gave_idle between gives) (lease_events worker Memory) (LeasesAs worker Memory) leases (λ g. refl)
 
-  pub over_home : (end : End) → GivesAndLeases worked worker old (Over end) new → IsIdle task graph new
-  over_home end (between, gives, leases) = (over_then task graph worker between new (gave_idle between gives) end leases).0
+  pub over_home : (end : End) → GivesAndLeases worked worker old (Over end) new → IsIdle task abstraction new
+  over_home end (between, gives, leases) = (over_then task abstraction worker between new (gave_idle between gives) end leases).0
 
   pub gave_holder : (reply : LeaseReply) → GivesAndLeases worked worker old reply new → IsSameHolder old new
   gave_holder reply (between, gives, leases) = holder_then old between new
@@ -346,23 +346,23 @@ module _ (task : TaskParts) (graph : AbstractGraph) (old new : View) (of_task : 
 
 -- ---- the same task and the same blocks
 
-module _ (task same_task : TaskParts) (graph same_graph : AbstractGraph) (task_is : same_task ≡ task) (graph_is : same_graph ≡ graph) where
-  pub leased_with : (view : View) (lease : LeaseValue) → IsLeased task graph view lease → IsLeased same_task same_graph view lease
+module _ (task same_task : TaskParts) (abstraction same_graph : AbstractGraph) (task_is : same_task ≡ task) (graph_is : same_graph ≡ abstraction) where
+  pub leased_with : (view : View) (lease : LeaseValue) → IsLeased task abstraction view lease → IsLeased same_task same_graph view lease
   leased_with view lease l = subst (λ (p : TaskParts). IsLeased p same_graph view lease) (sym task_is) (subst (λ (a : AbstractGraph). IsLeased task a view lease) (sym graph_is) l)
 
-  pub idle_with : (view : View) → IsIdle task graph view → IsIdle same_task same_graph view
+  pub idle_with : (view : View) → IsIdle task abstraction view → IsIdle same_task same_graph view
   idle_with view i = subst (λ (p : TaskParts). IsIdle p same_graph view) (sym task_is) (subst (λ (a : AbstractGraph). IsIdle task a view) (sym graph_is) i)
 
 -- ---- the same search
 
 pub holder_searched : (old new : View) → IsSameHolder old new → searched_by new ≡ searched_by old
-holder_searched old new same = λ i. record { task = same.task i; abstraction = same.graph i; choice = same.choice i }
+holder_searched old new same = λ i. record { task = same.task i; abstraction = same.abstraction i; choice = same.choice i }
 
 pub kept_searched : (old new : View) → KeepsLease old new → searched_by new ≡ searched_by old
-kept_searched old new kept = λ i. record { task = kept.task i; abstraction = kept.graph i; choice = kept.choice i }
+kept_searched old new kept = λ i. record { task = kept.task i; abstraction = kept.abstraction i; choice = kept.choice i }
 
-pub leased_for : (view : View) (lease : LeaseValue) (task : TaskParts) (graph : AbstractGraph) → view.task ≡ task → view.graph ≡ graph → IsLeased view.task view.graph view lease → IsLeased task graph view lease
-leased_for view lease task graph task_is graph_is l = leased_with view.task task view.graph graph (sym task_is) (sym graph_is) view lease l
+pub leased_for : (view : View) (lease : LeaseValue) (task : TaskParts) (abstraction : AbstractGraph) → view.task ≡ task → view.abstraction ≡ abstraction → IsLeased view.task view.abstraction view lease → IsLeased task abstraction view lease
+leased_for view lease task abstraction task_is graph_is l = leased_with view.task task view.abstraction abstraction (sym task_is) (sym graph_is) view lease l
 
 -- ---- the same worker since an earlier moment
 
@@ -383,18 +383,18 @@ module _ (begin old new : YardWatch) (since : IsSameWorker begin old) (own : IsW
   own_then : IsWatchOf new
   own_then = keeps.0.0.0 ∙ own ∙ ap (λ (y : Yard). y.lock.table.shared.table_id) (sym yard)
 
-  pub lease_since : (lease : LeaseValue) → IsLeased (view_of old.pass).task (view_of old.pass).graph (view_of new.pass) lease → HasLease begin new lease
+  pub lease_since : (lease : LeaseValue) → IsLeased (view_of old.pass).task (view_of old.pass).abstraction (view_of new.pass) lease → HasLease begin new lease
   lease_since lease l = record {
     own = own_then;
     since = since_then;
-    leased = leased_with (view_of old.pass).task (view_of new.pass).task (view_of old.pass).graph (view_of new.pass).graph same.task same.graph (view_of new.pass) lease l;
+    leased = leased_with (view_of old.pass).task (view_of new.pass).task (view_of old.pass).abstraction (view_of new.pass).abstraction same.task same.abstraction (view_of new.pass) lease l;
   }
 
-  pub none_since : IsIdle (view_of old.pass).task (view_of old.pass).graph (view_of new.pass) → HasNone begin new
+  pub none_since : IsIdle (view_of old.pass).task (view_of old.pass).abstraction (view_of new.pass) → HasNone begin new
   none_since idle = record {
     own = own_then;
     since = since_then;
-    idle = idle_with (view_of old.pass).task (view_of new.pass).task (view_of old.pass).graph (view_of new.pass).graph same.task same.graph (view_of new.pass) idle;
+    idle = idle_with (view_of old.pass).task (view_of new.pass).task (view_of old.pass).abstraction (view_of new.pass).abstraction same.task same.abstraction (view_of new.pass) idle;
   }
 
 -- a lease that was asked for
@@ -407,39 +407,39 @@ module _ (begin old new : YardWatch) (none : HasNone begin old) (yard : new.yard
   pub lease_asked : (lease : LeaseValue) → Leases worker (view_of old.pass) (Leased lease) (view_of new.pass) → HasLease begin new lease
   lease_asked lease asks =
       let v = view_of old.pass in
-      lease_since begin old new none.since none.own yard keeps (asked_holder (Leased lease) asks) lease (leased_then v.task v.graph worker v (view_of new.pass) none.idle lease asks)
+      lease_since begin old new none.since none.own yard keeps (asked_holder (Leased lease) asks) lease (leased_then v.task v.abstraction worker v (view_of new.pass) none.idle lease asks)
 
   pub wait_asked : Leases worker (view_of old.pass) NotYet (view_of new.pass) → HasNone begin new
   wait_asked asks =
       let v = view_of old.pass in
-      none_since begin old new none.since none.own yard keeps (asked_holder NotYet asks) (wait_then v.task v.graph worker v (view_of new.pass) none.idle (lease_events worker NotYet) (LeasesAs worker NotYet) asks (λ g. refl))
+      none_since begin old new none.since none.own yard keeps (asked_holder NotYet asks) (wait_then v.task v.abstraction worker v (view_of new.pass) none.idle (lease_events worker NotYet) (LeasesAs worker NotYet) asks (λ g. refl))
 
   pub memory_asked : Leases worker (view_of old.pass) Memory (view_of new.pass) → HasNone begin new
   memory_asked asks =
       let v = view_of old.pass in
-      none_since begin old new none.since none.own yard keeps (asked_holder Memory asks) (wait_then v.task v.graph worker v (view_of new.pass) none.idle (lease_events worker Memory) (LeasesAs worker Memory) asks (λ g. refl))
+      none_since begin old new none.since none.own yard keeps (asked_holder Memory asks) (wait_then v.task v.abstraction worker v (view_of new.pass) none.idle (lease_events worker Memory) (LeasesAs worker Memory) asks (λ g. refl))
 
   pub over_asked : (end : End) → Leases worker (view_of old.pass) (Over end) (view_of new.pass) → HasNone begin new × (is_some (end_in (view_of new.pass).journal.seen) ≡ true)
   over_asked end asks =
       let v = view_of old.pass in
-      let over = over_then v.task v.graph worker v (view_of new.pass) none.idle end asks in
+      let over = over_then v.task v.abstraction worker v (view_of new.pass) none.idle end asks in
       (none_since begin old new none.since none.own yard keeps (asked_holder (Over end) asks) over.0, over.1)
 
 -- work on a lease
-module _ (begin old new : YardWatch) (lease : LeaseValue) (h : HasLease begin old lease) (task : TaskParts) (graph : AbstractGraph) (task_is : (view_of old.pass).task ≡ task) (graph_is : (view_of old.pass).graph ≡ graph) where
+module _ (begin old new : YardWatch) (lease : LeaseValue) (h : HasLease begin old lease) (task : TaskParts) (abstraction : AbstractGraph) (task_is : (view_of old.pass).task ≡ task) (graph_is : (view_of old.pass).abstraction ≡ abstraction) where
   pub work_since : IsWatchOf new → IsSameWatch old new → (worked : LeaseValue) → IsSameLease lease worked → (broken : ℕ)
-      → IsWatched (space_of task) (guide_of task graph lease.choice) (watch_view (view_of new.pass)) broken worked → HasScope graph worked → HasWork begin new worked broken
+      → IsWatched (space_of task) (guide_of task abstraction lease.choice) (watch_view (view_of new.pass)) broken worked → HasScope abstraction worked → HasWork begin new worked broken
   work_since own stays worked same broken w scope =
       let v = view_of old.pass in
       let u = view_of new.pass in
-      let l = leased_for v lease task graph task_is graph_is h.leased in
+      let l = leased_for v lease task abstraction task_is graph_is h.leased in
       record {
         own = own;
-        since = since_then begin old new h.since h.own stays.yard stays.pass (work_holder task graph v old.pass.is_live lease l u stays.lease worked same);
-        of_task = subst (λ (p : TaskParts). IsGraphOf p u.graph) (sym stays.lease.task) (subst (λ (a : AbstractGraph). IsGraphOf v.task a) (sym stays.lease.graph) h.leased.of_task);
-        stays = work_active task graph v old.pass.is_live lease l u stays.lease worked same;
-        lease_of = lease_of task graph v old.pass.is_live lease l u stays.lease worked same;
-        brought = brought task graph v old.pass.is_live lease l u stays.lease worked same broken w scope;
+        since = since_then begin old new h.since h.own stays.yard stays.pass (work_holder task abstraction v old.pass.is_live lease l u stays.lease worked same);
+        of_task = subst (λ (p : TaskParts). IsGraphOf p u.abstraction) (sym stays.lease.task) (subst (λ (a : AbstractGraph). IsGraphOf v.task a) (sym stays.lease.abstraction) h.leased.of_task);
+        stays = work_active task abstraction v old.pass.is_live lease l u stays.lease worked same;
+        lease_of = lease_of task abstraction v old.pass.is_live lease l u stays.lease worked same;
+        brought = brought task abstraction v old.pass.is_live lease l u stays.lease worked same broken w scope;
       }
 
 -- a look, or a try that found the turn held
@@ -452,7 +452,7 @@ module _ (begin old new : YardWatch) (lease : LeaseValue) (broken : ℕ) (h : Ha
       record {
         own = own_then begin old new h.since h.own yard keeps same;
         since = since_then begin old new h.since h.own yard keeps same;
-        of_task = subst (λ (p : TaskParts). IsGraphOf p u.graph) (sym same.task) (subst (λ (a : AbstractGraph). IsGraphOf v.task a) (sym same.graph) h.of_task);
+        of_task = subst (λ (p : TaskParts). IsGraphOf p u.abstraction) (sym same.task) (subst (λ (a : AbstractGraph). IsGraphOf v.task a) (sym same.abstraction) h.of_task);
         stays = stays;
         lease_of = (h.lease_of.0 ∙ sym same.worker, ap grant_in (lent_is step list v v.lent v.told u looks) ∙ h.lease_of.1);
         brought = still_brought v broken lease h.brought step list u looks;
@@ -465,7 +465,7 @@ module _ (begin old new : YardWatch) (lease : LeaseValue) (broken : ℕ) (h : Ha
       record {
         own = own_then begin old new h.since h.own yard keeps same;
         since = since_then begin old new h.since h.own yard keeps same;
-        of_task = subst (λ (x : View). IsGraphOf x.task x.graph) (sym is) h.of_task;
+        of_task = subst (λ (x : View). IsGraphOf x.task x.abstraction) (sym is) h.of_task;
         stays = subst (λ (x : View). IsActive x) (sym is) h.stays;
         lease_of = subst (λ (x : View). IsLeaseOf x lease) (sym is) h.lease_of;
         brought = subst (λ (x : View). IsBrought x broken lease) (sym is) h.brought;

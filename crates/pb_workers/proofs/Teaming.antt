@@ -15,28 +15,28 @@ use Rattle.pb_workers.specs.Teams.{IsToSplit, KeepsSearch}
 abbrev HasOff : Share → Type 0
 HasOff share = list_any is_off share.events ≡ true
 
-module _ (task : TaskParts) (graph : AbstractGraph) (v : View) where
+module _ (task : TaskParts) (abstraction : AbstractGraph) (v : View) where
   -- a pass is split, and one fewer is still to be made
-  pub one_fewer : (more : ℕ) (u : View) → IsToSplit task graph (suc more) v → u ≡ split_view v → IsToSplit task graph more u
-  one_fewer more u s is = subst (λ (w : View). IsToSplit task graph more w) (sym is) record {
+  pub one_fewer : (more : ℕ) (u : View) → IsToSplit task abstraction (suc more) v → u ≡ split_view v → IsToSplit task abstraction more u
+  one_fewer more u s is = subst (λ (w : View). IsToSplit task abstraction more w) (sym is) record {
     idle = record { of_task = s.idle.of_task; task_is = s.idle.task_is; graph_is = s.idle.graph_is; vacant = s.idle.vacant; stays = s.idle.stays };
     none_taken_in = s.none_taken_in;
     more_is = let all = s.more_is in omega (arith, all);
   }
 
   -- the pass that was split off is idle
-  pub next_idle : (more : ℕ) (u : View) → IsToSplit task graph more v → u ≡ next_pass_view v → IsIdle task graph u
-  next_idle more u s is = subst (λ (w : View). IsIdle task graph w) (sym is) record { of_task = s.idle.of_task; task_is = s.idle.task_is; graph_is = s.idle.graph_is; vacant = refl; stays = refl }
+  pub next_idle : (more : ℕ) (u : View) → IsToSplit task abstraction more v → u ≡ next_pass_view v → IsIdle task abstraction u
+  next_idle more u s is = subst (λ (w : View). IsIdle task abstraction w) (sym is) record { of_task = s.idle.of_task; task_is = s.idle.task_is; graph_is = s.idle.graph_is; vacant = refl; stays = refl }
 
   -- the last worker signed off
-  pub one_off : (u : View) → IsToSplit task graph 0 v → IsSameHolder v u → list_any is_off u.journal.own.events ≡ true → AllSignedOff u
+  pub one_off : (u : View) → IsToSplit task abstraction 0 v → IsSameHolder v u → list_any is_off u.journal.own.events ≡ true → AllSignedOff u
   one_off u s same off = record {
     all_made = same.made ∙ (let all = s.more_is in omega (arith, all)) ∙ sym (ap (λ t. t.workers) same.settings);
     off = (off, subst (λ shares. AllByRecursion HasOff shares) (sym (same.taken_in ∙ s.none_taken_in)) tt);
   }
 
 pub search_of : (v u : View) → IsSameHolder v u → KeepsSearch v u
-search_of v u same = record { task = same.task; graph = same.graph; choice = same.choice; settings = same.settings; begin = same.begin }
+search_of v u same = record { task = same.task; abstraction = same.abstraction; choice = same.choice; settings = same.settings; begin = same.begin }
 
 -- the first pass and those that it took in, of workers that have signed off, take in another such pass
 module _ (v split all next other met : View) (split_is : split ≡ split_view v) (keeps : KeepsSearch split all) (offs : AllSignedOff all) (next_is : next ≡ next_pass_view v) (same : IsSameHolder next other)
@@ -44,7 +44,7 @@ module _ (v split all next other met : View) (split_is : split ≡ split_view v)
   pub met_search : KeepsSearch v met
   met_search = subst (λ (w : View). KeepsSearch v w) (sym met_is) record {
     task = keeps.task ∙ ap (λ (w : View). w.task) split_is;
-    graph = keeps.graph ∙ ap (λ (w : View). w.graph) split_is;
+    abstraction = keeps.abstraction ∙ ap (λ (w : View). w.abstraction) split_is;
     choice = keeps.choice ∙ ap (λ (w : View). w.choice) split_is;
     settings = keeps.settings ∙ ap (λ (w : View). w.settings) split_is;
     begin = keeps.begin ∙ ap (λ (w : View). w.begin) split_is;

@@ -26,7 +26,7 @@ reads v new read falls is = subst (λ (u : View). HasRead (watch_view v) read (w
 }
 
 pub still_after_read : (v new : View) (read : Option ℕ) → new ≡ view_read None v read → KeepsLease v new
-still_after_read v new read is = subst (λ (u : View). KeepsLease v u) (sym is) record { journal = refl; lent = refl; task = refl; graph = refl; choice = refl; settings = refl; begin = refl }
+still_after_read v new read is = subst (λ (u : View). KeepsLease v u) (sym is) record { journal = refl; lent = refl; task = refl; abstraction = refl; choice = refl; settings = refl; begin = refl }
 
 -- ---- a lowering
 
@@ -37,7 +37,7 @@ may_lower v lease cost may =
       lent = from.lent;
       lent_is = from.lent_is;
       same = from.same;
-      work = (lease_work_stays (space_of v.task) (guide_of v.task v.graph v.choice) from.lent.block lease.used 0 1 (was_read v) (was_read v) (leased_store from.lent) (leased_store lease) from.work (omega arith) (λ incumbent has. has)).0;
+      work = (lease_work_stays (space_of v.task) (guide_of v.task v.abstraction v.choice) from.lent.block lease.used 0 1 (was_read v) (was_read v) (leased_store from.lent) (leased_store lease) from.work (omega arith) (λ incumbent has. has)).0;
       shown = may.goal;
     }
 
@@ -54,4 +54,4 @@ tells v new cost is = subst (λ (u : View). HasTold (watch_view v) cost (watch_v
 }
 
 pub still_after_telling : (v new : View) (cost : ℕ) → new ≡ view_told v cost → KeepsLease v new
-still_after_telling v new cost is = subst (λ (u : View). KeepsLease v u) (sym is) record { journal = refl; lent = refl; task = refl; graph = refl; choice = refl; settings = refl; begin = refl }
+still_after_telling v new cost is = subst (λ (u : View). KeepsLease v u) (sym is) record { journal = refl; lent = refl; task = refl; abstraction = refl; choice = refl; settings = refl; begin = refl }

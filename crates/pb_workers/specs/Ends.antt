@@ -20,9 +20,11 @@ home_store g = store_of (home_rows g.homes) g.incumbent (weight_of g.table.setti
 -- some plan costs no more, and no plan costs less than the incumbent divided by the weight. Without
 -- an incumbent there is no plan.
 pub record IsBestEnd (g : GraphValue) : Type 0 where
-  pub sound : IsSound (space_of g.task) (guide_of g.task g.table.graph g.choice) (home_store g)
+  pub sound : IsSound (space_of g.task) (guide_of g.task g.table.abstraction g.choice)
+      (home_store g)
   pub quiet : IsQuiet (home_store g)
-  pub shown : IsShown (space_of g.task) (guide_of g.task g.table.graph g.choice) (home_store g)
+  pub shown : IsShown (space_of g.task) (guide_of g.task g.table.abstraction g.choice)
+      (home_store g)
   pub holds : IncumbentHolds (space_of g.task) (weight_of g.table.settings) g.incumbent
 
 -- Exactly as many expansions as the budget allows, those of earlier runs among them and none of them
@@ -33,13 +35,13 @@ pub record IsSpentEnd (g : GraphValue) : Type 0 where
   pub first_weight : Weight
   pub is_weight : IsWeight first_weight
   pub works : List Work
-  pub comes : Comes (space_of g.task) (guide_of g.task g.table.graph g.choice) works
-      (opening_store (space_of g.task) (guide_of g.task g.table.graph g.choice) first_weight)
+  pub comes : Comes (space_of g.task) (guide_of g.task g.table.abstraction g.choice) works
+      (opening_store (space_of g.task) (guide_of g.task g.table.abstraction g.choice) first_weight)
       (home_store g)
   pub all : expansions works ≡ g.table.settings.budget
   pub none_broken : broken_expansions works ≡ 0
   pub reopened : reopenings works ≡ g.table.past.reopenings
-  pub between : ReopensQuiet (space_of g.task) (guide_of g.task g.table.graph g.choice) works
-      (opening_store (space_of g.task) (guide_of g.task g.table.graph g.choice) first_weight)
+  pub between : ReopensQuiet (space_of g.task) (guide_of g.task g.table.abstraction g.choice) works
+      (opening_store (space_of g.task) (guide_of g.task g.table.abstraction g.choice) first_weight)
   pub first_run : g.table.past.reopenings ≡ 0 → first_weight ≡ weight_of g.table.settings
   pub opened : (block : ℕ) × HasOpened ((home_store g).rows block)

@@ -23,12 +23,12 @@ use Rattle.pb_workers.specs.Runs.{IsSameSearch, RunsTo}
 -- what work makes of a lease that is out
 abbrev pub Works : TaskParts → AbstractGraph → Choice → LeaseValue → LeaseValue → (broken : ℕ)
     → Type 0
-Works task graph choice old new broken =
+Works task abstraction choice old new broken =
     (settings : Settings) (reopenings : ℕ) (machine : Machine)
-    → (before : IsOut (setup_of task graph choice settings reopenings) machine 0 old)
-    → (after : IsOut (setup_of task graph choice settings reopenings) machine broken new)
-    × (IsInTurns (setup_of task graph choice settings reopenings) machine 0 old before
-    → IsInTurns (setup_of task graph choice settings reopenings) machine broken new after)
+    → (before : IsOut (setup_of task abstraction choice settings reopenings) machine 0 old)
+    → (after : IsOut (setup_of task abstraction choice settings reopenings) machine broken new)
+    × (IsInTurns (setup_of task abstraction choice settings reopenings) machine 0 old before
+    → IsInTurns (setup_of task abstraction choice settings reopenings) machine broken new after)
 
 -- The lease is the graph's, which has no end, and its block's noted key is that of an Opened row.
 -- At some moment that the graph is, the lease is out and has worked in turns.
@@ -122,10 +122,10 @@ pub record GoesOnTo (begin : GraphValue) (given : LeaseValue) (now : GraphValue)
 -- Of the lease that was held at this graph its worker has made this one, by at most so many
 -- expansions that were broken off.
 pub record IsWorkOf (g : GraphValue) (held worked : LeaseValue) (broken : ℕ) : Type 0 where
-  pub works : Works g.task g.table.graph held.choice held worked broken
+  pub works : Works g.task g.table.abstraction held.choice held worked broken
   pub within : worked.used ≤ worked.quota
   pub same : IsSameLease held worked
-  pub scope : HasScope g.table.graph worked
+  pub scope : HasScope g.table.abstraction worked
 
 -- the lease went on, and then it was worked on
 pub record HasWorkedOn (begin : GraphValue) (given : LeaseValue) (now : GraphValue)

@@ -10,7 +10,7 @@ use Rattle.pb_yard.specs.Order.{RunsInTime}
 -- the same runs before it
 pub record IsSameSearch (old new : GraphValue) : Type 0 where
   pub task : new.task ≡ old.task
-  pub graph : new.table.graph ≡ old.table.graph
+  pub abstraction : new.table.abstraction ≡ old.table.abstraction
   pub choice : new.choice ≡ old.choice
   pub settings : new.table.settings ≡ old.table.settings
   pub past : new.table.past ≡ old.table.past

@@ -16,11 +16,11 @@ pub record Search : Type 0 where
 
 -- what a graph of leases searches
 abbrev pub searched_in : GraphValue → Search
-searched_in g = record { task = g.task; abstraction = g.table.graph; choice = g.choice }
+searched_in g = record { task = g.task; abstraction = g.table.abstraction; choice = g.choice }
 
 -- what the yard of a pass searches
 abbrev pub searched_by : View → Search
-searched_by view = record { task = view.task; abstraction = view.graph; choice = view.choice }
+searched_by view = record { task = view.task; abstraction = view.abstraction; choice = view.choice }
 
 -- The worker is for this search: it has the task and the blocks, and tools for the task and the
 -- estimates.

@@ -15,28 +15,29 @@ pub record IsSameHolder (old new : View) : Type 0 where
   pub taken_in : new.journal.taken_in ≡ old.journal.taken_in
   pub made : new.journal.made ≡ old.journal.made
   pub task : new.task ≡ old.task
-  pub graph : new.graph ≡ old.graph
+  pub abstraction : new.abstraction ≡ old.abstraction
   pub choice : new.choice ≡ old.choice
   pub settings : new.settings ≡ old.settings
   pub begin : new.begin ≡ old.begin
 
 -- The search is for this task by these blocks of its own. The pass's worker has no lease and has
 -- not signed off.
-pub record IsIdle (task : TaskParts) (graph : AbstractGraph) (view : View) : Type 0 where
-  pub of_task : IsGraphOf task graph
+pub record IsIdle (task : TaskParts) (abstraction : AbstractGraph) (view : View) : Type 0 where
+  pub of_task : IsGraphOf task abstraction
   pub task_is : view.task ≡ task
-  pub graph_is : view.graph ≡ graph
+  pub graph_is : view.abstraction ≡ abstraction
   pub vacant : view.lent ≡ None
   pub stays : IsActive view
 
 -- The search is for this task by these blocks of its own. The pass's worker has this lease, as it
 -- was given or last renewed, has told no cost, and has not signed off. The pass was one of a yard
 -- with some graph.
-pub record IsLeased (task : TaskParts) (graph : AbstractGraph) (view : View) (lease : LeaseValue) :
+pub record IsLeased (task : TaskParts) (abstraction : AbstractGraph) (view : View)
+    (lease : LeaseValue) :
     Type 0 where
-  pub of_task : IsGraphOf task graph
+  pub of_task : IsGraphOf task abstraction
   pub task_is : view.task ≡ task
-  pub graph_is : view.graph ≡ graph
+  pub graph_is : view.abstraction ≡ abstraction
   pub lent : view.lent ≡ Some lease
   pub untold : view.told ≡ None
   pub stays : IsActive view

@@ -19,14 +19,15 @@ pub record IsSameWorker (old new : YardWatch) : Type 0 where
 pub record HasLease (begin now : YardWatch) (lease : LeaseValue) : Type 0 where
   pub own : IsWatchOf now
   pub since : IsSameWorker begin now
-  pub leased : IsLeased (view_of now.pass).task (view_of now.pass).graph (view_of now.pass) lease
+  pub leased : IsLeased (view_of now.pass).task (view_of now.pass).abstraction
+      (view_of now.pass) lease
 
 -- Since the one watch, the worker came to have a lease, and made this one of it by work in turns.
 -- At most so many expansions were broken off.
 pub record HasWork (begin now : YardWatch) (lease : LeaseValue) (broken : ℕ) : Type 0 where
   pub own : IsWatchOf now
   pub since : IsSameWorker begin now
-  pub of_task : IsGraphOf (view_of now.pass).task (view_of now.pass).graph
+  pub of_task : IsGraphOf (view_of now.pass).task (view_of now.pass).abstraction
   pub stays : IsActive (view_of now.pass)
   pub lease_of : IsLeaseOf (view_of now.pass) lease
   pub brought : IsBrought (view_of now.pass) broken lease
@@ -35,11 +36,11 @@ pub record HasWork (begin now : YardWatch) (lease : LeaseValue) (broken : ℕ) :
 pub record HasNone (begin now : YardWatch) : Type 0 where
   pub own : IsWatchOf now
   pub since : IsSameWorker begin now
-  pub idle : IsIdle (view_of now.pass).task (view_of now.pass).graph (view_of now.pass)
+  pub idle : IsIdle (view_of now.pass).task (view_of now.pass).abstraction (view_of now.pass)
 
 -- the pass was told this rival of its lease's block
 pub record IsToldRivalIn (old : YardWatch) (lease : LeaseValue) (rival : ℕ) (new : YardWatch) :
     Type 0 where
   pub asked : AsksRival lease (view_of old.pass) (Some rival) (view_of new.pass)
-  pub known : rival < (blocks_of (view_of new.pass).graph).count
+  pub known : rival < (blocks_of (view_of new.pass).abstraction).count
   pub worker : worker_of new.pass ≡ worker_of old.pass

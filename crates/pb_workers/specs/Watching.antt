@@ -12,7 +12,7 @@ abbrev pub watch_view : View → WatchView
 watch_view view =
     record {
       task = view.task;
-      graph = view.graph;
+      abstraction = view.abstraction;
       choice = view.choice;
       lent = view.lent;
       read = was_read view;
@@ -30,7 +30,7 @@ pub record KeepsLease (old new : View) : Type 0 where
   pub journal : new.journal ≡ old.journal
   pub lent : new.lent ≡ old.lent
   pub task : new.task ≡ old.task
-  pub graph : new.graph ≡ old.graph
+  pub abstraction : new.abstraction ≡ old.abstraction
   pub choice : new.choice ≡ old.choice
   pub settings : new.settings ≡ old.settings
   pub begin : new.begin ≡ old.begin
@@ -51,7 +51,7 @@ same_watch watch =
         journal = refl;
         lent = refl;
         task = refl;
-        graph = refl;
+        abstraction = refl;
         choice = refl;
         settings = refl;
         begin = refl;
@@ -74,7 +74,7 @@ same_watch_on old mid new one two =
         journal = two.lease.journal ∙ one.lease.journal;
         lent = two.lease.lent ∙ one.lease.lent;
         task = two.lease.task ∙ one.lease.task;
-        graph = two.lease.graph ∙ one.lease.graph;
+        abstraction = two.lease.abstraction ∙ one.lease.abstraction;
         choice = two.lease.choice ∙ one.lease.choice;
         settings = two.lease.settings ∙ one.lease.settings;
         begin = two.lease.begin ∙ one.lease.begin;

@@ -34,7 +34,7 @@ pub fn run_alone<G: Gate>(
     table: Option<&Arc<Table>>,
 ) -> Result<(), AllocError>
     requires task { graph.old.task ≡ task.now }
-    requires abstraction { graph.old.table.graph ≡ abstraction.now }
+    requires abstraction { graph.old.table.abstraction ≡ abstraction.now }
     requires alone { graph.old.table.settings.workers ≡ 1 }
     requires moment { IsAnyMoment graph.old }
     requires home { IsFalse (is_out_in graph.old) }

@@ -57,9 +57,9 @@ impl Lessor for LeaseGraph {
         self.renew(lease)
     }
 
-    fn give_back(&mut self, lease: Lease, trouble: bool) {
+    fn give_back(&mut self, lease: Lease, memory: bool) {
         let _ = self.abstraction();
-        self.release(lease, trouble);
+        self.release(lease, memory);
     }
 
     fn tell_return(&self) {}

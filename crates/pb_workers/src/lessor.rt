@@ -140,12 +140,12 @@ pub trait Lessor {
         ensures searched { searched self.new ≡ searched self.old };
 
     /// The worker brings its lease back, with a cause.
-    fn give_back(&mut self, lease: Lease, trouble: bool)
+    fn give_back(&mut self, lease: Lease, memory: bool)
         requires may_return { (begin : Self) × (given : LeaseValue)
-            × may_return begin given self.old lease (one_if trouble) }
-        requires cause { HasCause lease trouble }
+            × may_return begin given self.old lease (one_if memory) }
+        requires cause { HasCause lease memory }
         ensures home { (begin : Self) (given : LeaseValue)
-            → may_return begin given self.old lease (one_if trouble)
+            → may_return begin given self.old lease (one_if memory)
             → returned begin given self.new }
         ensures searched { searched self.new ≡ searched self.old };
 

@@ -81,7 +81,7 @@ impl<'a> Worker<'a> {
     /// Works on a lease until its quota is used up, no row of its block is Opened, or memory runs
     /// out.
     pub fn work(&mut self, lease: &mut Lease) -> Worked
-        requires graph { IsGraphOf self.old.task.now self.old.abstraction.now }
+        requires of_task { IsGraphOf self.old.task.now self.old.abstraction.now }
         requires at_work { IsAtWork self.old.task.now self.old.abstraction.now lease.old.choice
             lease.old }
         requires tools { IsOfTask self.old.estimator self.old.task.now lease.old.choice }
@@ -113,7 +113,7 @@ impl<'a> Worker<'a> {
 
     /// Works on a lease as `work` does, under a watch of the incumbent.
     pub fn work_watched<W: Watch>(&mut self, lease: &mut Lease, watch: &mut W) -> Worked
-        requires graph { IsGraphOf self.old.task.now self.old.abstraction.now }
+        requires of_task { IsGraphOf self.old.task.now self.old.abstraction.now }
         requires at_work { IsAtWork self.old.task.now self.old.abstraction.now lease.old.choice
             lease.old }
         requires tools { IsOfTask self.old.estimator self.old.task.now lease.old.choice }

@@ -130,9 +130,9 @@ pub fn run_workers<R: Threads + Wait + Sync, G: Gate>(
     requires first { worker_of pass ≡ 0 }
     requires alone { ((view_of pass).journal.made ≡ 1) × ((view_of pass).journal.taken_in ≡ []) }
     requires workers { workers ≡ (view_of pass).settings.workers }
-    requires graph { IsGraphOf task.now abstraction.now }
+    requires of_task { IsGraphOf task.now abstraction.now }
     requires task { (view_of pass).task ≡ task.now }
-    requires abstraction { (view_of pass).graph ≡ abstraction.now }
+    requires abstraction { (view_of pass).abstraction ≡ abstraction.now }
     requires choice { (view_of pass).choice ≡ choice.now }
     requires vacant { (view_of pass).lent ≡ None }
     requires stays { IsActive (view_of pass) }

@@ -87,9 +87,9 @@ impl<'a, W: Wait> Lessor for YardLessor<'a, W> {
         }
     }
 
-    fn give_back(&mut self, lease: Lease, trouble: bool) {
+    fn give_back(&mut self, lease: Lease, memory: bool) {
         let yard = self.watch.yard;
-        yard.release(self.rt, &mut self.watch.pass, lease, trouble);
+        yard.release(self.rt, &mut self.watch.pass, lease, memory);
     }
 
     fn tell_return(&self) {

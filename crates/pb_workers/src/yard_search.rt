@@ -75,7 +75,7 @@ pub fn run_worker<W: Wait, G: Gate>(
         watch: YardWatch { yard, pass },
         turns: rt.forever(),
     };
-    let trouble = take_leases(rt, gate, &mut worker, &mut lessor);
+    let memory = take_leases(rt, gate, &mut worker, &mut lessor);
     let YardLessor {
         rt: _,
         count: _,
@@ -83,7 +83,7 @@ pub fn run_worker<W: Wait, G: Gate>(
         turns: _,
     } = lessor;
     let YardWatch { yard: _, mut pass } = watch;
-    yard.sign_off(rt, &mut pass, trouble);
+    yard.sign_off(rt, &mut pass, memory);
     count.advance(rt);
     pass
 }

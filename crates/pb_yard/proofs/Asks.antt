@@ -43,7 +43,7 @@ module _ (x : GraphValue) (shared : Option ℕ) (views : List View) (seat : ℕ)
       ∙ ap (list_any is_off) (h.journals.each seat v.journal (at_journal x.table.settings.workers x.table.journal views h.journals seat v at) live).shares.0.0.told ∙ stays
 
   -- an end that was seen stands
-  pub cause : (trouble : Bool) → (trouble || is_some (end_in v.journal.seen)) ≡ true → (trouble || is_some x.table.end) ≡ true
+  pub cause : (memory : Bool) → (memory || is_some (end_in v.journal.seen)) ≡ true → (memory || is_some x.table.end) ≡ true
   cause true why = refl
   cause false why = ap is_some (ends_are_told (blocks x.table) x.table.settings x.table.past.spent x.table.journal (counts_in x) (history x shared views h) ∙ ap end_in begins.1) ∙ go (end_in v.journal.seen) refl why
     where
@@ -61,5 +61,5 @@ module _ (x : GraphValue) (shared : Option ℕ) (views : List View) (seat : ℕ)
   pub leased_as : (lease : LeaseValue) → IsLeaseOf v lease → (counts_in x).leases lease.worker ≡ Some (grant_of lease)
   leased_as lease is = ap (counts_in x).leases is.0 ∙ leases_are ∙ is.1
 
-  pub block_known : (block : ℕ) → block < (blocks_of v.graph).count → block < (blocks x.table).count
-  block_known block lt = subst (λ (a : AbstractGraph). block < (blocks_of a).count) mine.search.graph lt
+  pub block_known : (block : ℕ) → block < (blocks_of v.abstraction).count → block < (blocks x.table).count
+  block_known block lt = subst (λ (a : AbstractGraph). block < (blocks_of a).count) mine.search.abstraction lt

@@ -113,7 +113,7 @@ module _ (x y : GraphValue) (v : View) (live : v.journal.is_live ≡ true) where
 
   pub stays : y ≡ x → MayGo x y v live [] v.lent v.told
   stays is number views seat h at = subst (λ (z : GraphValue). Steps x z (cost_of number) views seat v h at live [] v.lent v.told (cost_of number)) (sym is)
-      (keeps_step x x (cost_of number) views seat v h at live [] tt (nothing x) record { task = refl; graph = refl; choice = refl; settings = refl; past = refl } (sym (append-nil x.table.journal)) (λ other else. refl))
+      (keeps_step x x (cost_of number) views seat v h at live [] tt (nothing x) record { task = refl; abstraction = refl; choice = refl; settings = refl; past = refl } (sym (append-nil x.table.journal)) (λ other else. refl))
 
   -- all but the tables stay
   pub keeps : (events : List Event) → GrantsNone events → Adds x.table y.table events → y ≡ record x { table = y.table } → KeepsLeases x events y → AreBy Own events → MayGo x y v live events v.lent v.told
@@ -140,16 +140,16 @@ module _ (x y : GraphValue) (v : View) (live : v.journal.is_live ≡ true) where
           (brought_of_graph x x (cost_of number) views seat v h at live 0 lease b) (λ w. rows_of (h.lent w)) h.machine h.moment none))
   may_switch is_last read_at lease Given cause places b is number views seat h at = release_step x y (cost_of number) views seat v h at live lease false cause b is_last is.1 is.3
 
-  pub may_release : x.incumbent ≡ v.last → (lease : LeaseValue) (trouble : Bool) → HasCause lease trouble → IsBrought v (one_if trouble) lease → ReleasesAs lease trouble x y → MayGo x y v live (release_events lease trouble x) None None
-  may_release is_last lease trouble cause b is number views seat h at = release_step x y (cost_of number) views seat v h at live lease trouble cause b is_last is.0 is.1
+  pub may_release : x.incumbent ≡ v.last → (lease : LeaseValue) (memory : Bool) → HasCause lease memory → IsBrought v (one_if memory) lease → ReleasesAs lease memory x y → MayGo x y v live (release_events lease memory x) None None
+  may_release is_last lease memory cause b is number views seat h at = release_step x y (cost_of number) views seat v h at live lease memory cause b is_last is.0 is.1
 
   pub may_mark : (may : Type 0) (event : Event) (done : Bool) → GrantsNone (event ∷ []) → AreBy Own (event ∷ []) → ChangesMarkAs may Own event done x y → MayGo x y v live (mark_events event done) v.lent v.told
   may_mark may event true none by is = keeps (event ∷ []) none is.1.events is.1.rest is.2 by
   may_mark may event false none by is = stays is.1
 
-  pub may_sign_off : (trouble : Bool) → SignsOffAs Own trouble x y → MayGo x y v live (off_events Own trouble x) v.lent v.told
-  may_sign_off trouble is =
-      keeps (Off Own trouble ∷ ending trouble x.table.end) (ending_grants_none trouble x.table.end) is.0.events is.0.rest is.1 (first_by Own (Off Own trouble) (ending trouble x.table.end) (λ other. refl) (ending_by Own trouble x.table.end))
+  pub may_sign_off : (memory : Bool) → SignsOffAs Own memory x y → MayGo x y v live (off_events Own memory x) v.lent v.told
+  may_sign_off memory is =
+      keeps (Off Own memory ∷ ending memory x.table.end) (ending_grants_none memory x.table.end) is.0.events is.0.rest is.1 (first_by Own (Off Own memory) (ending memory x.table.end) (λ other. refl) (ending_by Own memory x.table.end))
 
 -- ---- the replies of the graph, by cases
 

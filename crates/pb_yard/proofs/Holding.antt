@@ -109,7 +109,7 @@ module _ (x y : GraphValue) (shared later : Option ℕ) (views : List View) (sea
   mine = let k = known v (h.each seat v at live).known in record {
     lent = entry_here h.lent Own Own lent (equal_self Own);
     told = s.told_is;
-    search = let q = search_same x y s.same v (h.each seat v at live).search in record { task = q.task; graph = q.graph; choice = q.choice; settings = q.settings };
+    search = let q = search_same x y s.same v (h.each seat v at live).search in record { task = q.task; abstraction = q.abstraction; choice = q.choice; settings = q.settings };
     known = record { read = k.read; last = k.last };
     copy = s.copy;
   }

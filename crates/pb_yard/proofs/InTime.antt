@@ -46,8 +46,8 @@ module _ (setup : Setup) where
       gives (Renew worker used quota) between h = at_most_trans (between.given worker) settled other h most
       gives (Hot worker block) between h = tt
       gives (Cold worker block) between h = tt
-      gives (Release worker used trouble) between h = tt
-      gives (Off worker trouble) between h = tt
+      gives (Release worker used memory) between h = tt
+      gives (Off worker memory) between h = tt
       gives (Ended end) between h = tt
   raised (tell_move worker cost ∷ moves) old settled other new later most runs =
       let rest = raised moves runs.0 settled other new later most runs.5 in (rest.0, (runs.0, runs.1, runs.2, tt, runs.4, rest.1))
@@ -99,8 +99,8 @@ module _ (setup : Setup) where
       subst (λ o. AtMost o old.store.incumbent) (sym (now ∙ same)) (lesser_at_most old.store.incumbent back.worked.incumbent)
   gives_settled (Hot worker block) old new runs now = tt
   gives_settled (Cold worker block) old new runs now = tt
-  gives_settled (Release worker used trouble) old new runs now = tt
-  gives_settled (Off worker trouble) old new runs now = tt
+  gives_settled (Release worker used memory) old new runs now = tt
+  gives_settled (Off worker memory) old new runs now = tt
   gives_settled (Ended end) old new runs now = tt
 
   -- one event
@@ -128,7 +128,7 @@ settled_events setup (Hot worker block ∷ events) old settled new none runs = l
 settled_events setup (Cold worker block ∷ events) old settled new none runs = let rest = settled_events setup events runs.0 runs.0.store.incumbent new none runs.3 in (rest.0, (runs.0, runs.1, runs.2, tt, tt, rest.1))
 settled_events setup (Release worker used false ∷ events) old settled new none runs = absurd none
 settled_events setup (Release worker used true ∷ events) old settled new none runs = let rest = settled_events setup events runs.0 runs.0.store.incumbent new none runs.3 in (rest.0, (runs.0, runs.1, runs.2, tt, tt, rest.1))
-settled_events setup (Off worker trouble ∷ events) old settled new none runs = let rest = settled_events setup events runs.0 runs.0.store.incumbent new none runs.3 in (rest.0, (runs.0, runs.1, runs.2, tt, tt, rest.1))
+settled_events setup (Off worker memory ∷ events) old settled new none runs = let rest = settled_events setup events runs.0 runs.0.store.incumbent new none runs.3 in (rest.0, (runs.0, runs.1, runs.2, tt, tt, rest.1))
 settled_events setup (Ended end ∷ events) old settled new none runs = let rest = settled_events setup events runs.0 runs.0.store.incumbent new none runs.3 in (rest.0, (runs.0, runs.1, runs.2, tt, tt, rest.1))
 
 pub in_time_events : (setup : Setup) (events : List Event) (old new : Machine) → GrantsNone events → RunsInOrder setup old (moves_of events) new → RunsInTime setup old (moves_of events) new

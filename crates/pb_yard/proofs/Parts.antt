@@ -26,20 +26,20 @@ use Rattle.pb_yard.specs.Rule.{journal_view, IsSearchOf, IsRecent, HasNoPass}
 -- the same search goes on, and this is what stays of it
 pub record GoesOnAs (old new : GraphValue) : Type 0 where
   pub task : new.task ≡ old.task
-  pub graph : new.table.graph ≡ old.table.graph
+  pub abstraction : new.table.abstraction ≡ old.table.abstraction
   pub choice : new.choice ≡ old.choice
   pub settings : new.table.settings ≡ old.table.settings
   pub past : new.table.past ≡ old.table.past
 
 module _ (old new : GraphValue) (same : GoesOnAs old new) where
   pub setup_same : setup_in new ≡ setup_in old
-  setup_same = λ i. setup_of (same.task i) (same.graph i) (same.choice i) (same.settings i) (same.past i).reopenings
+  setup_same = λ i. setup_of (same.task i) (same.abstraction i) (same.choice i) (same.settings i) (same.past i).reopenings
 
   pub run_same : (begin : GraphValue) → IsOfRun begin old → IsOfRun begin new
-  run_same begin is = record { task = same.task ∙ is.task; graph = same.graph ∙ is.graph; choice = same.choice ∙ is.choice; settings = same.settings ∙ is.settings; past = same.past ∙ is.past }
+  run_same begin is = record { task = same.task ∙ is.task; abstraction = same.abstraction ∙ is.abstraction; choice = same.choice ∙ is.choice; settings = same.settings ∙ is.settings; past = same.past ∙ is.past }
 
   pub search_same : (view : View) → IsSearchOf old view → IsSearchOf new view
-  search_same view is = record { task = is.task ∙ sym same.task; graph = is.graph ∙ sym same.graph; choice = is.choice ∙ sym same.choice; settings = is.settings ∙ sym same.settings }
+  search_same view is = record { task = is.task ∙ sym same.task; abstraction = is.abstraction ∙ sym same.abstraction; choice = is.choice ∙ sym same.choice; settings = is.settings ∙ sym same.settings }
 
   -- a lease whose grant stays is one of the graph as before
   pub still_of_graph : (lease : LeaseValue) → (counts_in new).leases lease.worker ≡ (counts_in old).leases lease.worker → IsOfGraph old lease → IsOfGraph new lease
@@ -47,7 +47,7 @@ module _ (old new : GraphValue) (same : GoesOnAs old new) where
     leased = leases ∙ of.leased;
     weight = of.weight ∙ ap weight_of (sym same.settings);
     choice = of.choice ∙ sym same.choice;
-    scope = record { blocks = λ b. of.scope.blocks b ∙ ap (λ (g : AbstractGraph). (blocks_of g).scope lease.block b) (sym same.graph); weights = of.scope.weights };
+    scope = record { blocks = λ b. of.scope.blocks b ∙ ap (λ (g : AbstractGraph). (blocks_of g).scope lease.block b) (sym same.abstraction); weights = of.scope.weights };
   }
 
 -- what is recorded for workers without a lease is of no account

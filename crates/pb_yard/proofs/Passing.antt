@@ -29,7 +29,7 @@ opens g shared k o is = record {
   in_range = k.legal.range;
   begin = g;
   begins = o;
-  of_run = record { task = refl; graph = refl; choice = refl; settings = refl; past = refl };
+  of_run = record { task = refl; abstraction = refl; choice = refl; settings = refl; past = refl };
   moves = [];
   machine = begin_machine g;
   lent = λ worker. None;
@@ -51,7 +51,7 @@ opens g shared k o is = record {
     one zero view e up = subst (IsViewOf g (begin_machine g) (λ worker. None)) (some-injective (opening_view g) view e) record {
       lent = refl;
       told = refl;
-      search = record { task = refl; graph = refl; choice = refl; settings = refl };
+      search = record { task = refl; abstraction = refl; choice = refl; settings = refl };
       known = record { read = λ incumbent has. unread incumbent has; last = (o.moment (λ worker. rows_of None)).at.incumbent 0 };
       copy = λ lease is. absurd (none-some lease is);
     }
@@ -121,7 +121,7 @@ module _ (x : GraphValue) (shared : Option ℕ) (views : List View) (seat : ℕ)
   kept = let m = h.each seat v at live in record {
     lent = m.lent;
     told = m.told;
-    search = record { task = m.search.task; graph = m.search.graph; choice = m.search.choice; settings = m.search.settings };
+    search = record { task = m.search.task; abstraction = m.search.abstraction; choice = m.search.choice; settings = m.search.settings };
     known = record { read = m.known.read; last = m.known.last };
     copy = m.copy;
   }
@@ -133,7 +133,7 @@ module _ (x : GraphValue) (shared : Option ℕ) (views : List View) (seat : ℕ)
   given = let m = h.each seat v at live in record {
     lent = free;
     told = untold;
-    search = record { task = m.search.task; graph = m.search.graph; choice = m.search.choice; settings = m.search.settings };
+    search = record { task = m.search.task; abstraction = m.search.abstraction; choice = m.search.choice; settings = m.search.settings };
     known = record { read = λ incumbent has. unread incumbent has; last = known_first v.journal.made };
     copy = λ lease is. absurd (none-some lease is);
   }
@@ -205,7 +205,7 @@ module _ (x : GraphValue) (shared : Option ℕ) (views : List View) (seat : ℕ)
   met = let m = h.each seat v at live in record {
     lent = m.lent;
     told = m.told;
-    search = record { task = m.search.task; graph = m.search.graph; choice = m.search.choice; settings = m.search.settings };
+    search = record { task = m.search.task; abstraction = m.search.abstraction; choice = m.search.choice; settings = m.search.settings };
     known = record { read = m.known.read; last = m.known.last };
     copy = m.copy;
   }

@@ -45,7 +45,7 @@ pub bounded_yard : (f : GraphValue) (bound shared : Option ℕ) (views : List Vi
 bounded_yard f None shared views h known = h
 bounded_yard f (Some cost) shared views h known =
     let y = bounded f (Some cost) in
-    let same : GoesOnAs f y = record { task = refl; graph = refl; choice = refl; settings = refl; past = refl } in
+    let same : GoesOnAs f y = record { task = refl; abstraction = refl; choice = refl; settings = refl; past = refl } in
     record {
       is_setup = h.is_setup;
       in_range = h.in_range;
@@ -107,14 +107,14 @@ entered f v o seat u is live (number, (views, h, at)) = let here = at ∙ ap (λ
 -- what was brought before the pass read is brought after
 pub brought_on : (v : View) (held : Option GraphValue) (o : Option ℕ) (most_broken : ℕ) (lease : LeaseValue) → AtMost o v.last → IsBrought v most_broken lease → IsBrought (view_read held v o) most_broken lease
 brought_on v held o most_broken lease falls b =
-    let stays = lease_work_stays (space_of v.task) (guide_of v.task v.graph v.choice) b.lent.block lease.used most_broken most_broken (was_read v) (was_read (view_read held v o)) (leased_store b.lent) (leased_store lease) b.work (omega arith) (more_read held v o) in
+    let stays = lease_work_stays (space_of v.task) (guide_of v.task v.abstraction v.choice) b.lent.block lease.used most_broken most_broken (was_read v) (was_read (view_read held v o)) (leased_store b.lent) (leased_store lease) b.work (omega arith) (more_read held v o) in
     record {
       lent = b.lent;
       lent_is = b.lent_is;
       same = b.same;
       weights = b.weights;
       work = stays.0;
-      turns = subst (λ (works : List Work). AreLeaseTurns (space_of v.task) (guide_of v.task v.graph v.choice) works (leased_store b.lent)) (sym stays.1) b.turns;
+      turns = subst (λ (works : List Work). AreLeaseTurns (space_of v.task) (guide_of v.task v.abstraction v.choice) works (leased_store b.lent)) (sym stays.1) b.turns;
       copy = at_most_trans o v.last lease.incumbent falls b.copy;
       told = b.told;
     }

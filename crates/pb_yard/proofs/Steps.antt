@@ -65,7 +65,7 @@ ending_by own true (Some e) other else = refl
 ending_by own false end other else = refl
 
 same_adds : (x y : GraphValue) (events : List Event) → Adds x.table y.table events → y.task ≡ x.task → y.choice ≡ x.choice → GoesOnAs x y
-same_adds x y events adds task choice = record { task = task; graph = adds.graph; choice = choice; settings = adds.settings; past = adds.past }
+same_adds x y events adds task choice = record { task = task; abstraction = adds.abstraction; choice = choice; settings = adds.settings; past = adds.past }
 
 pub same_rest : (x y : GraphValue) (events : List Event) → Adds x.table y.table events → y ≡ record x { table = y.table } → GoesOnAs x y
 same_rest x y events adds rest = same_adds x y events adds (ap (λ (g : GraphValue). g.task) rest) (ap (λ (g : GraphValue). g.choice) rest)
@@ -193,9 +193,9 @@ module _ (x y : GraphValue) (shared : Option ℕ) (views : List View) (seat : �
     WorkedBy t a h = (w : IsWorked (space_of t) (guide_of t a h) b.lent.block lease.used most_broken (was_read v) (leased_store b.lent) (leased_store lease))
         × AreLeaseTurns (space_of t) (guide_of t a h) w.works (leased_store b.lent)
 
-    worked : WorkedBy x.task x.table.graph x.choice
-    worked = subst (λ (t : TaskParts). WorkedBy t x.table.graph x.choice) mine.search.task
-        (subst (λ (a : AbstractGraph). WorkedBy v.task a x.choice) mine.search.graph (subst (λ (h : Choice). WorkedBy v.task v.graph h) mine.search.choice (b.work, b.turns)))
+    worked : WorkedBy x.task x.table.abstraction x.choice
+    worked = subst (λ (t : TaskParts). WorkedBy t x.table.abstraction x.choice) mine.search.task
+        (subst (λ (a : AbstractGraph). WorkedBy v.task a x.choice) mine.search.abstraction (subst (λ (h : Choice). WorkedBy v.task v.abstraction h) mine.search.choice (b.work, b.turns)))
 
     out : IsOutInTurns (setup_in x) h.machine most_broken lease
     out = let there = worked_leases_are_out x Recorded h.machine h.moment b.lent lease most_broken (was_read v) is_lent.of_graph b.same
@@ -206,9 +206,9 @@ module _ (x y : GraphValue) (shared : Option ℕ) (views : List View) (seat : �
     shows : ShowsTold x h.machine lease
     shows cost told =
         let t = b.told cost (sym mine.told ∙ ap h.machine.told (sym is_own) ∙ told) in
-        subst (λ (p : TaskParts). HasGoalWithin (space_of p) (guide_of p x.table.graph x.choice) (leased_store lease) cost) mine.search.task
-        (subst (λ (a : AbstractGraph). HasGoalWithin (space_of v.task) (guide_of v.task a x.choice) (leased_store lease) cost) mine.search.graph
-        (subst (λ (h : Choice). HasGoalWithin (space_of v.task) (guide_of v.task v.graph h) (leased_store lease) cost) mine.search.choice t))
+        subst (λ (p : TaskParts). HasGoalWithin (space_of p) (guide_of p x.table.abstraction x.choice) (leased_store lease) cost) mine.search.task
+        (subst (λ (a : AbstractGraph). HasGoalWithin (space_of v.task) (guide_of v.task a x.choice) (leased_store lease) cost) mine.search.abstraction
+        (subst (λ (h : Choice). HasGoalWithin (space_of v.task) (guide_of v.task v.abstraction h) (leased_store lease) cost) mine.search.choice t))
 
     -- the lease brings no lesser incumbent than the shared one
     brought : lesser h.machine.store.incumbent lease.incumbent ≡ shared
@@ -234,40 +234,40 @@ module _ (x y : GraphValue) (shared : Option ℕ) (views : List View) (seat : �
       };
     }
 
-  module _ (lease : LeaseValue) (trouble : Bool) (cause : HasCause lease trouble) (b : IsBrought v (one_if trouble) lease) (is_last : x.incumbent ≡ v.last) (r : IsReleased x lease trouble y) (n : ReleasesNext x lease trouble y) where
+  module _ (lease : LeaseValue) (memory : Bool) (cause : HasCause lease memory) (b : IsBrought v (one_if memory) lease) (is_last : x.incumbent ≡ v.last) (r : IsReleased x lease memory y) (n : ReleasesNext x lease memory y) where
     abbrev Returns : Bool → Machine → Type 0
-    Returns trouble next = RunsInOrder (setup_in x) h.machine (moves_of (Release lease.worker lease.used trouble ∷ ending trouble x.table.end)) next
-        → (later : Option ℕ) × RunsSettled (setup_in x) h.machine h.settled (moves_of (Release lease.worker lease.used trouble ∷ ending trouble x.table.end)) next later
+    Returns memory next = RunsInOrder (setup_in x) h.machine (moves_of (Release lease.worker lease.used memory ∷ ending memory x.table.end)) next
+        → (later : Option ℕ) × RunsSettled (setup_in x) h.machine h.settled (moves_of (Release lease.worker lease.used memory ∷ ending memory x.table.end)) next later
 
-    returns_in_time : (next : Machine) → IsMomentAt y Recorded next → Returns trouble next
-    returns_in_time next m = go trouble cause (r.noted) (out (one_if trouble) lease b).0.leased
+    returns_in_time : (next : Machine) → IsMomentAt y Recorded next → Returns memory next
+    returns_in_time next m = go memory cause (r.noted) (out (one_if memory) lease b).0.leased
       where
-        go : (trouble : Bool) → HasCause lease trouble → NotesKeys lease.parts x.homes.keys y.homes.keys → h.machine.counts.leases lease.worker ≡ Some (grant_of lease) → Returns trouble next
+        go : (memory : Bool) → HasCause lease memory → NotesKeys lease.parts x.homes.keys y.homes.keys → h.machine.counts.leases lease.worker ≡ Some (grant_of lease) → Returns memory next
         go true why noted leased runs = settled_events (setup_in x) (Release lease.worker lease.used true ∷ ending true x.table.end) h.machine h.settled next (ending_grants_none true x.table.end) runs
         go false (inl spent) noted leased runs = (next.store.incumbent, settled_one (setup_in x) (Release lease.worker lease.used false) h.machine h.settled next tt (grant_of lease, leased, inl spent) runs)
         go false (inr none) noted leased runs = (
           next.store.incumbent,
           settled_one (setup_in x) (Release lease.worker lease.used false) h.machine h.settled next tt
-              (grant_of lease, leased, inr (none_left x lease y noted h.is_setup (brought_of_graph (one_if trouble) lease b) Recorded h.machine h.moment none Recorded next m)) runs,
+              (grant_of lease, leased, inr (none_left x lease y noted h.is_setup (brought_of_graph (one_if memory) lease b) Recorded h.machine h.moment none Recorded next m)) runs,
         )
 
-    pub release_step : Steps (Release lease.worker lease.used trouble ∷ ending trouble x.table.end) None None shared
+    pub release_step : Steps (Release lease.worker lease.used memory ∷ ending memory x.table.end) None None shared
     release_step =
-        let t = n Recorded h.machine h.moment (out (one_if trouble) lease b).0 (shows (one_if trouble) lease b) (known_then (one_if trouble) lease b is_last r.incumbent) in
-        let own : lease.worker ≡ Own = is_own (one_if trouble) lease b in
+        let t = n Recorded h.machine h.moment (out (one_if memory) lease b).0 (shows (one_if memory) lease b) (known_then (one_if memory) lease b is_last r.incumbent) in
+        let own : lease.worker ≡ Own = is_own (one_if memory) lease b in
         let gone : t.0.counts.leases Own ≡ None =
         ap t.0.counts.leases (sym own) ∙ ap (λ (c : Counts). c.leases lease.worker) t.1.moment.counts ∙ ap (λ (c : Counts). c.leases lease.worker) r.events.counts
-        ∙ (λ i. ending_leases (blocks x.table) x.table.settings (counts_after (blocks x.table) x.table.settings (counts_in x) (Release lease.worker lease.used trouble)) trouble x.table.end i lease.worker)
+        ∙ (λ i. ending_leases (blocks x.table) x.table.settings (counts_after (blocks x.table) x.table.settings (counts_in x) (Release lease.worker lease.used memory)) memory x.table.end i lease.worker)
         ∙ entry_here (counts_in x).leases lease.worker lease.worker None (equal_self lease.worker) in (
           t.0,
           record {
             recorded = Recorded;
             follows = t.1;
-            later = (returns_in_time t.0 t.1.moment (t.4 (out (one_if trouble) lease b).1)).0;
-            in_time = (returns_in_time t.0 t.1.moment (t.4 (out (one_if trouble) lease b).1)).1;
-            same = same_adds x y (Release lease.worker lease.used trouble ∷ ending trouble x.table.end) r.events r.task r.choice;
+            later = (returns_in_time t.0 t.1.moment (t.4 (out (one_if memory) lease b).1)).0;
+            in_time = (returns_in_time t.0 t.1.moment (t.4 (out (one_if memory) lease b).1)).1;
+            same = same_adds x y (Release lease.worker lease.used memory ∷ ending memory x.table.end) r.events r.task r.choice;
             added = r.events.journal;
-            by = first_by Own (Release lease.worker lease.used trouble) (ending trouble x.table.end) (λ other. ap (λ w. w == other) own) (ending_by Own trouble x.table.end);
+            by = first_by Own (Release lease.worker lease.used memory) (ending memory x.table.end) (λ other. ap (λ w. w == other) own) (ending_by Own memory x.table.end);
             records = λ other grant leased. by_cases (other == Own)
                 (λ e. absurd (none-some grant (sym gone ∙ ap t.0.counts.leases (sym (equal other Own e)) ∙ leased)))
                 (λ e. ap rows_of (entry_else h.lent Own other None e));
@@ -276,7 +276,7 @@ module _ (x y : GraphValue) (shared : Option ℕ) (views : List View) (seat : �
             copy = λ other is. absurd (none-some other is);
             told_is = (λ i. t.3 i Own) ∙ ap (λ w. with_entry h.machine.told w None Own) own ∙ entry_here h.machine.told Own Own None (equal_self Own);
           },
-          t.2 ∙ brought (one_if trouble) lease b,
+          t.2 ∙ brought (one_if memory) lease b,
         )
 
   module _ (lease kept : LeaseValue) (spent : lease.used ≡ lease.quota) (places : length x.homes.keys ≡ (blocks x.table).count) (b : IsBrought v 0 lease) (is_last : x.incumbent ≡ v.last)
@@ -300,7 +300,7 @@ module _ (x y : GraphValue) (shared : Option ℕ) (views : List View) (seat : �
             later = t.0.store.incumbent;
             in_time = settled_one (setup_in x) (Renew lease.worker lease.used kept.quota) h.machine h.settled t.0 whole
                 (grant_of lease, (out 0 lease b).0.leased, spent, still_first x lease y r.noted places Recorded after h.machine t.0 h.moment t.1.moment goes.0) (t.6 (out 0 lease b).1);
-            same = record { task = r.task; graph = r.events.graph; choice = r.choice; settings = r.events.settings; past = r.events.past };
+            same = record { task = r.task; abstraction = r.events.abstraction; choice = r.choice; settings = r.events.settings; past = r.events.past };
             added = same;
             by = first_by Own (Renew lease.worker lease.used kept.quota) [] (λ other. ap (λ w. w == other) own) (λ other else. refl);
             records = λ other grant leased. rows_entry h.lent Own (Some kept) other ∙ (λ i. with_entry Recorded (sym own i) (away_rows kept.parts) other);

@@ -56,7 +56,7 @@ pub end_none_off : (standing : Option End) (end : End) → list_any is_off (end_
 end_none_off None end = refl
 end_none_off (Some e) end = refl
 
-pub ending_none_off : (trouble : Bool) (standing : Option End) → list_any is_off (ending trouble standing) ≡ false
+pub ending_none_off : (memory : Bool) (standing : Option End) → list_any is_off (ending memory standing) ≡ false
 ending_none_off false standing = refl
 ending_none_off true None = refl
 ending_none_off true (Some e) = refl
@@ -67,8 +67,8 @@ lease_none_off worker NotYet x = refl
 lease_none_off worker (Over end) x = end_none_off x.table.end end
 lease_none_off worker Memory x = refl
 
-pub release_none_off : (lease : LeaseValue) (trouble : Bool) (x : GraphValue) → list_any is_off (Release lease.worker lease.used trouble ∷ ending trouble x.table.end) ≡ false
-release_none_off lease trouble x = ending_none_off trouble x.table.end
+pub release_none_off : (lease : LeaseValue) (memory : Bool) (x : GraphValue) → list_any is_off (Release lease.worker lease.used memory ∷ ending memory x.table.end) ≡ false
+release_none_off lease memory x = ending_none_off memory x.table.end
 
 -- ---- after a call
 
@@ -79,7 +79,7 @@ module _ (step : GraphValue → GraphValue → Type 0) (list : GraphValue → Li
     taken_in = ap (λ (u : View). u.journal.taken_in) h.view;
     made = ap (λ (u : View). u.journal.made) h.view;
     settings = ap (λ (u : View). u.settings) h.view;
-    graph = ap (λ (u : View). u.graph) h.view;
+    abstraction = ap (λ (u : View). u.abstraction) h.view;
     choice = ap (λ (u : View). u.choice) h.view;
     task = ap (λ (u : View). u.task) h.view;
     begin = ap (λ (u : View). u.begin) h.view;
@@ -106,9 +106,9 @@ active_stay journal added lent told old new is none active =
     ∙ ap (λ r. r || list_any is_off (events_of old.journal.own.worker added)) active ∙ own_none_off old.journal.own.worker added none
 
 pub signing_off_is_seen : SigningOffIsSeen
-signing_off_is_seen worker trouble old new is h =
-    off_then _ (λ found. Off worker trouble ∷ ending trouble found.table.end) old new old.lent old.told h
-    ∙ ap (λ r. list_any is_off old.journal.own.events || list_any is_off (cond r (Off worker trouble ∷ events_of old.journal.own.worker (ending trouble h.found.table.end)) (events_of old.journal.own.worker (ending trouble h.found.table.end))))
+signing_off_is_seen worker memory old new is h =
+    off_then _ (λ found. Off worker memory ∷ ending memory found.table.end) old new old.lent old.told h
+    ∙ ap (λ r. list_any is_off old.journal.own.events || list_any is_off (cond r (Off worker memory ∷ events_of old.journal.own.worker (ending memory h.found.table.end)) (events_of old.journal.own.worker (ending memory h.found.table.end))))
     (ap (λ k. worker == k) is ∙ equal_self worker)
     ∙ or-true (list_any is_off old.journal.own.events)
 
@@ -136,7 +136,7 @@ keeps_on old between new first later = record {
   taken_in = later.taken_in ∙ first.taken_in;
   made = later.made ∙ first.made;
   settings = later.settings ∙ first.settings;
-  graph = later.graph ∙ first.graph;
+  abstraction = later.abstraction ∙ first.abstraction;
   choice = later.choice ∙ first.choice;
   task = later.task ∙ first.task;
   begin = later.begin ∙ first.begin;
@@ -149,7 +149,7 @@ read_keeps old between r = record {
   taken_in = ap (λ (u : View). u.journal.taken_in) r.view;
   made = ap (λ (u : View). u.journal.made) r.view;
   settings = ap (λ (u : View). u.settings) r.view;
-  graph = ap (λ (u : View). u.graph) r.view;
+  abstraction = ap (λ (u : View). u.abstraction) r.view;
   choice = ap (λ (u : View). u.choice) r.view;
   task = ap (λ (u : View). u.task) r.view;
   begin = ap (λ (u : View). u.begin) r.view;
@@ -172,17 +172,17 @@ module _ (worker : ℕ) (old new : View) where
   pub leased_keeps : (reply : LeaseReply) → Leases worker old reply new → KeepsWorkers old new
   leased_keeps reply h = keeps_on old h.0 new (read_keeps old h.0 h.1) (keeps_workers _ _ h.0 new _ _ h.2)
 
-pub released_ready : (lease : LeaseValue) (trouble : Bool) (old new : View) → Releases lease trouble old new → IsActive old → IsReady new
-released_ready lease trouble old new h active = (
+pub released_ready : (lease : LeaseValue) (memory : Bool) (old new : View) → Releases lease memory old new → IsActive old → IsReady new
+released_ready lease memory old new h active = (
   ap (λ (u : View). u.lent) h.2.view,
-  active_stay h.2.found.table.journal (Release lease.worker lease.used trouble ∷ ending trouble h.2.found.table.end) None None h.0 new h.2.view (release_none_off lease trouble h.2.found) (read_active old h.0 h.1 active),
+  active_stay h.2.found.table.journal (Release lease.worker lease.used memory ∷ ending memory h.2.found.table.end) None None h.0 new h.2.view (release_none_off lease memory h.2.found) (read_active old h.0 h.1 active),
 )
 
-pub released_keeps : (lease : LeaseValue) (trouble : Bool) (old new : View) → Releases lease trouble old new → KeepsWorkers old new
-released_keeps lease trouble old new h = keeps_on old h.0 new (read_keeps old h.0 h.1) (keeps_workers _ _ h.0 new _ _ h.2)
+pub released_keeps : (lease : LeaseValue) (memory : Bool) (old new : View) → Releases lease memory old new → KeepsWorkers old new
+released_keeps lease memory old new h = keeps_on old h.0 new (read_keeps old h.0 h.1) (keeps_workers _ _ h.0 new _ _ h.2)
 
-pub signed_keeps : (worker : ℕ) (trouble : Bool) (old new : View) → SignsOff worker trouble old new → KeepsWorkers old new
-signed_keeps worker trouble old new h = keeps_workers _ _ old new _ _ h
+pub signed_keeps : (worker : ℕ) (memory : Bool) (old new : View) → SignsOff worker memory old new → KeepsWorkers old new
+signed_keeps worker memory old new h = keeps_workers _ _ old new _ _ h
 
 -- after its lease came back, and it asked for another at once
 module _ (worker : ℕ) (old new : View) (lease : LeaseValue) (reply : LeaseReply) (h : GivesAndLeases lease worker old reply new) where

@@ -68,7 +68,7 @@ module _ (seat : ℕ) (v : View) (held : Option GraphValue) (live : v.journal.is
   read_view = record {
     lent = mine.lent;
     told = mine.told;
-    search = record { task = mine.search.task; graph = mine.search.graph; choice = mine.search.choice; settings = mine.search.settings };
+    search = record { task = mine.search.task; abstraction = mine.search.abstraction; choice = mine.search.choice; settings = mine.search.settings };
     known = record { read = read_known; last = known_all v.journal.own.worker };
     copy = λ lease is. at_most_trans (cost_of number) v.last lease.incumbent (read_falls x number views seat v h at live).1 (mine.copy lease is);
   }
@@ -189,9 +189,9 @@ module _ (seat : ℕ) (v : View) (lease : LeaseValue) (cost : ℕ) (live : v.jou
   FoundBy t a h = IsWorked (space_of t) (guide_of t a h) b.lent.block lease.used 1 (was_read v) (leased_store b.lent) (leased_store lease)
       × HasGoalWithin (space_of t) (guide_of t a h) (leased_store lease) cost
 
-  found : FoundBy x.task x.table.graph x.choice
-  found = subst (λ (t : TaskParts). FoundBy t x.table.graph x.choice) my_view.search.task
-      (subst (λ (a : AbstractGraph). FoundBy v.task a x.choice) my_view.search.graph (subst (λ (h : Choice). FoundBy v.task v.graph h) my_view.search.choice (b.work, b.shown)))
+  found : FoundBy x.task x.table.abstraction x.choice
+  found = subst (λ (t : TaskParts). FoundBy t x.table.abstraction x.choice) my_view.search.task
+      (subst (λ (a : AbstractGraph). FoundBy v.task a x.choice) my_view.search.abstraction (subst (λ (h : Choice). FoundBy v.task v.abstraction h) my_view.search.choice (b.work, b.shown)))
 
   out : IsOut (setup_in x) h.machine 1 lease
   out = (worked_leases_are_out x (λ w. rows_of (h.lent w)) h.machine h.moment b.lent lease 1 (was_read v) is_lent.of_graph b.same
@@ -238,7 +238,7 @@ module _ (seat : ℕ) (v : View) (lease : LeaseValue) (cost : ℕ) (live : v.jou
   told_view = record {
     lent = my_view.lent;
     told = entry_here h.machine.told Own Own (lesser (h.machine.told Own) (Some cost)) (equal_self Own) ∙ ap (λ o. lesser o (Some cost)) my_view.told;
-    search = record { task = my_view.search.task; graph = my_view.search.graph; choice = my_view.search.choice; settings = my_view.search.settings };
+    search = record { task = my_view.search.task; abstraction = my_view.search.abstraction; choice = my_view.search.choice; settings = my_view.search.settings };
     known = record { read = λ incumbent has worker. known_on worker incumbent (my_view.known.read incumbent has worker); last = last_known };
     copy = λ other is. at_most_trans (lesser v.last (Some cost)) v.last other.incumbent (lesser_at_most v.last (Some cost)) (my_view.copy other is);
   }

@@ -18,7 +18,7 @@ use Rattle.pb_yard.specs.Rule.{was_read, IsAt, IsViewOf}
 use Rattle.pb_yard.specs.Returning.{IsBrought}
 use Rattle.pb_yard.proofs.Meaning.{leased}
 
-module _ (g : GraphValue) (view : View) (at : IsAt g view) (live : view.journal.is_live ≡ true) (lease : LeaseValue) (lent : view.lent ≡ Some lease) (task : TaskParts) (graph : AbstractGraph) (task_is : view.task ≡ task) (graph_is : view.graph ≡ graph) where
+module _ (g : GraphValue) (view : View) (at : IsAt g view) (live : view.journal.is_live ≡ true) (lease : LeaseValue) (lent : view.lent ≡ Some lease) (task : TaskParts) (abstraction : AbstractGraph) (task_is : view.task ≡ task) (graph_is : view.abstraction ≡ abstraction) where
   of_view : IsViewOf g at.yard.machine at.yard.lent view
   of_view = at.yard.each at.seat view at.mine live
 
@@ -28,13 +28,13 @@ module _ (g : GraphValue) (view : View) (at : IsAt g view) (live : view.journal.
   unused : lease.used ≡ 0
   unused = (at.yard.lent_is view.journal.own.worker lease lent_to).unused
 
-  scope : HasScope g.table.graph lease
+  scope : HasScope g.table.abstraction lease
   scope = (at.yard.lent_is view.journal.own.worker lease lent_to).of_graph.scope
 
   pub lent_weights : HasWeights lease
   lent_weights = scope.weights
 
-  block_is_known : lease.block < (blocks_of g.table.graph).count
+  block_is_known : lease.block < (blocks_of g.table.abstraction).count
   block_is_known = (at.yard.moment.lawful.counts.known view.journal.own.worker (grant_of lease) (leased g at.shared at.views at.yard view.journal.own.worker lease lent_to)).1
 
   -- it has the bundle of its block
@@ -48,14 +48,14 @@ module _ (g : GraphValue) (view : View) (at : IsAt g view) (live : view.journal.
   abbrev Leads : TaskParts → AbstractGraph → Choice → Type 0
   Leads t a h = (state : ℕ) → (guide_of t a h).home state ≡ lease.block → LeadsInto (space_of t) (guide_of t a h) state lease.parts
 
-  leads : Leads g.task g.table.graph lease.choice
+  leads : Leads g.task g.table.abstraction lease.choice
   leads state home action to cost step =
-      scope.blocks ((guide_of g.task g.table.graph lease.choice).home to)
-      ∙ ap (λ k. (blocks_of g.table.graph).scope k ((guide_of g.task g.table.graph lease.choice).home to)) (sym home) ∙ at.yard.is_setup.blocks.steps state action to cost step
+      scope.blocks ((guide_of g.task g.table.abstraction lease.choice).home to)
+      ∙ ap (λ k. (blocks_of g.table.abstraction).scope k ((guide_of g.task g.table.abstraction lease.choice).home to)) (sym home) ∙ at.yard.is_setup.blocks.steps state action to cost step
 
   -- and those that steps from its block lead to
-  pub leads_there : Leads task graph lease.choice
-  leads_there = subst (λ (a : AbstractGraph). Leads task a lease.choice) (sym of_view.search.graph ∙ graph_is) (subst (λ (p : TaskParts). Leads p g.table.graph lease.choice) (sym of_view.search.task ∙ task_is) leads)
+  pub leads_there : Leads task abstraction lease.choice
+  leads_there = subst (λ (a : AbstractGraph). Leads task a lease.choice) (sym of_view.search.abstraction ∙ graph_is) (subst (λ (p : TaskParts). Leads p g.table.abstraction lease.choice) (sym of_view.search.task ∙ task_is) leads)
 
   -- after one expansion, by which no goal was found
   module _ (worked : LeaseValue) (changes : ChangesRows (record lease { used = lease.used + 1 }) worked) (untold : view.told ≡ None) (none : worked.incumbent ≡ None) where
@@ -75,12 +75,12 @@ module _ (g : GraphValue) (view : View) (at : IsAt g view) (live : view.journal.
       incumbent = s.incumbent;
     }
 
-    pub worked_brought : Worked task graph lease.choice 1 → IsBrought view 0 worked
+    pub worked_brought : Worked task abstraction lease.choice 1 → IsBrought view 0 worked
     worked_brought work =
         let used : 1 ≡ worked.used = ap (λ n. n + 1) (sym unused) ∙ sym (ap (λ (l : LeaseValue). l.used) changes.others) in
-        let w : Worked view.task view.graph view.choice worked.used =
-        subst (λ n. Worked view.task view.graph view.choice n) used
-        (subst (λ (p : TaskParts). Worked p view.graph view.choice 1) (sym task_is) (subst (λ (a : AbstractGraph). Worked task a view.choice 1) (sym graph_is) (subst (λ (h : Choice). Worked task graph h 1) (sym choice_is) work))) in
+        let w : Worked view.task view.abstraction view.choice worked.used =
+        subst (λ n. Worked view.task view.abstraction view.choice n) used
+        (subst (λ (p : TaskParts). Worked p view.abstraction view.choice 1) (sym task_is) (subst (λ (a : AbstractGraph). Worked task a view.choice 1) (sym graph_is) (subst (λ (h : Choice). Worked task abstraction h 1) (sym choice_is) work))) in
         record {
           lent = lease;
           lent_is = lent;

@@ -86,9 +86,9 @@ GivesAndLeases lease worker old reply new =
     (between : View) × Renews lease old Given between × Leases worker between reply new
 
 -- the pass brought its lease back
-abbrev pub Releases : LeaseValue → (trouble : Bool) → (old new : View) → Type 0
-Releases lease trouble old new =
-    ReadsAndHolds (ReleasesAs lease trouble) (release_events lease trouble) old None None new
+abbrev pub Releases : LeaseValue → (memory : Bool) → (old new : View) → Type 0
+Releases lease memory old new =
+    ReadsAndHolds (ReleasesAs lease memory) (release_events lease memory) old None None new
 
 -- The pass has the lease that it had.
 abbrev pub Looks : (step : (found left : GraphValue) → Type 0)
@@ -106,9 +106,9 @@ abbrev pub Cools : (worker block : ℕ) → (old : View) → (done : Bool) → (
 Cools worker block old done new =
     Looks (CoolsAs worker block done) (λ found. mark_events (Cold worker block) done) old new
 
-abbrev pub SignsOff : (worker : ℕ) → (trouble : Bool) → (old new : View) → Type 0
-SignsOff worker trouble old new =
-    Looks (SignsOffAs worker trouble) (off_events worker trouble) old new
+abbrev pub SignsOff : (worker : ℕ) → (memory : Bool) → (old new : View) → Type 0
+SignsOff worker memory old new =
+    Looks (SignsOffAs worker memory) (off_events worker memory) old new
 
 -- the pass's worker has signed off, or not
 abbrev pub HasSignedOff : View → Type 0
@@ -132,7 +132,7 @@ pub record KeepsWorkers (old new : View) : Type 0 where
   pub taken_in : new.journal.taken_in ≡ old.journal.taken_in
   pub made : new.journal.made ≡ old.journal.made
   pub settings : new.settings ≡ old.settings
-  pub graph : new.graph ≡ old.graph
+  pub abstraction : new.abstraction ≡ old.abstraction
   pub choice : new.choice ≡ old.choice
   pub task : new.task ≡ old.task
   pub begin : new.begin ≡ old.begin

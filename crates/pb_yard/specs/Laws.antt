@@ -77,8 +77,8 @@ ActiveStay =
 -- After its own sign-off a worker has signed off.
 abbrev pub SigningOffIsSeen : Type 0
 SigningOffIsSeen =
-    (worker : ℕ) (trouble : Bool) (old new : View) → old.journal.own.worker ≡ worker
-    → SignsOff worker trouble old new
+    (worker : ℕ) (memory : Bool) (old new : View) → old.journal.own.worker ≡ worker
+    → SignsOff worker memory old new
     → HasSignedOff new
 
 -- A run in order and in time is one in order, and so a run.

@@ -12,7 +12,7 @@ use Rattle.pb_lease.specs.LeaseValue.{LeaseValue, leased_store}
 
 -- Why a lease comes back: its worker reports that it is out of memory, its quota is used up, or no
 -- row of its block is Opened.
-abbrev pub HasCause : LeaseValue → (trouble : Bool) → Type 0
+abbrev pub HasCause : LeaseValue → (memory : Bool) → Type 0
 HasCause lease true = ⊤
 HasCause lease false =
     (lease.used ≡ lease.quota) ⊎ (HasOpened ((leased_store lease).rows lease.block) → ⊥)

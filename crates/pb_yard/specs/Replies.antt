@@ -81,13 +81,13 @@ kept_by (Kept kept) = Some kept
 kept_by Given = None
 
 -- A worker brought its lease back.
-abbrev pub ReleasesAs : LeaseValue → (trouble : Bool) → (old new : GraphValue) → Type 0
-ReleasesAs lease trouble old new =
-    IsReleased old lease trouble new × ReleasesNext old lease trouble new
+abbrev pub ReleasesAs : LeaseValue → (memory : Bool) → (old new : GraphValue) → Type 0
+ReleasesAs lease memory old new =
+    IsReleased old lease memory new × ReleasesNext old lease memory new
 
-abbrev pub release_events : LeaseValue → (trouble : Bool) → (old : GraphValue) → List Event
-release_events lease trouble old =
-    Release lease.worker lease.used trouble ∷ ending trouble old.table.end
+abbrev pub release_events : LeaseValue → (memory : Bool) → (old : GraphValue) → List Event
+release_events lease memory old =
+    Release lease.worker lease.used memory ∷ ending memory old.table.end
 
 -- ---- marks
 
@@ -122,10 +122,10 @@ mark_events event done = if done then event ∷ [] else []
 -- ---- signing off
 
 -- A worker signed off.
-abbrev pub SignsOffAs : (worker : ℕ) → (trouble : Bool) → (old new : GraphValue) → Type 0
-SignsOffAs worker trouble old new =
-    IsSignedOff old worker trouble new × KeepsLeases old
-    (Off worker trouble ∷ ending trouble old.table.end) new
+abbrev pub SignsOffAs : (worker : ℕ) → (memory : Bool) → (old new : GraphValue) → Type 0
+SignsOffAs worker memory old new =
+    IsSignedOff old worker memory new × KeepsLeases old
+    (Off worker memory ∷ ending memory old.table.end) new
 
-abbrev pub off_events : (worker : ℕ) → (trouble : Bool) → (old : GraphValue) → List Event
-off_events worker trouble old = Off worker trouble ∷ ending trouble old.table.end
+abbrev pub off_events : (worker : ℕ) → (memory : Bool) → (old : GraphValue) → List Event
+off_events worker memory old = Off worker memory ∷ ending memory old.table.end

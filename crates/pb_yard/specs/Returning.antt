@@ -24,13 +24,16 @@ pub record IsBrought (view : View) (most_broken : ℕ) (lease : LeaseValue) : Ty
   pub lent_is : view.lent ≡ Some lent
   pub same : IsSameLease lent lease
   pub weights : HasWeights lease
-  pub work : IsWorked (space_of view.task) (guide_of view.task view.graph view.choice) lent.block lease.used
+  pub work : IsWorked (space_of view.task) (guide_of view.task view.abstraction view.choice)
+      lent.block lease.used
       most_broken (was_read view) (leased_store lent) (leased_store lease)
-  pub turns : AreLeaseTurns (space_of view.task) (guide_of view.task view.graph view.choice) work.works
+  pub turns : AreLeaseTurns (space_of view.task) (guide_of view.task view.abstraction view.choice)
+      work.works
       (leased_store lent)
   pub copy : AtMost view.last lease.incumbent
   pub told : (cost : ℕ) → view.told ≡ Some cost
-      → HasGoalWithin (space_of view.task) (guide_of view.task view.graph view.choice) (leased_store lease) cost
+      → HasGoalWithin (space_of view.task) (guide_of view.task view.abstraction view.choice)
+      (leased_store lease) cost
 
 -- The lease came from the one that the pass was lent by the work of its worker. It has a goal's row
 -- that costs at most this.
@@ -38,7 +41,8 @@ pub record IsFound (view : View) (lease : LeaseValue) (cost : ℕ) : Type 0 wher
   pub lent : LeaseValue
   pub lent_is : view.lent ≡ Some lent
   pub same : IsSameLease lent lease
-  pub work : IsWorked (space_of view.task) (guide_of view.task view.graph view.choice) lent.block lease.used 1
+  pub work : IsWorked (space_of view.task) (guide_of view.task view.abstraction view.choice)
+      lent.block lease.used 1
       (was_read view) (leased_store lent) (leased_store lease)
-  pub shown : HasGoalWithin (space_of view.task) (guide_of view.task view.graph view.choice)
+  pub shown : HasGoalWithin (space_of view.task) (guide_of view.task view.abstraction view.choice)
       (leased_store lease) cost

@@ -56,7 +56,7 @@ pub record IsLent (g : GraphValue) (machine : Machine) (worker : ℕ) (lease : L
 -- the view is of the graph's search
 pub record IsSearchOf (g : GraphValue) (view : View) : Type 0 where
   pub task : view.task ≡ g.task
-  pub graph : view.graph ≡ g.table.graph
+  pub abstraction : view.abstraction ≡ g.table.abstraction
   pub choice : view.choice ≡ g.choice
   pub settings : view.settings ≡ g.table.settings
 

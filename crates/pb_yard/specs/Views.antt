@@ -28,7 +28,7 @@ opening_view g =
       journal = first_view;
       lent = None;
       task = g.task;
-      graph = g.table.graph;
+      abstraction = g.table.abstraction;
       choice = g.choice;
       settings = g.table.settings;
       begin = g;
@@ -62,7 +62,7 @@ no_graph =
       task = Tiles (record { rows = 0; cols = 0; start = []; goal = [] });
       choice = Plain;
       table = record {
-        graph = record { projection = Blank; scopes = [] };
+        abstraction = record { projection = Blank; scopes = [] };
         settings =
             record standard { workers = 0; num = 0; den = 0; budget = 0; lot = 0; wish = 0 };
         past = no_past;
@@ -88,7 +88,7 @@ spent_pass_view =
       journal = spent_view;
       lent = None;
       task = no_graph.task;
-      graph = no_graph.table.graph;
+      abstraction = no_graph.table.abstraction;
       choice = no_graph.choice;
       settings = no_graph.table.settings;
       begin = no_graph;

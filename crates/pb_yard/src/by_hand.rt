@@ -46,7 +46,7 @@ fn see_that_it_is_expanded<R: Abort>(
     state: &Packed,
     row: &Row,
 )
-    requires graph { IsGraphOf task.now abstraction.now }
+    requires of_task { IsGraphOf task.now abstraction.now }
     ensures state { IsTrue ((space_of task.now).is_state state.now) }
     ensures home { (guide_of task.now abstraction.now lease.now.choice).home state.now ≡ lease.now.block }
     ensures no_goal { IsFalse ((space_of task.now).is_goal state.now) }
@@ -137,7 +137,7 @@ fn expand_first<R: Abort>(
     abstraction: &AbsGraph,
     lease: &mut Lease,
 )
-    requires graph { IsGraphOf task.now abstraction.now }
+    requires of_task { IsGraphOf task.now abstraction.now }
     requires own { IsSome (content_in lease.old.parts lease.old.block) }
     requires weights { HasWeights lease.old }
     requires there { (state : ℕ)
@@ -191,7 +191,7 @@ pub(crate) fn expand_only<R: Abort>(
     abstraction: &AbsGraph,
     lease: &mut Lease,
 )
-    requires graph { IsGraphOf task.now abstraction.now }
+    requires of_task { IsGraphOf task.now abstraction.now }
     requires own { IsSome (content_in lease.old.parts lease.old.block) }
     requires weights { HasWeights lease.old }
     requires there { (state : ℕ)

@@ -61,16 +61,16 @@ impl Yard {
     /// one that it was lent. The return has a cause: the lease's quota is used up, no row of its
     /// block is Opened, or the worker reports that it is out of memory. Only in the last case an
     /// expansion may have been broken off.
-    pub fn release<W: Wait>(&self, rt: &W, pass: &mut Pass, lease: Lease, trouble: bool)
+    pub fn release<W: Wait>(&self, rt: &W, pass: &mut Pass, lease: Lease, memory: bool)
         requires own { IsOf self.now pass.old }
-        requires brought { IsBrought (view_of pass.old) (one_if trouble) lease }
-        requires cause { HasCause lease trouble }
+        requires brought { IsBrought (view_of pass.old) (one_if memory) lease }
+        requires cause { HasCause lease memory }
         ensures same { KeepsPass pass.old pass.new }
-        ensures released { Releases lease trouble (view_of pass.old) (view_of pass.new) }
+        ensures released { Releases lease memory (view_of pass.old) (view_of pass.new) }
     {
         let (mut held, incumbent) = self.enter_reading(rt, &mut pass.turn);
         pass.last = incumbent;
-        held.state_mut().release(lease, trouble);
+        held.state_mut().release(lease, memory);
         pass.seen = held.state().journal().len() as u64;
         self.lock.leave::<AfterRelease>(&mut pass.turn, held, &());
     }

@@ -103,7 +103,7 @@ impl Yard {
         } = pass;
         let (mut graph, number) = lock.close_with(turn);
         if let Some(known) = cost(number) {
-            graph.take_bound(known);
+            graph.lower_incumbent(known);
         }
         graph
     }

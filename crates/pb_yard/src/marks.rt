@@ -32,7 +32,7 @@ impl Yard {
     pub fn mark_hot<W: Wait>(&self, rt: &W, pass: &mut Pass, block: u32) -> bool
         requires own { IsOf self.now pass.old }
         requires leased { IsSome (view_of pass.old).lent }
-        requires block { block < (blocks_of (view_of pass.old).graph).count }
+        requires block { block < (blocks_of (view_of pass.old).abstraction).count }
         ensures same { KeepsPass pass.old pass.new }
         ensures marked { Marks (worker_of pass.old) block (view_of pass.old) result
             (view_of pass.new) }
@@ -49,7 +49,7 @@ impl Yard {
     pub fn cool<W: Wait>(&self, rt: &W, pass: &mut Pass, block: u32) -> bool
         requires own { IsOf self.now pass.old }
         requires leased { IsSome (view_of pass.old).lent }
-        requires block { block < (blocks_of (view_of pass.old).graph).count }
+        requires block { block < (blocks_of (view_of pass.old).abstraction).count }
         ensures same { KeepsPass pass.old pass.new }
         ensures cooled { Cools (worker_of pass.old) block (view_of pass.old) result
             (view_of pass.new) }
@@ -63,17 +63,17 @@ impl Yard {
 
     /// The pass's worker signs off, and has no lease. It saw the end of the search, or reports that
     /// it is out of memory.
-    pub fn sign_off<W: Wait>(&self, rt: &W, pass: &mut Pass, trouble: bool)
+    pub fn sign_off<W: Wait>(&self, rt: &W, pass: &mut Pass, memory: bool)
         requires own { IsOf self.now pass.old }
         requires vacant { (view_of pass.old).lent ≡ None }
         requires stays { IsActive (view_of pass.old) }
-        requires cause { IsTrue (trouble || is_some (end_in (view_of pass.old).journal.seen)) }
+        requires cause { IsTrue (memory || is_some (end_in (view_of pass.old).journal.seen)) }
         ensures same { KeepsPass pass.old pass.new }
-        ensures signed_off { SignsOff (worker_of pass.old) trouble (view_of pass.old)
+        ensures signed_off { SignsOff (worker_of pass.old) memory (view_of pass.old)
             (view_of pass.new) }
     {
         let mut held = self.lock.enter(rt, &mut pass.turn);
-        held.state_mut().sign_off(pass.worker, trouble);
+        held.state_mut().sign_off(pass.worker, memory);
         pass.seen = held.state().journal().len() as u64;
         self.lock.leave::<AfterLook>(&mut pass.turn, held, &());
     }

@@ -119,8 +119,8 @@ fn lease_and_work<R: Wait + Abort>(
     requires own { IsOf yard.now pass.old }
     requires ready { IsReady (view_of pass.old) }
     requires task { (view_of pass.old).task ≡ task.now }
-    requires abstraction { (view_of pass.old).graph ≡ abstraction.now }
-    requires graph { IsGraphOf task.now abstraction.now }
+    requires abstraction { (view_of pass.old).abstraction ≡ abstraction.now }
+    requires of_task { IsGraphOf task.now abstraction.now }
     ensures same { KeepsPass pass.old pass.new }
     ensures workers { KeepsWorkers (view_of pass.old) (view_of pass.new) }
     ensures active { IsActive (view_of pass.new) }
@@ -195,8 +195,8 @@ fn switch_twice<R: Wait + Abort>(
     requires own { IsOf yard.now pass }
     requires ready { IsReady (view_of pass) }
     requires task { (view_of pass).task ≡ task.now }
-    requires abstraction { (view_of pass).graph ≡ abstraction.now }
-    requires graph { IsGraphOf task.now abstraction.now }
+    requires abstraction { (view_of pass).abstraction ≡ abstraction.now }
+    requires of_task { IsGraphOf task.now abstraction.now }
     ensures own { IsOf yard.now result.0 }
     ensures parts { parts_of result.0 ≡ parts_of pass }
     ensures workers { KeepsWorkers (view_of pass) (view_of result.0) }
@@ -230,8 +230,8 @@ fn in_two_threads<R: Threads + Wait + Abort + Sync>(
     requires own { IsOf yard.now first × IsOf yard.now second }
     requires ready { IsReady (view_of first) }
     requires task { (view_of first).task ≡ task.now }
-    requires abstraction { (view_of first).graph ≡ abstraction.now }
-    requires graph { IsGraphOf task.now abstraction.now }
+    requires abstraction { (view_of first).abstraction ≡ abstraction.now }
+    requires of_task { IsGraphOf task.now abstraction.now }
     ensures own { IsOf yard.now result.0 }
     ensures parts { parts_of result.0 ≡ parts_of first }
     ensures workers { KeepsWorkers (view_of first) (view_of result.0) }
@@ -243,7 +243,8 @@ fn in_two_threads<R: Threads + Wait + Abort + Sync>(
         rt,
         || -> (Pass, [(u32, u64, u64); 3])
             requires { IsOf yard.now first × IsReady (view_of first)
-                × ((view_of first).task ≡ task.now) × ((view_of first).graph ≡ abstraction.now)
+                × ((view_of first).task ≡ task.now) × ((view_of first).abstraction ≡
+                abstraction.now)
                 × IsGraphOf task.now abstraction.now }
             ensures own { IsOf yard.entry.now result.0 }
             ensures parts { parts_of result.0 ≡ parts_of first }
@@ -288,8 +289,8 @@ fn search_by_two<R: Threads + Wait + Abort + Sync>(
     requires ready { IsReady (view_of first) }
     requires view { IsAlone (view_of first) 2 }
     requires task { (view_of first).task ≡ task.now }
-    requires abstraction { (view_of first).graph ≡ abstraction.now }
-    requires graph { IsGraphOf task.now abstraction.now }
+    requires abstraction { (view_of first).abstraction ≡ abstraction.now }
+    requires of_task { IsGraphOf task.now abstraction.now }
 {
     let second = yard.split(&mut first);
     let stage = AtomicU64::new(0);
@@ -346,7 +347,7 @@ fn open<R: Abort>(
     ensures ready { IsReady (view_of result.1) }
     ensures view { IsAlone (view_of result.1) 2 }
     ensures task { (view_of result.1).task ≡ arc_value task.now }
-    ensures abstraction { (view_of result.1).graph ≡ arc_value abstraction.now }
+    ensures abstraction { (view_of result.1).abstraction ≡ arc_value abstraction.now }
 {
     let estimate = start_estimate(rt, alloc, task);
     let settings = Settings {

@@ -47,7 +47,7 @@ pub struct View {
     /// What is searched.
     pub task: Task,
     /// By which blocks.
-    pub graph: AbsGraph,
+    pub abstraction: AbsGraph,
     /// With estimates by which choice.
     pub choice: Choice,
     /// With which settings.

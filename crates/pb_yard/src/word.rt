@@ -152,7 +152,7 @@ impl Yard {
         let mut held = held;
         let incumbent = cost(self.lock.word(turn));
         if let Some(known) = incumbent {
-            held.state_mut().take_bound(known);
+            held.state_mut().lower_incumbent(known);
         }
         (held, incumbent)
     }

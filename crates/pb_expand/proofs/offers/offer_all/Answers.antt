@@ -35,7 +35,7 @@ pub loop-succ-preserved : goal.loop-succ-preserved
 loop-succ-preserved c =
     let succ : Succ = c.succ-item.result in
     record {
-      offers = offers_next (guide_of c.args.task.now c.args.graph.now c.args.lease.now.choice) c.args.parent.now c.args.g c.args.succs.now c.loop-succ.succ-index succ c.args.lease.now c.loop-succ.lease c.offer.new.lease
+      offers = offers_next (guide_of c.args.task.now c.args.abstraction.now c.args.lease.now.choice) c.args.parent.now c.args.g c.args.succs.now c.loop-succ.succ-index succ c.args.lease.now c.loop-succ.lease c.offer.new.lease
           c.loop-succ-test.true c.succ-item.is c.loop-succ.invariant.offers
           (subst (λ block. OffersAt c.loop-succ.lease c.offer.new.lease block succ.state (c.args.g + succ.cost) (estimate_by c.args.task.now c.args.lease.now.choice succ.state) (Some c.args.parent.now) succ.action) c.block-block.ensures.block (subst (λ h. OffersAt c.loop-succ.lease c.offer.new.lease c.block-block.result succ.state (c.args.g + succ.cost) (estimate_by c.args.task.now h succ.state) (Some c.args.parent.now) succ.action) (ap (λ (l : LeaseValue). l.choice) c.loop-succ.invariant.changes.others) c.in_ok-offer.ensures.rows));
       changes = changes_on c.args.lease.now c.loop-succ.lease c.offer.new.lease c.loop-succ.invariant.changes c.in_ok-offer.ensures.changes;

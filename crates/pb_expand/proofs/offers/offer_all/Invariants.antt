@@ -6,7 +6,7 @@ use Rattle.pb_expand.proofs.offers.offer_all.Given as goal
 
 abbrev pub invariant-loop-succ : goal.invariant-loop-succ
 invariant-loop-succ l = record {
-  offers : HasOffers (guide_of l.task l.graph l.initial.lease.choice) l.parent l.g (take l.succ-index l.succs) l.initial.lease l.lease;
+  offers : HasOffers (guide_of l.task l.abstraction l.initial.lease.choice) l.parent l.g (take l.succ-index l.succs) l.initial.lease l.lease;
   changes : ChangesRows l.initial.lease l.lease;
   tables : IsOfTask l.estimator l.task l.initial.lease.choice;
 }

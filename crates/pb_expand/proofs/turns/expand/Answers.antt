@@ -13,22 +13,22 @@ use Rattle.pb_expand.proofs.Turned.{offers_keep_opened, broken_keeps_opened, exp
 use Rattle.pb_expand.proofs.turns.expand.Goals as goal
 
 pub successors-requires-clause-state : goal.successors-requires-clause-state
-successors-requires-clause-state c = row_is_state c.args.task.now c.args.graph.now c.args.lease.now.choice c.args.lease.now c.requires.at_work c.args.state.now c.args.row.now c.requires.next.first.found
+successors-requires-clause-state c = row_is_state c.args.task.now c.args.abstraction.now c.args.lease.now.choice c.args.lease.now c.requires.at_work c.args.state.now c.args.row.now c.requires.next.first.found
 
 pub offer_all-requires-clause-there : goal.offer_all-requires-clause-there
 offer_all-requires-clause-there c =
-    leads_into c.args.task.now c.args.graph.now c.args.lease.now.choice c.args.lease.now c.requires.at_work c.args.state.now
-    (row_is_home c.args.task.now c.args.graph.now c.args.lease.now.choice c.args.lease.now c.requires.at_work c.args.state.now c.args.row.now c.requires.next.first.found)
+    leads_into c.args.task.now c.args.abstraction.now c.args.lease.now.choice c.args.lease.now c.requires.at_work c.args.state.now
+    (row_is_home c.args.task.now c.args.abstraction.now c.args.lease.now.choice c.args.lease.now c.requires.at_work c.args.state.now c.args.row.now c.requires.next.first.found)
 
 pub offer_all-requires-clause-cheap : goal.offer_all-requires-clause-cheap
 offer_all-requires-clause-cheap c =
-    row_is_cheap c.args.task.now c.args.graph.now c.args.lease.now.choice c.args.lease.now c.requires.at_work c.args.state.now c.args.row.now c.requires.next.first.found (omega (arith, c.requires.left))
+    row_is_cheap c.args.task.now c.args.abstraction.now c.args.lease.now.choice c.args.lease.now c.requires.at_work c.args.state.now c.args.row.now c.requires.next.first.found (omega (arith, c.requires.left))
 
 pub returns-in_err-offer_all-clause-broken : goal.returns-in_err-offer_all-clause-broken
 returns-in_err-offer_all-clause-broken c =
     on_err c.from_residual.result _
-    (break_turned (space_of c.args.task.now) (guide_of c.args.task.now c.args.graph.now c.args.lease.now.choice) c.args.lease.now.block c.args.lease.now c.args.state.now c.args.row.now refl
-    (row_is_home c.args.task.now c.args.graph.now c.args.lease.now.choice c.args.lease.now c.requires.at_work c.args.state.now c.args.row.now c.requires.next.first.found) c.requires.next c.offer_all.new.lease
+    (break_turned (space_of c.args.task.now) (guide_of c.args.task.now c.args.abstraction.now c.args.lease.now.choice) c.args.lease.now.block c.args.lease.now c.args.state.now c.args.row.now refl
+    (row_is_home c.args.task.now c.args.abstraction.now c.args.lease.now.choice c.args.lease.now c.requires.at_work c.args.state.now c.args.row.now c.requires.next.first.found) c.requires.next c.offer_all.new.lease
     (rw c.successors.ensures.successors at rw c.deref.ensures.value at c.in_err-offer_all.ensures.broken) c.in_err-offer_all.ensures.changes)
 
 pub returns-in_err-offer_all-clause-opened : goal.returns-in_err-offer_all-clause-opened
@@ -36,8 +36,8 @@ returns-in_err-offer_all-clause-opened c =
     on_err c.from_residual.result _
     (has_opened (own_rows c.offer_all.new.lease) c.args.state.now
     (subst (λ block. IsOpened (away_rows c.offer_all.new.lease.parts block c.args.state.now)) (sym (ap (λ (l : LeaseValue). l.block) c.in_err-offer_all.ensures.changes.others))
-    (broken_keeps_opened (space_of c.args.task.now) (guide_of c.args.task.now c.args.graph.now c.args.lease.now.choice) c.args.lease.now.block c.args.lease.now c.args.state.now c.args.row.now refl
-    (row_is_home c.args.task.now c.args.graph.now c.args.lease.now.choice c.args.lease.now c.requires.at_work c.args.state.now c.args.row.now c.requires.next.first.found) c.requires.next c.offer_all.new.lease
+    (broken_keeps_opened (space_of c.args.task.now) (guide_of c.args.task.now c.args.abstraction.now c.args.lease.now.choice) c.args.lease.now.block c.args.lease.now c.args.state.now c.args.row.now refl
+    (row_is_home c.args.task.now c.args.abstraction.now c.args.lease.now.choice c.args.lease.now c.requires.at_work c.args.state.now c.args.row.now c.requires.next.first.found) c.requires.next c.offer_all.new.lease
     (rw c.successors.ensures.successors at rw c.deref.ensures.value at c.in_err-offer_all.ensures.broken))))
 
 pub returns-in_err-offer_all-clause-weights : goal.returns-in_err-offer_all-clause-weights
@@ -46,14 +46,14 @@ returns-in_err-offer_all-clause-weights c = c.in_err-offer_all.ensures.changes.w
 pub close-requires : goal.close-requires
 close-requires c =
     subst (λ block. IsOpened (away_rows c.offer_all.new.lease.parts block c.args.state.now)) (sym (ap (λ (l : LeaseValue). l.block) c.in_ok-offer_all.ensures.changes.others))
-    (offers_keep_opened (space_of c.args.task.now) (guide_of c.args.task.now c.args.graph.now c.args.lease.now.choice) c.args.lease.now.block c.args.lease.now c.args.state.now c.args.row.now refl
-    (row_is_home c.args.task.now c.args.graph.now c.args.lease.now.choice c.args.lease.now c.requires.at_work c.args.state.now c.args.row.now c.requires.next.first.found) c.requires.next c.offer_all.new.lease
+    (offers_keep_opened (space_of c.args.task.now) (guide_of c.args.task.now c.args.abstraction.now c.args.lease.now.choice) c.args.lease.now.block c.args.lease.now c.args.state.now c.args.row.now refl
+    (row_is_home c.args.task.now c.args.abstraction.now c.args.lease.now.choice c.args.lease.now c.requires.at_work c.args.state.now c.args.row.now c.requires.next.first.found) c.requires.next c.offer_all.new.lease
     (rw c.successors.ensures.successors at rw c.deref.ensures.value at c.in_ok-offer_all.ensures.offers))
 
 pub returns-clause-turned : goal.returns-clause-turned
 returns-clause-turned c =
-    expand_turned (space_of c.args.task.now) (guide_of c.args.task.now c.args.graph.now c.args.lease.now.choice) c.args.lease.now.block c.args.lease.now c.args.state.now c.args.row.now refl
-    (row_is_home c.args.task.now c.args.graph.now c.args.lease.now.choice c.args.lease.now c.requires.at_work c.args.state.now c.args.row.now c.requires.next.first.found) c.requires.next c.offer_all.new.lease c.close.new.lease
+    expand_turned (space_of c.args.task.now) (guide_of c.args.task.now c.args.abstraction.now c.args.lease.now.choice) c.args.lease.now.block c.args.lease.now c.args.state.now c.args.row.now refl
+    (row_is_home c.args.task.now c.args.abstraction.now c.args.lease.now.choice c.args.lease.now c.requires.at_work c.args.state.now c.args.row.now c.requires.next.first.found) c.requires.next c.offer_all.new.lease c.close.new.lease
     (rw c.successors.ensures.successors at rw c.deref.ensures.value at c.in_ok-offer_all.ensures.offers) c.in_ok-offer_all.ensures.changes
     (subst (λ block. SetsStatusAt c.offer_all.new.lease c.close.new.lease block c.args.state.now Closed) (ap (λ (l : LeaseValue). l.block) c.in_ok-offer_all.ensures.changes.others) c.close.ensures.rows)
     c.close.ensures.changes c.spend.new.self c.spend.ensures

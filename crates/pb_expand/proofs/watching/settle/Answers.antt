@@ -10,7 +10,7 @@ pub loop-state-init : goal.loop-state-init
 loop-state-init g c = record {
   can = c.requires.can;
   stays = g.W.Watch.stays_none c.args.watch.now;
-  turned = λ graph choice at. none_watched (space_of c.args.task.now) (guide_of c.args.task.now graph choice) c.args.lease.now (g.W.Watch.seen c.args.watch.now) at.watched;
+  turned = λ abstraction choice at. none_watched (space_of c.args.task.now) (guide_of c.args.task.now abstraction choice) c.args.lease.now (g.W.Watch.seen c.args.watch.now) at.watched;
 }
 
 pub next_row-requires-clause-own : goal.next_row-requires-clause-own
@@ -32,10 +32,10 @@ settle_row-requires-clause-at g c = (
 )
 
 pub returns-then-not-settle_row-clause-turned : goal.returns-then-not-settle_row-clause-turned
-returns-then-not-settle_row-clause-turned g c = λ graph choice at.
-    then_still c.args.task.now graph choice c.args.lease.now (g.W.Watch.seen c.args.watch.now) c.next_row.new.lease (g.W.Watch.seen c.next_row.new.watch) c.settle_row.new.lease (g.W.Watch.seen c.settle_row.new.watch) at
-    (then_still c.args.task.now graph choice c.args.lease.now (g.W.Watch.seen c.args.watch.now) c.loop-state.lease (g.W.Watch.seen c.loop-state.watch) c.next_row.new.lease (g.W.Watch.seen c.next_row.new.watch) at (c.loop-state.invariant.turned graph choice at) (λ here. c.next_row.ensures.turned (space_of c.args.task.now) (guide_of c.args.task.now graph choice) here.watched))
-    (λ here. subst (λ settled. HasTurnedWatched (space_of c.args.task.now) (guide_of c.args.task.now graph choice) 0 0 true (not settled) c.next_row.new.lease (g.W.Watch.seen c.next_row.new.watch) c.settle_row.new.lease (g.W.Watch.seen c.settle_row.new.watch)) c.if-not-settle_row.true (c.settle_row.ensures.turned graph choice here))
+returns-then-not-settle_row-clause-turned g c = λ abstraction choice at.
+    then_still c.args.task.now abstraction choice c.args.lease.now (g.W.Watch.seen c.args.watch.now) c.next_row.new.lease (g.W.Watch.seen c.next_row.new.watch) c.settle_row.new.lease (g.W.Watch.seen c.settle_row.new.watch) at
+    (then_still c.args.task.now abstraction choice c.args.lease.now (g.W.Watch.seen c.args.watch.now) c.loop-state.lease (g.W.Watch.seen c.loop-state.watch) c.next_row.new.lease (g.W.Watch.seen c.next_row.new.watch) at (c.loop-state.invariant.turned abstraction choice at) (λ here. c.next_row.ensures.turned (space_of c.args.task.now) (guide_of c.args.task.now abstraction choice) here.watched))
+    (λ here. subst (λ settled. HasTurnedWatched (space_of c.args.task.now) (guide_of c.args.task.now abstraction choice) 0 0 true (not settled) c.next_row.new.lease (g.W.Watch.seen c.next_row.new.watch) c.settle_row.new.lease (g.W.Watch.seen c.settle_row.new.watch)) c.if-not-settle_row.true (c.settle_row.ensures.turned abstraction choice here))
 
 pub returns-then-not-settle_row-clause-same : goal.returns-then-not-settle_row-clause-same
 returns-then-not-settle_row-clause-same g c = HasTurnedWatched.same
@@ -53,14 +53,14 @@ pub loop-state-preserved : goal.loop-state-preserved
 loop-state-preserved g c = record {
   can = c.settle_row.ensures.can;
   stays = g.W.Watch.stays_on c.args.watch.now c.next_row.new.watch c.settle_row.new.watch (g.W.Watch.stays_on c.args.watch.now c.loop-state.watch c.next_row.new.watch c.loop-state.invariant.stays c.next_row.ensures.stays) c.settle_row.ensures.stays;
-  turned = λ graph choice at.
-      then_still c.args.task.now graph choice c.args.lease.now (g.W.Watch.seen c.args.watch.now) c.next_row.new.lease (g.W.Watch.seen c.next_row.new.watch) c.settle_row.new.lease (g.W.Watch.seen c.settle_row.new.watch) at
-      (then_still c.args.task.now graph choice c.args.lease.now (g.W.Watch.seen c.args.watch.now) c.loop-state.lease (g.W.Watch.seen c.loop-state.watch) c.next_row.new.lease (g.W.Watch.seen c.next_row.new.watch) at (c.loop-state.invariant.turned graph choice at) (λ here. c.next_row.ensures.turned (space_of c.args.task.now) (guide_of c.args.task.now graph choice) here.watched))
-      (λ here. subst (λ settled. HasTurnedWatched (space_of c.args.task.now) (guide_of c.args.task.now graph choice) 0 0 true (not settled) c.next_row.new.lease (g.W.Watch.seen c.next_row.new.watch) c.settle_row.new.lease (g.W.Watch.seen c.settle_row.new.watch)) c.if-not-settle_row.false (c.settle_row.ensures.turned graph choice here));
+  turned = λ abstraction choice at.
+      then_still c.args.task.now abstraction choice c.args.lease.now (g.W.Watch.seen c.args.watch.now) c.next_row.new.lease (g.W.Watch.seen c.next_row.new.watch) c.settle_row.new.lease (g.W.Watch.seen c.settle_row.new.watch) at
+      (then_still c.args.task.now abstraction choice c.args.lease.now (g.W.Watch.seen c.args.watch.now) c.loop-state.lease (g.W.Watch.seen c.loop-state.watch) c.next_row.new.lease (g.W.Watch.seen c.next_row.new.watch) at (c.loop-state.invariant.turned abstraction choice at) (λ here. c.next_row.ensures.turned (space_of c.args.task.now) (guide_of c.args.task.now abstraction choice) here.watched))
+      (λ here. subst (λ settled. HasTurnedWatched (space_of c.args.task.now) (guide_of c.args.task.now abstraction choice) 0 0 true (not settled) c.next_row.new.lease (g.W.Watch.seen c.next_row.new.watch) c.settle_row.new.lease (g.W.Watch.seen c.settle_row.new.watch)) c.if-not-settle_row.false (c.settle_row.ensures.turned abstraction choice here));
 }
 
 pub returns-clause-turned : goal.returns-clause-turned
-returns-clause-turned g c = λ graph choice at. then_still c.args.task.now graph choice c.args.lease.now (g.W.Watch.seen c.args.watch.now) c.loop-state.lease (g.W.Watch.seen c.loop-state.watch) c.next_row.new.lease (g.W.Watch.seen c.next_row.new.watch) at (c.loop-state.invariant.turned graph choice at) (λ here. c.next_row.ensures.turned (space_of c.args.task.now) (guide_of c.args.task.now graph choice) here.watched)
+returns-clause-turned g c = λ abstraction choice at. then_still c.args.task.now abstraction choice c.args.lease.now (g.W.Watch.seen c.args.watch.now) c.loop-state.lease (g.W.Watch.seen c.loop-state.watch) c.next_row.new.lease (g.W.Watch.seen c.next_row.new.watch) at (c.loop-state.invariant.turned abstraction choice at) (λ here. c.next_row.ensures.turned (space_of c.args.task.now) (guide_of c.args.task.now abstraction choice) here.watched)
 
 pub returns-clause-same : goal.returns-clause-same
 returns-clause-same g c = HasTurnedWatched.same (then_still c.args.task.now c.requires.at.0 c.requires.at.1 c.args.lease.now (g.W.Watch.seen c.args.watch.now) c.loop-state.lease (g.W.Watch.seen c.loop-state.watch) c.next_row.new.lease (g.W.Watch.seen c.next_row.new.watch) c.requires.at.2 (c.loop-state.invariant.turned c.requires.at.0 c.requires.at.1 c.requires.at.2) (λ here. c.next_row.ensures.turned (space_of c.args.task.now) (guide_of c.args.task.now c.requires.at.0 c.requires.at.1) here.watched))

@@ -11,8 +11,8 @@ abbrev pub invariant-loop-state : goal.invariant-loop-state
 invariant-loop-state g l = record {
   can : g.W.Watch.can l.watch;
   stays : g.W.Watch.stays l.initial.watch l.watch;
-  turned : (graph : AbstractGraph) (choice : Choice) → IsAtWatch l.task graph choice (g.W.Watch.seen l.initial.watch) l.initial.lease
-      → HasTurnedWatched (space_of l.task) (guide_of l.task graph choice) 0 0 false false l.initial.lease (g.W.Watch.seen l.initial.watch) l.lease (g.W.Watch.seen l.watch);
+  turned : (abstraction : AbstractGraph) (choice : Choice) → IsAtWatch l.task abstraction choice (g.W.Watch.seen l.initial.watch) l.initial.lease
+      → HasTurnedWatched (space_of l.task) (guide_of l.task abstraction choice) 0 0 false false l.initial.lease (g.W.Watch.seen l.initial.watch) l.lease (g.W.Watch.seen l.watch);
 }
 
 abbrev pub decreases-loop-state : goal.decreases-loop-state

@@ -8,10 +8,10 @@ use Rattle.pb_expand.proofs.Watched.{none_watched, cut_watched, take_watched, te
 use Rattle.pb_expand.proofs.watching.settle_row.Goals as goal
 
 pub returns-then-may_be_cut-clause-turned : goal.returns-then-may_be_cut-clause-turned
-returns-then-may_be_cut-clause-turned g c = λ graph choice at.
-    cut_watched (space_of c.args.task.now) (guide_of c.args.task.now graph choice) c.args.lease.now c.cut.new.lease (g.W.Watch.seen c.args.watch.now) at.watched
-    (cut_turned (space_of c.args.task.now) (guide_of c.args.task.now graph choice) c.args.lease.now.block c.args.lease.now c.args.state.now c.args.row.now refl
-    (row_is_home c.args.task.now graph choice c.args.lease.now at.at_work c.args.state.now c.args.row.now c.requires.first.found) c.requires.first c.cut.new.lease
+returns-then-may_be_cut-clause-turned g c = λ abstraction choice at.
+    cut_watched (space_of c.args.task.now) (guide_of c.args.task.now abstraction choice) c.args.lease.now c.cut.new.lease (g.W.Watch.seen c.args.watch.now) at.watched
+    (cut_turned (space_of c.args.task.now) (guide_of c.args.task.now abstraction choice) c.args.lease.now.block c.args.lease.now c.args.state.now c.args.row.now refl
+    (row_is_home c.args.task.now abstraction choice c.args.lease.now at.at_work c.args.state.now c.args.row.now c.requires.first.found) c.requires.first c.cut.new.lease
     (rw c.weight.ensures.weight (rw c.incumbent.ensures at (c.may_be_cut.ensures.0 c.if-may_be_cut.true))) c.cut.ensures.rows c.cut.ensures.changes)
     c.cut.ensures.changes
 
@@ -20,18 +20,18 @@ tell-requires-clause-may g c =
     may_tell c.args.task.now c.requires.at.0 c.requires.at.1 (g.W.Watch.seen c.args.watch.now) c.args.lease.now c.requires.at.2 c.args.state.now c.args.row.now c.requires.first (sym c.is_goal.ensures ∙ c.if-is_goal.true)
 
 pub returns-then-is_goal-clause-turned : goal.returns-then-is_goal-clause-turned
-returns-then-is_goal-clause-turned g c = λ graph choice at.
-    take_watched (space_of c.args.task.now) (guide_of c.args.task.now graph choice) c.args.lease.now c.cut-then-is_goal.new.lease (g.W.Watch.seen c.args.watch.now) (g.W.Watch.seen c.tell.new.self) c.args.row.now.g at.watched c.tell.ensures.told
-    (goal_here c.args.task.now graph choice (g.W.Watch.seen c.args.watch.now) c.args.lease.now at c.args.state.now c.args.row.now c.requires.first (sym c.is_goal.ensures ∙ c.if-is_goal.true))
-    (take_turned (space_of c.args.task.now) (guide_of c.args.task.now graph choice) c.args.lease.now.block c.args.lease.now c.args.state.now c.args.row.now refl
-    (row_is_home c.args.task.now graph choice c.args.lease.now at.at_work c.args.state.now c.args.row.now c.requires.first.found) c.requires.first c.cut-then-is_goal.new.lease
+returns-then-is_goal-clause-turned g c = λ abstraction choice at.
+    take_watched (space_of c.args.task.now) (guide_of c.args.task.now abstraction choice) c.args.lease.now c.cut-then-is_goal.new.lease (g.W.Watch.seen c.args.watch.now) (g.W.Watch.seen c.tell.new.self) c.args.row.now.g at.watched c.tell.ensures.told
+    (goal_here c.args.task.now abstraction choice (g.W.Watch.seen c.args.watch.now) c.args.lease.now at c.args.state.now c.args.row.now c.requires.first (sym c.is_goal.ensures ∙ c.if-is_goal.true))
+    (take_turned (space_of c.args.task.now) (guide_of c.args.task.now abstraction choice) c.args.lease.now.block c.args.lease.now c.args.state.now c.args.row.now refl
+    (row_is_home c.args.task.now abstraction choice c.args.lease.now at.at_work c.args.state.now c.args.row.now c.requires.first.found) c.requires.first c.cut-then-is_goal.new.lease
     (λ may. not_both c.may_be_cut.result (c.may_be_cut.ensures.1 (rw c.incumbent.ensures (rw c.weight.ensures.weight at may))) c.if-may_be_cut.false)
-    (sym c.is_goal.ensures ∙ c.if-is_goal.true) (rw c.take_bound.ensures at c.cut-then-is_goal.ensures.rows) (rw c.take_bound.ensures at c.cut-then-is_goal.ensures.changes))
-    (rw c.take_bound.ensures at c.cut-then-is_goal.ensures.changes)
+    (sym c.is_goal.ensures ∙ c.if-is_goal.true) (rw c.lower_incumbent.ensures at c.cut-then-is_goal.ensures.rows) (rw c.lower_incumbent.ensures at c.cut-then-is_goal.ensures.changes))
+    (rw c.lower_incumbent.ensures at c.cut-then-is_goal.ensures.changes)
 
 pub returns-else-is_goal-clause-turned : goal.returns-else-is_goal-clause-turned
-returns-else-is_goal-clause-turned g c = λ graph choice at.
-    none_watched (space_of c.args.task.now) (guide_of c.args.task.now graph choice) c.args.lease.now (g.W.Watch.seen c.args.watch.now) at.watched
+returns-else-is_goal-clause-turned g c = λ abstraction choice at.
+    none_watched (space_of c.args.task.now) (guide_of c.args.task.now abstraction choice) c.args.lease.now (g.W.Watch.seen c.args.watch.now) at.watched
 
 pub returns-then-may_be_cut-clause-stays : goal.returns-then-may_be_cut-clause-stays
 returns-then-may_be_cut-clause-stays g c = g.W.Watch.stays_none c.args.watch.now

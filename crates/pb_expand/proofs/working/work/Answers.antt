@@ -9,5 +9,5 @@ returns-clause-turned c = c.work_watched.ensures.turned.turned
 pub returns-clause-out : goal.returns-clause-out
 returns-clause-out c = λ settings reopenings machine before.
     let new = c.work_watched.new.lease in
-    out_on c.args.task.now c.args.graph.now c.args.lease.now.choice settings reopenings machine c.args.lease.now new (new.used - c.args.lease.now.used) (broken_by c.work_watched.result) before
+    out_on c.args.task.now c.args.abstraction.now c.args.lease.now.choice settings reopenings machine c.args.lease.now new (new.used - c.args.lease.now.used) (broken_by c.work_watched.result) before
     c.work_watched.ensures.turned.turned c.work_watched.ensures.same (omega (arith, c.work_watched.ensures.counted))

@@ -12,7 +12,7 @@ use Rattle.pb_made.proofs.solving.certificate_text.Goals as goal
 
 pub returns : goal.returns
 returns c =
-    is_certificate c.args.task.now (searched_guide c.args.task.now c.args.graph.now.table.graph
+    is_certificate c.args.task.now (searched_guide c.args.task.now c.args.graph.now.table.abstraction
     c.args.graph.now.table.settings)
     (home_store c.args.graph.now)
     (quiet_end c.args.task.now c.args.graph.now.table.settings c.args.graph.now c.requires.quiet)

@@ -34,7 +34,7 @@ send-requires-clause-fit g c =
 pub loop-succ-preserved : goal.loop-succ-preserved
 loop-succ-preserved g c = elim c.if-to-number.branch [
   | then-to-number+in-Ok w ↦
-      let guide : Guide = guide_for c.args.task.now c.args.graph.now c.args.owners c.args.choice.now in
+      let guide : Guide = guide_for c.args.task.now c.args.abstraction.now c.args.owners c.args.choice.now in
       let y : Succ = c.succ-item.result in
       let at : guide.home y.state ≡ c.args.number = sym (ap (λ b. b % c.args.owners) c.block.ensures.block) ∙ w.if-to-number.true in
       let more = offered_own guide c.args.number c.args.parent.now c.args.g c.args.post.now (take c.loop-succ.succ-index c.args.succs.now) y c.args.share.now c.loop-succ.share w.offer.new.share c.args.pass.now c.loop-succ.pass
@@ -46,7 +46,7 @@ loop-succ-preserved g c = elim c.if-to-number.branch [
         tables = rw w.estimator-is w.offer.ensures.tables;
       }
   | else-to-number+in-Ok-send w ↦
-      let guide : Guide = guide_for c.args.task.now c.args.graph.now c.args.owners c.args.choice.now in
+      let guide : Guide = guide_for c.args.task.now c.args.abstraction.now c.args.owners c.args.choice.now in
       let y : Succ = c.succ-item.result in
       let to : c.block.result % c.args.owners ≡ guide.home y.state = ap (λ b. b % c.args.owners) c.block.ensures.block in
       let off : guide.home y.state ≢ c.args.number = (λ h. w.if-to-number.false (to ∙ h)) in

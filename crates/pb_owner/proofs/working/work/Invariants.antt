@@ -7,7 +7,7 @@ use Rattle.pb_owner.proofs.working.work.Given as goal
 
 abbrev pub invariant-loop-state : goal.invariant-loop-state
 invariant-loop-state g l = record {
-  worked : HasExpanded (space_of l.task) (guide_for l.task l.graph l.owners l.choice) (weight_of l.weight) l.number l.used 0 l.post l.initial.share l.share l.initial.pass l.pass;
+  worked : HasExpanded (space_of l.task) (guide_for l.task l.abstraction l.owners l.choice) (weight_of l.weight) l.number l.used 0 l.post l.initial.share l.share l.initial.pass l.pass;
   quota : l.used ≤ l.quota;
   of_weight : l.share.bundle.weight ≡ weight_of l.weight;
   tables : IsOfTask l.estimator l.task l.choice;

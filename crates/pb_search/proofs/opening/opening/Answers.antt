@@ -26,7 +26,7 @@ returns c =
     let abstraction : arc_value c.in_ok-shared_abstraction.shared_abstraction ≡ arc_value c.args.abstraction.now = search rules in
     record {
       task = c.in_ok-graph.ensures.task ∙ task;
-      graph_is = c.in_ok-graph.ensures.graph ∙ abstraction;
+      graph_is = c.in_ok-graph.ensures.abstraction ∙ abstraction;
       choice_is = c.in_ok-graph.ensures.choice ∙ c.requires.choice;
       settings_are = c.in_ok-graph.ensures.settings;
       counts = c.in_ok-graph.ensures.counts;

@@ -23,7 +23,7 @@ returns-in-Leased c =
     let t = c.in-Leased.ensures.leased_moment c.in-Leased.lease refl (λ worker home state. None) (opening_machine (setup_in c.args.graph.now)) (c.requires.moment (λ worker home state. None)).at in
     record {
       leased = l;
-      at_work = subst (λ (choice : Choice). IsAtWork c.lease.new.self.task c.lease.new.self.table.graph choice c.in-Leased.lease) (sym l.of_graph.choice) (record {
+      at_work = subst (λ (choice : Choice). IsAtWork c.lease.new.self.task c.lease.new.self.table.abstraction choice c.in-Leased.lease) (sym l.of_graph.choice) (record {
         settings = c.lease.new.self.table.settings;
         reopenings = c.lease.new.self.table.past.reopenings;
         machine = t.0;

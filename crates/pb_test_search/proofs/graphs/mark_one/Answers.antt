@@ -10,13 +10,13 @@ pub mark_hot-requires-clause-leased : goal.mark_hot-requires-clause-leased
 mark_hot-requires-clause-leased c = ap (λ w. is_some ((counts_in c.args.graph.now).leases w)) c.worker-worker.ensures ∙ ap is_some c.requires.leased
 
 pub mark_hot-requires-clause-block : goal.mark_hot-requires-clause-block
-mark_hot-requires-clause-block c = subst (λ (a : AbstractGraph). c.args.block < (blocks_of a).count) c.abstraction.ensures.graph (omega (arith, c.count.ensures.count))
+mark_hot-requires-clause-block c = subst (λ (a : AbstractGraph). c.args.block < (blocks_of a).count) c.abstraction.ensures.abstraction (omega (arith, c.count.ensures.count))
 
 pub cool-requires-clause-leased : goal.cool-requires-clause-leased
 cool-requires-clause-leased c = ap (λ w. is_some ((counts_in c.args.graph.now).leases w)) c.worker-worker.ensures ∙ ap is_some c.requires.leased
 
 pub cool-requires-clause-block : goal.cool-requires-clause-block
-cool-requires-clause-block c = subst (λ (a : AbstractGraph). c.args.block < (blocks_of a).count) c.abstraction.ensures.graph (omega (arith, c.count.ensures.count))
+cool-requires-clause-block c = subst (λ (a : AbstractGraph). c.args.block < (blocks_of a).count) c.abstraction.ensures.abstraction (omega (arith, c.count.ensures.count))
 
 pub returns-then-hot : goal.returns-then-hot
 returns-then-hot c = by_cases c.mark_hot.result

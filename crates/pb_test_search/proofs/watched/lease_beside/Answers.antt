@@ -8,5 +8,5 @@ use Rattle.pb_test_search.proofs.watched.lease_beside.Goals as goal
 pub work_beside-requires-clause-leased : goal.work_beside-requires-clause-leased
 work_beside-requires-clause-leased g c =
     let p = c.args.watch.now.pass in
-    leased_then c.args.task.now c.args.graph.now (worker_of p) (view_of p) (view_of c.lease.new.pass) c.requires.idle c.in-Leased.lease
+    leased_then c.args.task.now c.args.abstraction.now (worker_of p) (view_of p) (view_of c.lease.new.pass) c.requires.idle c.in-Leased.lease
     (subst (λ (r : LeaseReply). Leases (worker_of p) (view_of p) r (view_of c.lease.new.pass)) c.in-Leased.is c.lease.ensures.leased)

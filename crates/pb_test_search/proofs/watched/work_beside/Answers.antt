@@ -11,17 +11,17 @@ use Rattle.pb_test_search.proofs.watched.work_beside.Goals.{in-Spent, in-Empty, 
 
 pub work_watched-worked-requires-clause-at_work : goal.work_watched-worked-requires-clause-at_work
 work_watched-worked-requires-clause-at_work g c =
-    let w = c.args.watch.now in let t = c.args.task.now in let a = c.args.graph.now in let l = c.requires.leased in
+    let w = c.args.watch.now in let t = c.args.task.now in let a = c.args.abstraction.now in let l = c.requires.leased in
     at_work t a (view_of w.pass) w.pass.is_live c.args.lease l
 
 pub work_watched-worked-requires-clause-watched : goal.work_watched-worked-requires-clause-watched
 work_watched-worked-requires-clause-watched g c =
-    let w = c.args.watch.now in let t = c.args.task.now in let a = c.args.graph.now in let l = c.requires.leased in
+    let w = c.args.watch.now in let t = c.args.task.now in let a = c.args.abstraction.now in let l = c.requires.leased in
     watched t a (view_of w.pass) w.pass.is_live c.args.lease l
 
 pub work_watched-worked-requires-clause-search : goal.work_watched-worked-requires-clause-search
 work_watched-worked-requires-clause-search g c =
-    let w = c.args.watch.now in let t = c.args.task.now in let a = c.args.graph.now in let l = c.requires.leased in
+    let w = c.args.watch.now in let t = c.args.task.now in let a = c.args.abstraction.now in let l = c.requires.leased in
     of_search t a (view_of w.pass) w.pass.is_live c.args.lease l
 
 pub work_watched-worked-requires-clause-tables : goal.work_watched-worked-requires-clause-tables
@@ -40,25 +40,25 @@ returns-clause-tools g c =
 
 pub release-requires-clause-brought : goal.release-requires-clause-brought
 release-requires-clause-brought g c =
-    let w = c.args.watch.now in let t = c.args.task.now in let a = c.args.graph.now in let l = c.requires.leased in
+    let w = c.args.watch.now in let t = c.args.task.now in let a = c.args.abstraction.now in let l = c.requires.leased in
     let e = c.work_watched-worked.ensures in
     brought t a (view_of w.pass) w.pass.is_live c.args.lease l (view_of c.work_watched-worked.new.watch.pass) e.stays.lease c.work_watched-worked.new.lease e.same 0 c.in-Spent.ensures.watched e.scope
 
 pub release-requires-in-Empty-clause-brought : goal.release-requires-in-Empty-clause-brought
 release-requires-in-Empty-clause-brought g c =
-    let w = c.args.watch.now in let t = c.args.task.now in let a = c.args.graph.now in let l = c.requires.leased in
+    let w = c.args.watch.now in let t = c.args.task.now in let a = c.args.abstraction.now in let l = c.requires.leased in
     let e = c.work_watched-worked.ensures in
     brought t a (view_of w.pass) w.pass.is_live c.args.lease l (view_of c.work_watched-worked.new.watch.pass) e.stays.lease c.work_watched-worked.new.lease e.same 0 c.in-Empty.ensures.watched e.scope
 
 pub release-requires-in-Memory-clause-brought : goal.release-requires-in-Memory-clause-brought
 release-requires-in-Memory-clause-brought g c =
-    let w = c.args.watch.now in let t = c.args.task.now in let a = c.args.graph.now in let l = c.requires.leased in
+    let w = c.args.watch.now in let t = c.args.task.now in let a = c.args.abstraction.now in let l = c.requires.leased in
     let e = c.work_watched-worked.ensures in
     brought t a (view_of w.pass) w.pass.is_live c.args.lease l (view_of c.work_watched-worked.new.watch.pass) e.stays.lease c.work_watched-worked.new.lease e.same 1 c.in-Memory.ensures.watched e.scope
 
 pub returns-clause-ready : goal.returns-clause-ready
 returns-clause-ready g c =
-    let w = c.args.watch.now in let t = c.args.task.now in let a = c.args.graph.now in let l = c.requires.leased in
+    let w = c.args.watch.now in let t = c.args.task.now in let a = c.args.abstraction.now in let l = c.requires.leased in
     let e = c.work_watched-worked.ensures in
     let k = view_of c.work_watched-worked.new.watch.pass in
     let active = work_active t a (view_of w.pass) w.pass.is_live c.args.lease l k e.stays.lease c.work_watched-worked.new.lease e.same in

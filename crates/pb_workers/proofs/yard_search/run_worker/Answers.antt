@@ -4,17 +4,17 @@ use Rattle.pb_workers.specs.declared.yard_watch.YardWatch.{YardWatch}
 use Rattle.pb_workers.proofs.Sharing.{worker_self, idle_with}
 use Rattle.pb_workers.proofs.yard_search.run_worker.Goals as goal
 
-pub take_leases-trouble-requires-clause-serves : goal.take_leases-trouble-requires-clause-serves
-take_leases-trouble-requires-clause-serves g c _ _ =
+pub take_leases-memory-requires-clause-serves : goal.take_leases-memory-requires-clause-serves
+take_leases-memory-requires-clause-serves g c _ _ =
     let i = c.requires.idle in record {
       task = i.task_is ∙ sym c.new-worker.ensures.task;
       abstraction = i.graph_is ∙ sym c.new-worker.ensures.abstraction;
       tools = c.new-worker.ensures.tools (view_of c.args.pass).choice c.requires.tools.0;
     }
 
-pub take_leases-trouble-requires-clause-idle : goal.take_leases-trouble-requires-clause-idle
-take_leases-trouble-requires-clause-idle g c _ _ =
+pub take_leases-memory-requires-clause-idle : goal.take_leases-memory-requires-clause-idle
+take_leases-memory-requires-clause-idle g c _ _ =
     let w : YardWatch = record { yard = c.args.yard; pass = c.args.pass } in
     let v = view_of c.args.pass in
     let i = c.requires.idle in
-    record { own = c.requires.own; since = worker_self w; idle = idle_with c.args.task.now v.task c.args.abstraction.now v.graph i.task_is i.graph_is v i }
+    record { own = c.requires.own; since = worker_self w; idle = idle_with c.args.task.now v.task c.args.abstraction.now v.abstraction i.task_is i.graph_is v i }

@@ -16,7 +16,7 @@ expand_only-requires-clause-own g c =
     let l = c.leased-lease.result in
     let h : Leases (worker_of p) (view_of p) (Leased l) (view_of q) = subst (λ (r : LeaseReply). Leases (worker_of p) (view_of p) r (view_of q)) c.leased-lease.ensures c.lease-reply.ensures.leased in
     let k = leased_keeps (worker_of p) (view_of p) (view_of q) (Leased l) h in
-    own_there h.2.left (view_of q) h.2.after q.is_live l (ap (λ (u : View). u.lent) h.2.view) c.args.task.now c.args.abstraction.now (k.task ∙ c.requires.task) (k.graph ∙ c.requires.abstraction)
+    own_there h.2.left (view_of q) h.2.after q.is_live l (ap (λ (u : View). u.lent) h.2.view) c.args.task.now c.args.abstraction.now (k.task ∙ c.requires.task) (k.abstraction ∙ c.requires.abstraction)
 
 pub expand_only-requires-clause-weights : goal.expand_only-requires-clause-weights
 expand_only-requires-clause-weights g c =
@@ -25,7 +25,7 @@ expand_only-requires-clause-weights g c =
     let l = c.leased-lease.result in
     let h : Leases (worker_of p) (view_of p) (Leased l) (view_of q) = subst (λ (r : LeaseReply). Leases (worker_of p) (view_of p) r (view_of q)) c.leased-lease.ensures c.lease-reply.ensures.leased in
     let k = leased_keeps (worker_of p) (view_of p) (view_of q) (Leased l) h in
-    lent_weights h.2.left (view_of q) h.2.after q.is_live l (ap (λ (u : View). u.lent) h.2.view) c.args.task.now c.args.abstraction.now (k.task ∙ c.requires.task) (k.graph ∙ c.requires.abstraction)
+    lent_weights h.2.left (view_of q) h.2.after q.is_live l (ap (λ (u : View). u.lent) h.2.view) c.args.task.now c.args.abstraction.now (k.task ∙ c.requires.task) (k.abstraction ∙ c.requires.abstraction)
 
 pub expand_only-requires-clause-there : goal.expand_only-requires-clause-there
 expand_only-requires-clause-there g c =
@@ -34,7 +34,7 @@ expand_only-requires-clause-there g c =
     let l = c.leased-lease.result in
     let h : Leases (worker_of p) (view_of p) (Leased l) (view_of q) = subst (λ (r : LeaseReply). Leases (worker_of p) (view_of p) r (view_of q)) c.leased-lease.ensures c.lease-reply.ensures.leased in
     let k = leased_keeps (worker_of p) (view_of p) (view_of q) (Leased l) h in
-    leads_there h.2.left (view_of q) h.2.after q.is_live l (ap (λ (u : View). u.lent) h.2.view) c.args.task.now c.args.abstraction.now (k.task ∙ c.requires.task) (k.graph ∙ c.requires.abstraction)
+    leads_there h.2.left (view_of q) h.2.after q.is_live l (ap (λ (u : View). u.lent) h.2.view) c.args.task.now c.args.abstraction.now (k.task ∙ c.requires.task) (k.abstraction ∙ c.requires.abstraction)
 
 pub returns-clause-brought : goal.returns-clause-brought
 returns-clause-brought g c =
@@ -44,7 +44,7 @@ returns-clause-brought g c =
     let h : Leases (worker_of p) (view_of p) (Leased l) (view_of q) = subst (λ (r : LeaseReply). Leases (worker_of p) (view_of p) r (view_of q)) c.leased-lease.ensures c.lease-reply.ensures.leased in
     let k = leased_keeps (worker_of p) (view_of p) (view_of q) (Leased l) h in
     let e = c.expand_only.ensures in
-    worked_brought h.2.left (view_of q) h.2.after q.is_live l (ap (λ (u : View). u.lent) h.2.view) c.args.task.now c.args.abstraction.now (k.task ∙ c.requires.task) (k.graph ∙ c.requires.abstraction)
+    worked_brought h.2.left (view_of q) h.2.after q.is_live l (ap (λ (u : View). u.lent) h.2.view) c.args.task.now c.args.abstraction.now (k.task ∙ c.requires.task) (k.abstraction ∙ c.requires.abstraction)
     c.expand_only.new.lease e.changes (ap (λ (u : View). u.told) h.2.view) e.none (e.worked (was_read (view_of q)))
 
 pub returns-clause-cause : goal.returns-clause-cause

@@ -16,6 +16,6 @@ returns c =
     let t : GraphValue = the_view c.self.inside in
     let cases = cases_from_any _ _ c.any.result (λ other. ((counts_in t).hot other ≡ true) × IsBetterBy (key_at t.homes) other c.args.block) (λ other. (((counts_in t).hot other ≡ true) × IsBetterBy (key_at t.homes) other c.args.block) → ⊥) c.any.ensures.ran
     (YieldsList-from_slice c.interference.result.now cc) (λ x q k. search (rules, tests)) (λ x q k. search (rules, tests)) in
-    let graph : blocks_of c.graph.result.now ≡ blocks t.table = ap blocks_of c.graph.ensures in
-    let by = outranked_by t c.args.block c.interference.result.now (λ b. c.interference.ensures.each b ∙ ap (λ (of : Blocks). interferes of c.args.block b) graph) c.any.result cases in
+    let abstraction : blocks_of c.abstraction.result.now ≡ blocks t.table = ap blocks_of c.abstraction.ensures in
+    let by = outranked_by t c.args.block c.interference.result.now (λ b. c.interference.ensures.each b ∙ ap (λ (of : Blocks). interferes of c.args.block b) abstraction) c.any.result cases in
     subst (λ (v : GraphValue). (c.any.result ≡ true → IsOutranked v c.args.block) × (IsOutranked v c.args.block → c.any.result ≡ true)) c.self.view_is by

@@ -23,7 +23,7 @@ pub scope-bundles-requires : goal.scope-bundles-requires
 scope-bundles-requires c =
     let t : GraphValue = the_view c.self.inside in
     let first = subst (λ (v : GraphValue). IsChoice v (Some c.args.block)) (sym c.self.view_is) c.requires.first in
-    subst (λ (g : AbstractGraph). c.args.block < (blocks_of g).count) (sym c.graph.ensures) (chosen_known t c.self.invariant c.args.block first)
+    subst (λ (g : AbstractGraph). c.args.block < (blocks_of g).count) (sym c.abstraction.ensures) (chosen_known t c.self.invariant c.args.block first)
 
 pub lease-requires-clause-block : goal.lease-requires-clause-block
 lease-requires-clause-block c =
@@ -35,17 +35,17 @@ pub take_out-parts-requires-clause-home : goal.take_out-parts-requires-clause-ho
 take_out-parts-requires-clause-home c block there =
     let t : GraphValue = the_view c.self.inside in
     let first = subst (λ (v : GraphValue). IsChoice v (Some c.args.block)) (sym c.self.view_is) c.requires.first in
-    let graph : blocks_of c.graph-2.result.now ≡ blocks t.table = ap blocks_of (c.graph-2.ensures ∙ c.in_ok-quota.ensures.events.graph) in
-    scope_home t c.self.invariant c.args.block block first.0.0 (sym (c.scope.ensures.each block ∙ ap (λ (of : Blocks). of.scope c.args.block block) graph) ∙ there)
+    let abstraction : blocks_of c.abstraction-2.result.now ≡ blocks t.table = ap blocks_of (c.abstraction-2.ensures ∙ c.in_ok-quota.ensures.events.abstraction) in
+    scope_home t c.self.invariant c.args.block block first.0.0 (sym (c.scope.ensures.each block ∙ ap (λ (of : Blocks). of.scope c.args.block block) abstraction) ∙ there)
 
 pub take_out-parts-requires-clause-distinct : goal.take_out-parts-requires-clause-distinct
 take_out-parts-requires-clause-distinct c = distinct c.scope.result.now c.scope.ensures.ascending
 
 pub take_out-parts-requires-clause-room : goal.take_out-parts-requires-clause-room
 take_out-parts-requires-clause-room c =
-    let graph : blocks_of c.graph-2.result.now ≡ blocks_of c.graph.result.now = ap blocks_of (c.graph-2.ensures ∙ c.in_ok-quota.ensures.events.graph ∙ sym c.graph.ensures) in
+    let abstraction : blocks_of c.abstraction-2.result.now ≡ blocks_of c.abstraction.result.now = ap blocks_of (c.abstraction-2.ensures ∙ c.in_ok-quota.ensures.events.abstraction ∙ sym c.abstraction.ensures) in
     let fewer = no_longer c.scope-bundles.result.now c.scope.result.now c.scope.ensures.ascending
-    (λ b. c.scope.ensures.each b ∙ ap (λ (of : Blocks). of.scope c.args.block b) graph ∙ sym (c.scope-bundles.ensures.each b)) in
+    (λ b. c.scope.ensures.each b ∙ ap (λ (of : Blocks). of.scope c.args.block b) abstraction ∙ sym (c.scope-bundles.ensures.each b)) in
     omega (arith, fewer, c.in_ok-room.ensures.room)
 
 pub invariant_of-self-2 : goal.invariant_of-self-2
@@ -55,17 +55,17 @@ invariant_of-self-2 c =
     let inside = subst (λ (v : GraphValue). c.args.worker < v.table.settings.workers) (sym c.self.view_is) c.requires.worker in
     let vacant = subst (λ (v : GraphValue). (counts_in v).leases c.args.worker ≡ None) (sym c.self.view_is) c.requires.vacant in
     let stays = subst (λ (v : GraphValue). (counts_in v).signed_off c.args.worker ≡ false) (sym c.self.view_is) c.requires.stays in
-    let graph : blocks_of c.graph-2.result.now ≡ blocks t.table = ap blocks_of (c.graph-2.ensures ∙ c.in_ok-quota.ensures.events.graph) in
+    let abstraction : blocks_of c.abstraction-2.result.now ≡ blocks t.table = ap blocks_of (c.abstraction-2.ensures ∙ c.in_ok-quota.ensures.events.abstraction) in
     let may : refusal (blocks t.table) t.table.settings (counts_in t) (Lease c.args.worker c.args.block (min t.table.settings.lot t.table.left)) ≡ None =
     lease_may (blocks t.table) t.table.settings (counts_in t) c.args.worker c.args.block (chosen_known t c.self.invariant c.args.block first) inside stays vacant refl c.self.invariant.legal.range.lot.0 first.0.0 in
     leased_kept t c.self.invariant c.args.worker c.args.block (min t.table.settings.lot t.table.left) c.lease.new.self c.take_out-parts.new.self c.in_ok-quota.ensures.events may inside vacant c.scope.result.now
-    (λ b. c.scope.ensures.each b ∙ ap (λ (of : Blocks). of.scope c.args.block b) graph) c.take_out-parts.ensures.left c.take_out-parts.ensures.out
+    (λ b. c.scope.ensures.each b ∙ ap (λ (of : Blocks). of.scope c.args.block b) abstraction) c.take_out-parts.ensures.left c.take_out-parts.ensures.out
 
 pub returns-clause-leased : goal.returns-clause-leased
 returns-clause-leased c =
     let t : GraphValue = the_view c.self.inside in
     let first = subst (λ (v : GraphValue). IsChoice v (Some c.args.block)) (sym c.self.view_is) c.requires.first in
-    let graph : blocks_of c.graph-2.result.now ≡ blocks t.table = ap blocks_of (c.graph-2.ensures ∙ c.in_ok-quota.ensures.events.graph) in
+    let abstraction : blocks_of c.abstraction-2.result.now ≡ blocks t.table = ap blocks_of (c.abstraction-2.ensures ∙ c.in_ok-quota.ensures.events.abstraction) in
     let settings : c.settings-settings.result.now ≡ t.table.settings = c.settings-settings.ensures ∙ c.in_ok-quota.ensures.events.settings in
     let lease : LeaseValue = record {
       worker = c.args.worker;
@@ -79,7 +79,7 @@ returns-clause-leased c =
     } in
     let adds : Adds t.table c.lease.new.self (Lease lease.worker lease.block lease.quota ∷ []) = subst (λ q. Adds t.table c.lease.new.self (Lease c.args.worker c.args.block q ∷ [])) (sym c.in_ok-quota.ensures.quota) c.in_ok-quota.ensures.events in
     subst (λ (v : GraphValue). IsLeased v c.args.worker lease (record { task = t.task; choice = t.choice; table = c.lease.new.self; homes = c.take_out-parts.new.self; incumbent = t.incumbent })) c.self.view_is
-    (given t c.self.invariant lease c.lease.new.self c.take_out-parts.new.self c.scope.result.now (λ b. c.scope.ensures.each b ∙ ap (λ (of : Blocks). of.scope c.args.block b) graph) first
+    (given t c.self.invariant lease c.lease.new.self c.take_out-parts.new.self c.scope.result.now (λ b. c.scope.ensures.each b ∙ ap (λ (of : Blocks). of.scope c.args.block b) abstraction) first
     (ap weight_of settings) c.in_ok-choice.ensures.cases adds c.take_out-parts.ensures.taken c.in_ok-quota.ensures.quota refl refl c.take_out-parts.ensures.left c.take_out-parts.ensures.out c.in_ok-quota.ensures.room)
 
 pub returns-clause-moment : goal.returns-clause-moment
@@ -89,7 +89,7 @@ returns-clause-moment c =
     let inside = subst (λ (v : GraphValue). c.args.worker < v.table.settings.workers) (sym c.self.view_is) c.requires.worker in
     let vacant = subst (λ (v : GraphValue). (counts_in v).leases c.args.worker ≡ None) (sym c.self.view_is) c.requires.vacant in
     let stays = subst (λ (v : GraphValue). (counts_in v).signed_off c.args.worker ≡ false) (sym c.self.view_is) c.requires.stays in
-    let graph : blocks_of c.graph-2.result.now ≡ blocks t.table = ap blocks_of (c.graph-2.ensures ∙ c.in_ok-quota.ensures.events.graph) in
+    let abstraction : blocks_of c.abstraction-2.result.now ≡ blocks t.table = ap blocks_of (c.abstraction-2.ensures ∙ c.in_ok-quota.ensures.events.abstraction) in
     let settings : c.settings-settings.result.now ≡ t.table.settings = c.settings-settings.ensures ∙ c.in_ok-quota.ensures.events.settings in
     let lease : LeaseValue = record {
       worker = c.args.worker;
@@ -104,6 +104,6 @@ returns-clause-moment c =
     let new : GraphValue = record { task = t.task; choice = t.choice; table = c.lease.new.self; homes = c.take_out-parts.new.self; incumbent = t.incumbent } in
     let adds : Adds t.table c.lease.new.self (Lease lease.worker lease.block lease.quota ∷ []) = subst (λ q. Adds t.table c.lease.new.self (Lease c.args.worker c.args.block q ∷ [])) (sym c.in_ok-quota.ensures.quota) c.in_ok-quota.ensures.events in
     let leased : IsLeased t lease.worker lease new =
-    given t c.self.invariant lease c.lease.new.self c.take_out-parts.new.self c.scope.result.now (λ b. c.scope.ensures.each b ∙ ap (λ (of : Blocks). of.scope c.args.block b) graph) first
+    given t c.self.invariant lease c.lease.new.self c.take_out-parts.new.self c.scope.result.now (λ b. c.scope.ensures.each b ∙ ap (λ (of : Blocks). of.scope c.args.block b) abstraction) first
     (ap weight_of settings) c.in_ok-choice.ensures.cases adds c.take_out-parts.ensures.taken c.in_ok-quota.ensures.quota refl refl c.take_out-parts.ensures.left c.take_out-parts.ensures.out c.in_ok-quota.ensures.room in
     subst (λ (v : GraphValue). LeasesNext v lease new) c.self.view_is (leases_next t c.self.invariant lease new leased inside vacant stays)

@@ -19,10 +19,10 @@ block-block-requires-clause-state c =
 pub invariant_of-result : goal.invariant_of-result
 invariant_of-result c =
     let task : TaskParts = arc_value c.args.task in
-    let graph : AbstractGraph = arc_value c.args.graph in
+    let abstraction : AbstractGraph = arc_value c.args.abstraction in
     let is_task : IsTask task = subst IsTask c.deref.ensures c.initial-start.ensures.lawful in
     let start : c.initial-start.result ≡ (space_of task).start = c.initial-start.ensures.start ∙ ap (λ (p : TaskParts). (space_of p).start) c.deref.ensures in
-    let o : IsOpening task c.args.choice c.in_ok-tables.tables c.offer_start.new.self = opening_of task is_task c.args.choice c.requires.suits graph c.requires.graph c.args.settings c.requires.settings c.in_ok-tables.tables c.in_ok-tables.ensures.graph c.in_ok-tables.ensures.settings c.in_ok-tables.ensures.past c.in_ok-tables.ensures.counts c.in_ok-tables.ensures.journal
+    let o : IsOpening task c.args.choice c.in_ok-tables.tables c.offer_start.new.self = opening_of task is_task c.args.choice c.requires.suits abstraction c.requires.of_task c.args.settings c.requires.settings c.in_ok-tables.tables c.in_ok-tables.ensures.abstraction c.in_ok-tables.ensures.settings c.in_ok-tables.ensures.past c.in_ok-tables.ensures.counts c.in_ok-tables.ensures.journal
     c.initial-start.result start c.block-block.result (c.block-block.ensures.block ∙ ap (λ (p : TaskParts). home_of p c.deref-2.result.now c.initial-start.result) c.deref-3.ensures ∙ ap (λ (g : AbstractGraph). home_of task g c.initial-start.result) c.deref-2.ensures)
     (subst (λ (g : AbstractGraph). c.block-block.result < (blocks_of g).count) c.deref-2.ensures c.block-block.ensures.below) c.count.result (c.count.ensures.count ∙ ap (λ (g : AbstractGraph). (blocks_of g).count) c.deref-4.ensures)
     c.args.estimate c.requires.estimate c.in_ok-homes.homes c.offer_start.new.self c.in_ok-homes.ensures c.in_ok-offer_start.ensures.put c.in_ok-offer_start.ensures.noted (subst AreNoted c.homes.view_is c.homes.invariant.noted) in
@@ -31,10 +31,10 @@ invariant_of-result c =
 pub returns-clause-rows : goal.returns-clause-rows
 returns-clause-rows c =
     let task : TaskParts = arc_value c.args.task in
-    let graph : AbstractGraph = arc_value c.args.graph in
+    let abstraction : AbstractGraph = arc_value c.args.abstraction in
     let is_task : IsTask task = subst IsTask c.deref.ensures c.initial-start.ensures.lawful in
     let start : c.initial-start.result ≡ (space_of task).start = c.initial-start.ensures.start ∙ ap (λ (p : TaskParts). (space_of p).start) c.deref.ensures in
-    let o : IsOpening task c.args.choice c.in_ok-tables.tables c.offer_start.new.self = opening_of task is_task c.args.choice c.requires.suits graph c.requires.graph c.args.settings c.requires.settings c.in_ok-tables.tables c.in_ok-tables.ensures.graph c.in_ok-tables.ensures.settings c.in_ok-tables.ensures.past c.in_ok-tables.ensures.counts c.in_ok-tables.ensures.journal
+    let o : IsOpening task c.args.choice c.in_ok-tables.tables c.offer_start.new.self = opening_of task is_task c.args.choice c.requires.suits abstraction c.requires.of_task c.args.settings c.requires.settings c.in_ok-tables.tables c.in_ok-tables.ensures.abstraction c.in_ok-tables.ensures.settings c.in_ok-tables.ensures.past c.in_ok-tables.ensures.counts c.in_ok-tables.ensures.journal
     c.initial-start.result start c.block-block.result (c.block-block.ensures.block ∙ ap (λ (p : TaskParts). home_of p c.deref-2.result.now c.initial-start.result) c.deref-3.ensures ∙ ap (λ (g : AbstractGraph). home_of task g c.initial-start.result) c.deref-2.ensures)
     (subst (λ (g : AbstractGraph). c.block-block.result < (blocks_of g).count) c.deref-2.ensures c.block-block.ensures.below) c.count.result (c.count.ensures.count ∙ ap (λ (g : AbstractGraph). (blocks_of g).count) c.deref-4.ensures)
     c.args.estimate c.requires.estimate c.in_ok-homes.homes c.offer_start.new.self c.in_ok-homes.ensures c.in_ok-offer_start.ensures.put c.in_ok-offer_start.ensures.noted (subst AreNoted c.homes.view_is c.homes.invariant.noted) in
@@ -43,10 +43,10 @@ returns-clause-rows c =
 pub returns-clause-moment : goal.returns-clause-moment
 returns-clause-moment c =
     let task : TaskParts = arc_value c.args.task in
-    let graph : AbstractGraph = arc_value c.args.graph in
+    let abstraction : AbstractGraph = arc_value c.args.abstraction in
     let is_task : IsTask task = subst IsTask c.deref.ensures c.initial-start.ensures.lawful in
     let start : c.initial-start.result ≡ (space_of task).start = c.initial-start.ensures.start ∙ ap (λ (p : TaskParts). (space_of p).start) c.deref.ensures in
-    let o : IsOpening task c.args.choice c.in_ok-tables.tables c.offer_start.new.self = opening_of task is_task c.args.choice c.requires.suits graph c.requires.graph c.args.settings c.requires.settings c.in_ok-tables.tables c.in_ok-tables.ensures.graph c.in_ok-tables.ensures.settings c.in_ok-tables.ensures.past c.in_ok-tables.ensures.counts c.in_ok-tables.ensures.journal
+    let o : IsOpening task c.args.choice c.in_ok-tables.tables c.offer_start.new.self = opening_of task is_task c.args.choice c.requires.suits abstraction c.requires.of_task c.args.settings c.requires.settings c.in_ok-tables.tables c.in_ok-tables.ensures.abstraction c.in_ok-tables.ensures.settings c.in_ok-tables.ensures.past c.in_ok-tables.ensures.counts c.in_ok-tables.ensures.journal
     c.initial-start.result start c.block-block.result (c.block-block.ensures.block ∙ ap (λ (p : TaskParts). home_of p c.deref-2.result.now c.initial-start.result) c.deref-3.ensures ∙ ap (λ (g : AbstractGraph). home_of task g c.initial-start.result) c.deref-2.ensures)
     (subst (λ (g : AbstractGraph). c.block-block.result < (blocks_of g).count) c.deref-2.ensures c.block-block.ensures.below) c.count.result (c.count.ensures.count ∙ ap (λ (g : AbstractGraph). (blocks_of g).count) c.deref-4.ensures)
     c.args.estimate c.requires.estimate c.in_ok-homes.homes c.offer_start.new.self c.in_ok-homes.ensures c.in_ok-offer_start.ensures.put c.in_ok-offer_start.ensures.noted (subst AreNoted c.homes.view_is c.homes.invariant.noted) in
@@ -55,10 +55,10 @@ returns-clause-moment c =
 pub returns-clause-begin : goal.returns-clause-begin
 returns-clause-begin c =
     let task : TaskParts = arc_value c.args.task in
-    let graph : AbstractGraph = arc_value c.args.graph in
+    let abstraction : AbstractGraph = arc_value c.args.abstraction in
     let is_task : IsTask task = subst IsTask c.deref.ensures c.initial-start.ensures.lawful in
     let start : c.initial-start.result ≡ (space_of task).start = c.initial-start.ensures.start ∙ ap (λ (p : TaskParts). (space_of p).start) c.deref.ensures in
-    let o : IsOpening task c.args.choice c.in_ok-tables.tables c.offer_start.new.self = opening_of task is_task c.args.choice c.requires.suits graph c.requires.graph c.args.settings c.requires.settings c.in_ok-tables.tables c.in_ok-tables.ensures.graph c.in_ok-tables.ensures.settings c.in_ok-tables.ensures.past c.in_ok-tables.ensures.counts c.in_ok-tables.ensures.journal
+    let o : IsOpening task c.args.choice c.in_ok-tables.tables c.offer_start.new.self = opening_of task is_task c.args.choice c.requires.suits abstraction c.requires.of_task c.args.settings c.requires.settings c.in_ok-tables.tables c.in_ok-tables.ensures.abstraction c.in_ok-tables.ensures.settings c.in_ok-tables.ensures.past c.in_ok-tables.ensures.counts c.in_ok-tables.ensures.journal
     c.initial-start.result start c.block-block.result (c.block-block.ensures.block ∙ ap (λ (p : TaskParts). home_of p c.deref-2.result.now c.initial-start.result) c.deref-3.ensures ∙ ap (λ (g : AbstractGraph). home_of task g c.initial-start.result) c.deref-2.ensures)
     (subst (λ (g : AbstractGraph). c.block-block.result < (blocks_of g).count) c.deref-2.ensures c.block-block.ensures.below) c.count.result (c.count.ensures.count ∙ ap (λ (g : AbstractGraph). (blocks_of g).count) c.deref-4.ensures)
     c.args.estimate c.requires.estimate c.in_ok-homes.homes c.offer_start.new.self c.in_ok-homes.ensures c.in_ok-offer_start.ensures.put c.in_ok-offer_start.ensures.noted (subst AreNoted c.homes.view_is c.homes.invariant.noted) in
@@ -67,10 +67,10 @@ returns-clause-begin c =
 pub returns-clause-opening : goal.returns-clause-opening
 returns-clause-opening c =
     let task : TaskParts = arc_value c.args.task in
-    let graph : AbstractGraph = arc_value c.args.graph in
+    let abstraction : AbstractGraph = arc_value c.args.abstraction in
     let is_task : IsTask task = subst IsTask c.deref.ensures c.initial-start.ensures.lawful in
     let start : c.initial-start.result ≡ (space_of task).start = c.initial-start.ensures.start ∙ ap (λ (p : TaskParts). (space_of p).start) c.deref.ensures in
-    let o : IsOpening task c.args.choice c.in_ok-tables.tables c.offer_start.new.self = opening_of task is_task c.args.choice c.requires.suits graph c.requires.graph c.args.settings c.requires.settings c.in_ok-tables.tables c.in_ok-tables.ensures.graph c.in_ok-tables.ensures.settings c.in_ok-tables.ensures.past c.in_ok-tables.ensures.counts c.in_ok-tables.ensures.journal
+    let o : IsOpening task c.args.choice c.in_ok-tables.tables c.offer_start.new.self = opening_of task is_task c.args.choice c.requires.suits abstraction c.requires.of_task c.args.settings c.requires.settings c.in_ok-tables.tables c.in_ok-tables.ensures.abstraction c.in_ok-tables.ensures.settings c.in_ok-tables.ensures.past c.in_ok-tables.ensures.counts c.in_ok-tables.ensures.journal
     c.initial-start.result start c.block-block.result (c.block-block.ensures.block ∙ ap (λ (p : TaskParts). home_of p c.deref-2.result.now c.initial-start.result) c.deref-3.ensures ∙ ap (λ (g : AbstractGraph). home_of task g c.initial-start.result) c.deref-2.ensures)
     (subst (λ (g : AbstractGraph). c.block-block.result < (blocks_of g).count) c.deref-2.ensures c.block-block.ensures.below) c.count.result (c.count.ensures.count ∙ ap (λ (g : AbstractGraph). (blocks_of g).count) c.deref-4.ensures)
     c.args.estimate c.requires.estimate c.in_ok-homes.homes c.offer_start.new.self c.in_ok-homes.ensures c.in_ok-offer_start.ensures.put c.in_ok-offer_start.ensures.noted (subst AreNoted c.homes.view_is c.homes.invariant.noted) in

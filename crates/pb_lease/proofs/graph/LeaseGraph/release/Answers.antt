@@ -21,8 +21,8 @@ invariant_of-self c =
     let t : GraphValue = the_view c.self.inside in
     let lease : LeaseValue = the_lease c.lease.inside in
     let of : IsOfGraph t lease = subst (λ (l : LeaseValue). IsOfGraph t l) (sym c.lease.view_is) (subst (λ (v : GraphValue). IsOfGraph v c.args.lease) (sym c.self.view_is) c.requires) in
-    released_kept t c.self.invariant lease of c.args.trouble c.release.new.self c.bring_back.new.self c.least-self-inside.result c.release.ensures.events
-    (release_is_legal t c.self.invariant lease of c.lease.invariant.within c.args.trouble) (ap length c.bring_back.ensures.back ∙ put_back_length lease.parts t.homes.bundles) c.bring_back.ensures.noted.count c.bring_back.ensures.home
+    released_kept t c.self.invariant lease of c.args.memory c.release.new.self c.bring_back.new.self c.least-self-inside.result c.release.ensures.events
+    (release_is_legal t c.self.invariant lease of c.lease.invariant.within c.args.memory) (ap length c.bring_back.ensures.back ∙ put_back_length lease.parts t.homes.bundles) c.bring_back.ensures.noted.count c.bring_back.ensures.home
 
 pub returns-clause-moment : goal.returns-clause-moment
 returns-clause-moment c =
@@ -30,7 +30,7 @@ returns-clause-moment c =
     let lease : LeaseValue = the_lease c.lease.inside in
     let of : IsOfGraph t lease = subst (λ (l : LeaseValue). IsOfGraph t l) (sym c.lease.view_is) (subst (λ (v : GraphValue). IsOfGraph v c.args.lease) (sym c.self.view_is) c.requires) in
     let new : GraphValue = record { task = t.task; choice = t.choice; table = c.release.new.self; homes = c.bring_back.new.self; incumbent = c.least-self-inside.result } in
-    let released : IsReleased t lease c.args.trouble new = record {
+    let released : IsReleased t lease c.args.memory new = record {
       home = c.bring_back.ensures.home;
       noted = c.bring_back.ensures.noted;
       events = c.release.ensures.events;
@@ -39,5 +39,5 @@ returns-clause-moment c =
       choice = refl;
       incumbent = c.least-self-inside.ensures;
     } in
-    subst (λ (l : LeaseValue). ReleasesNext c.args.self.now l c.args.trouble new) c.lease.view_is
-    (subst (λ (v : GraphValue). ReleasesNext v lease c.args.trouble new) c.self.view_is (released_next t c.self.invariant lease of c.lease.invariant.within c.args.trouble new released))
+    subst (λ (l : LeaseValue). ReleasesNext c.args.self.now l c.args.memory new) c.lease.view_is
+    (subst (λ (v : GraphValue). ReleasesNext v lease c.args.memory new) c.self.view_is (released_next t c.self.invariant lease of c.lease.invariant.within c.args.memory new released))

@@ -16,9 +16,9 @@ invariant_of-self c =
     let inside = subst (λ (v : GraphValue). c.args.worker < v.table.settings.workers) (sym c.self.view_is) c.requires.worker in
     let vacant = subst (λ (v : GraphValue). (counts_in v).leases c.args.worker ≡ None) (sym c.self.view_is) c.requires.vacant in
     let stays = subst (λ (v : GraphValue). (counts_in v).signed_off c.args.worker ≡ false) (sym c.self.view_is) c.requires.stays in
-    let cause = subst (λ (v : GraphValue). (c.args.trouble || is_some v.table.end) ≡ true) (sym c.self.view_is) c.requires.cause in
-    let may = sign_off_may (blocks t.table) t.table.settings (counts_in t) c.args.worker c.args.trouble inside stays vacant refl cause in
-    sign_off_kept t c.self.invariant c.sign_off.new.self c.args.worker c.args.trouble c.sign_off.ensures.events may
+    let cause = subst (λ (v : GraphValue). (c.args.memory || is_some v.table.end) ≡ true) (sym c.self.view_is) c.requires.cause in
+    let may = sign_off_may (blocks t.table) t.table.settings (counts_in t) c.args.worker c.args.memory inside stays vacant refl cause in
+    sign_off_kept t c.self.invariant c.sign_off.new.self c.args.worker c.args.memory c.sign_off.ensures.events may
 
 pub returns-clause-moment : goal.returns-clause-moment
 returns-clause-moment c =
@@ -26,8 +26,8 @@ returns-clause-moment c =
     let inside = subst (λ (v : GraphValue). c.args.worker < v.table.settings.workers) (sym c.self.view_is) c.requires.worker in
     let vacant = subst (λ (v : GraphValue). (counts_in v).leases c.args.worker ≡ None) (sym c.self.view_is) c.requires.vacant in
     let stays = subst (λ (v : GraphValue). (counts_in v).signed_off c.args.worker ≡ false) (sym c.self.view_is) c.requires.stays in
-    let cause = subst (λ (v : GraphValue). (c.args.trouble || is_some v.table.end) ≡ true) (sym c.self.view_is) c.requires.cause in
-    let may = sign_off_may (blocks t.table) t.table.settings (counts_in t) c.args.worker c.args.trouble inside stays vacant refl cause in
+    let cause = subst (λ (v : GraphValue). (c.args.memory || is_some v.table.end) ≡ true) (sym c.self.view_is) c.requires.cause in
+    let may = sign_off_may (blocks t.table) t.table.settings (counts_in t) c.args.worker c.args.memory inside stays vacant refl cause in
     let new : GraphValue = record { task = t.task; choice = t.choice; table = c.sign_off.new.self; homes = t.homes; incumbent = t.incumbent } in
-    subst (λ (v : GraphValue). KeepsLeases v (Off c.args.worker c.args.trouble ∷ ending c.args.trouble v.table.end) new) c.self.view_is
-    (signed_off_next t c.self.invariant c.args.worker c.args.trouble new c.sign_off.ensures.events refl may)
+    subst (λ (v : GraphValue). KeepsLeases v (Off c.args.worker c.args.memory ∷ ending c.args.memory v.table.end) new) c.self.view_is
+    (signed_off_next t c.self.invariant c.args.worker c.args.memory new c.sign_off.ensures.events refl may)

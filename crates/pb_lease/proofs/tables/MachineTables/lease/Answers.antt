@@ -27,10 +27,10 @@ invariant_of-self-2 c =
     let known = subst (λ (v : Table). c.args.block < (blocks v).count) (sym c.self.view_is) c.requires.block in
     let free = subst (λ (v : Table). can_be_leased (blocks v) v.settings (counts_of v) c.args.block ≡ true) (sym c.self.view_is) c.requires.free in
     let journal = c.push_reserved.ensures.items ∙ ap (λ (j : List Event). j ++ Lease worker c.args.block c.min-quota.result ∷ []) c.in_ok-reserve.ensures.items in
-    let graph = ap blocks_of c.deref.ensures in
+    let abstraction = ap blocks_of c.deref.ensures in
     lease_kept t c.self.inside.busy.items c.self.inside.marks.near.items c.self.inside.promised _ c.self.invariant worker c.args.block c.min-quota.result c.min-quota.ensures c.push_reserved.new.self.items c.raise.new.counters.items there
     _ inside vacant stays known free journal c.raise.ensures.length
-    (λ other. c.raise.ensures.each other ∙ ap (λ r. get_or c.self.inside.busy.items other 0 + one_if r) (c.interference.ensures.each other ∙ ap (λ (of : Blocks). interferes of c.args.block other) graph)) (omega (arith, c.in_ok-reserve.ensures.ok))
+    (λ other. c.raise.ensures.each other ∙ ap (λ r. get_or c.self.inside.busy.items other 0 + one_if r) (c.interference.ensures.each other ∙ ap (λ (of : Blocks). interferes of c.args.block other) abstraction)) (omega (arith, c.in_ok-reserve.ensures.ok))
 
 pub returns-clause-events : goal.returns-clause-events
 returns-clause-events c =

@@ -42,11 +42,11 @@ lower-requires-clause-some c = λ other it.
     let is = seat_is t.seats worker was there c.index-seat.ensures in
     let has_it : (counts_of t).leases worker ≡ Some c.in-Some.own = sym (ap (λ (s : Seat). s.grant) is) ∙ c.in-Some.is in
     let few : c.args.used ≤ c.in-Some.own.quota = subst (λ (o : Option Grant). c.args.used ≤ quota_of o) has_it (subst (λ (v : Table). c.args.used ≤ quota_of ((counts_of v).leases worker)) (sym c.self.view_is) c.requires.used) in
-    let graph : blocks_of c.deref.result.now ≡ blocks t = ap blocks_of c.deref.ensures in
+    let abstraction : blocks_of c.deref.result.now ≡ blocks t = ap blocks_of c.deref.ensures in
     let list : (other : ℕ) → has c.interference-near.result.now other ≡ interferes (blocks t) c.in-Some.own.block other =
-    λ other. c.interference-near.ensures.each other ∙ ap (λ (of : Blocks). interferes of c.in-Some.own.block other) graph in
+    λ other. c.interference-near.ensures.each other ∙ ap (λ (of : Blocks). interferes of c.in-Some.own.block other) abstraction in
     counted_near t c.self.inside.busy.items c.self.inside.marks.near.items c.self.inside.promised _ c.self.invariant worker c.args.used c.args.memory c.in-Some.own was is c.in-Some.is few other
-    (subst (λ (of : Blocks). other < of.count) graph (has_below c.interference-near.result.now (blocks_of c.deref.result.now).count other c.interference-near.ensures.below it)) (sym (list other) ∙ it)
+    (subst (λ (of : Blocks). other < of.count) abstraction (has_below c.interference-near.result.now (blocks_of c.deref.result.now).count other c.interference-near.ensures.below it)) (sym (list other) ∙ it)
 
 pub overflow_add-self : goal.overflow_add-self
 overflow_add-self c =
@@ -85,9 +85,9 @@ invariant_of-self c =
     let is = seat_is t.seats worker was there c.index-seat.ensures in
     let has_it : (counts_of t).leases worker ≡ Some c.in-Some.own = sym (ap (λ (s : Seat). s.grant) is) ∙ c.in-Some.is in
     let few : c.args.used ≤ c.in-Some.own.quota = subst (λ (o : Option Grant). c.args.used ≤ quota_of o) has_it (subst (λ (v : Table). c.args.used ≤ quota_of ((counts_of v).leases worker)) (sym c.self.view_is) c.requires.used) in
-    let graph : blocks_of c.deref.result.now ≡ blocks t = ap blocks_of c.deref.ensures in
+    let abstraction : blocks_of c.deref.result.now ≡ blocks t = ap blocks_of c.deref.ensures in
     let list : (other : ℕ) → has c.interference-near.result.now other ≡ interferes (blocks t) c.in-Some.own.block other =
-    λ other. c.interference-near.ensures.each other ∙ ap (λ (of : Blocks). interferes of c.in-Some.own.block other) graph in
+    λ other. c.interference-near.ensures.each other ∙ ap (λ (of : Blocks). interferes of c.in-Some.own.block other) abstraction in
     let fewer = c.lower.new.counters.items in
     let each : (other : ℕ) → get_or fewer other 0 + one_if (interferes (blocks t) c.in-Some.own.block other) ≡ get_or c.self.inside.busy.items other 0 =
     λ other. ap (λ r. get_or fewer other 0 + one_if r) (sym (list other)) ∙ c.lower.ensures.each other in
@@ -111,9 +111,9 @@ returns-clause-events c =
     let is = seat_is t.seats worker was there c.index-seat.ensures in
     let has_it : (counts_of t).leases worker ≡ Some c.in-Some.own = sym (ap (λ (s : Seat). s.grant) is) ∙ c.in-Some.is in
     let few : c.args.used ≤ c.in-Some.own.quota = subst (λ (o : Option Grant). c.args.used ≤ quota_of o) has_it (subst (λ (v : Table). c.args.used ≤ quota_of ((counts_of v).leases worker)) (sym c.self.view_is) c.requires.used) in
-    let graph : blocks_of c.deref.result.now ≡ blocks t = ap blocks_of c.deref.ensures in
+    let abstraction : blocks_of c.deref.result.now ≡ blocks t = ap blocks_of c.deref.ensures in
     let list : (other : ℕ) → has c.interference-near.result.now other ≡ interferes (blocks t) c.in-Some.own.block other =
-    λ other. c.interference-near.ensures.each other ∙ ap (λ (of : Blocks). interferes of c.in-Some.own.block other) graph in
+    λ other. c.interference-near.ensures.each other ∙ ap (λ (of : Blocks). interferes of c.in-Some.own.block other) abstraction in
     let fewer = c.lower.new.counters.items in
     let each : (other : ℕ) → get_or fewer other 0 + one_if (interferes (blocks t) c.in-Some.own.block other) ≡ get_or c.self.inside.busy.items other 0 =
     λ other. ap (λ r. get_or fewer other 0 + one_if r) (sym (list other)) ∙ c.lower.ensures.each other in
@@ -135,9 +135,9 @@ returns-clause-room c =
     let is = seat_is t.seats worker was there c.index-seat.ensures in
     let has_it : (counts_of t).leases worker ≡ Some c.in-Some.own = sym (ap (λ (s : Seat). s.grant) is) ∙ c.in-Some.is in
     let few : c.args.used ≤ c.in-Some.own.quota = subst (λ (o : Option Grant). c.args.used ≤ quota_of o) has_it (subst (λ (v : Table). c.args.used ≤ quota_of ((counts_of v).leases worker)) (sym c.self.view_is) c.requires.used) in
-    let graph : blocks_of c.deref.result.now ≡ blocks t = ap blocks_of c.deref.ensures in
+    let abstraction : blocks_of c.deref.result.now ≡ blocks t = ap blocks_of c.deref.ensures in
     let list : (other : ℕ) → has c.interference-near.result.now other ≡ interferes (blocks t) c.in-Some.own.block other =
-    λ other. c.interference-near.ensures.each other ∙ ap (λ (of : Blocks). interferes of c.in-Some.own.block other) graph in
+    λ other. c.interference-near.ensures.each other ∙ ap (λ (of : Blocks). interferes of c.in-Some.own.block other) abstraction in
     let fewer = c.lower.new.counters.items in
     let each : (other : ℕ) → get_or fewer other 0 + one_if (interferes (blocks t) c.in-Some.own.block other) ≡ get_or c.self.inside.busy.items other 0 =
     λ other. ap (λ r. get_or fewer other 0 + one_if r) (sym (list other)) ∙ c.lower.ensures.each other in

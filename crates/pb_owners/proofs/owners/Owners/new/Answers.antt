@@ -20,22 +20,22 @@ block-requires-clause-state c =
 pub returns-clause-opening : goal.returns-clause-opening
 returns-clause-opening c =
     let task : TaskParts = arc_value c.args.task in
-    let graph : AbstractGraph = arc_value c.args.abstraction in
+    let abstraction : AbstractGraph = arc_value c.args.abstraction in
     let workers = c.args.settings.workers in
     let start : c.initial-start.result ≡ (space_of task).start = c.initial-start.ensures.start ∙ ap (λ (p : TaskParts). (space_of p).start) c.deref.ensures in
-    let block : c.block.result ≡ home_of task graph c.initial-start.result = c.block.ensures.block ∙ ap (λ (p : TaskParts). home_of p c.deref-2.result.now c.initial-start.result) c.deref-3.ensures ∙ ap (λ (g : AbstractGraph). home_of task g c.initial-start.result) c.deref-2.ensures in
-    let home : c.block.result % workers ≡ home_of task graph (space_of task).start % workers = ap (λ n. n % workers) (block ∙ ap (home_of task graph) start) in
+    let block : c.block.result ≡ home_of task abstraction c.initial-start.result = c.block.ensures.block ∙ ap (λ (p : TaskParts). home_of p c.deref-2.result.now c.initial-start.result) c.deref-3.ensures ∙ ap (λ (g : AbstractGraph). home_of task g c.initial-start.result) c.deref-2.ensures in
+    let home : c.block.result % workers ≡ home_of task abstraction (space_of task).start % workers = ap (λ n. n % workers) (block ∙ ap (home_of task abstraction) start) in
     let shares = c.in_ok-shares.shares in
     let e = c.in_ok-shares.ensures in
     let many : length shares.items ≡ workers = (let m = e.many in let k = shares.ok.0 in omega arith) in
     let some = c.requires.settings.workers.0 in
     let below : c.block.result % workers < workers = omega arith in
     record {
-      graph = c.requires.graph;
+      abstraction = c.requires.of_task;
       suits = c.requires.suits;
       settings = c.requires.settings;
       many = many;
       spent = refl;
-      of_weight = opening_weights (space_of task) (guide_for task graph workers c.args.choice) (weight_of c.args.settings) workers shares.items (c.block.result % workers) c.initial-start.result c.args.estimate many below home start c.requires.estimate e.each;
-      shares = opening_between (space_of task) (guide_for task graph workers c.args.choice) (weight_of c.args.settings) workers shares.items (c.block.result % workers) c.initial-start.result c.args.estimate many below home start c.requires.estimate e.each;
+      of_weight = opening_weights (space_of task) (guide_for task abstraction workers c.args.choice) (weight_of c.args.settings) workers shares.items (c.block.result % workers) c.initial-start.result c.args.estimate many below home start c.requires.estimate e.each;
+      shares = opening_between (space_of task) (guide_for task abstraction workers c.args.choice) (weight_of c.args.settings) workers shares.items (c.block.result % workers) c.initial-start.result c.args.estimate many below home start c.requires.estimate e.each;
     }

@@ -14,10 +14,10 @@ release-requires-clause-brought g c = c.requires.may_return.2.brought
 pub returns-clause-home : goal.returns-clause-home
 returns-clause-home g c = λ begin given h.
     let w = c.args.self.now.watch in let n : YardWatch = record w { pass = c.release.new.pass } in let v = view_of w.pass in let u = view_of n.pass in
-    none_since begin.watch w n h.since h.own refl c.release.ensures.same (reader_holds (ReleasesAs c.args.lease c.args.trouble) (release_events c.args.lease c.args.trouble) v None None u c.release.ensures.released)
-    (released_then v.task v.graph v u h.of_task refl refl h.stays c.args.lease c.args.trouble c.release.ensures.released)
+    none_since begin.watch w n h.since h.own refl c.release.ensures.same (reader_holds (ReleasesAs c.args.lease c.args.memory) (release_events c.args.lease c.args.memory) v None None u c.release.ensures.released)
+    (released_then v.task v.abstraction v u h.of_task refl refl h.stays c.args.lease c.args.memory c.release.ensures.released)
 
 pub returns-clause-searched : goal.returns-clause-searched
 returns-clause-searched g c =
     let v = view_of c.args.self.now.watch.pass in let u = view_of c.release.new.pass in
-    holder_searched v u (reader_holds (ReleasesAs c.args.lease c.args.trouble) (release_events c.args.lease c.args.trouble) v None None u c.release.ensures.released)
+    holder_searched v u (reader_holds (ReleasesAs c.args.lease c.args.memory) (release_events c.args.lease c.args.memory) v None None u c.release.ensures.released)

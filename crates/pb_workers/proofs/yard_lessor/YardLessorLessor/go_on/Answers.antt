@@ -17,7 +17,7 @@ returns-in-Kept-clause-kept g c = λ begin given h.
     let w = c.args.self.now.watch in let n : YardWatch = record w { pass = c.renew.new.pass } in let v = view_of w.pass in let u = view_of n.pass in
     let kept = c.in-Kept.kept in let renews = c.in-Kept.ensures.renewed in
     lease_since begin.watch w n h.since h.own refl c.renew.ensures.same (reader_holds (RenewsAs c.args.lease (Kept kept)) (λ found. renewal_events c.args.lease (Kept kept)) v (Some kept) None u renews) kept
-    (kept_then v.task v.graph v u h.of_task refl refl h.stays c.args.lease kept renews)
+    (kept_then v.task v.abstraction v u h.of_task refl refl h.stays c.args.lease kept renews)
 
 pub returns-in-Kept-clause-searched : goal.returns-in-Kept-clause-searched
 returns-in-Kept-clause-searched g c =
@@ -29,7 +29,7 @@ returns-in-Given-clause-home g c = λ begin given h.
     let w = c.args.self.now.watch in let n : YardWatch = record w { pass = c.renew.new.pass } in let v = view_of w.pass in let u = view_of n.pass in
     let renews = c.in-Given.ensures.renewed in
     none_since begin.watch w n h.since h.own refl c.renew.ensures.same (reader_holds (RenewsAs c.args.lease Given) (λ found. renewal_events c.args.lease Given) v None None u renews)
-    (given_then v.task v.graph v u h.of_task refl refl h.stays c.args.lease renews)
+    (given_then v.task v.abstraction v u h.of_task refl refl h.stays c.args.lease renews)
 
 pub returns-in-Given-clause-searched : goal.returns-in-Given-clause-searched
 returns-in-Given-clause-searched g c =

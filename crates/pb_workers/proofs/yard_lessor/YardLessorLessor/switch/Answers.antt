@@ -21,7 +21,7 @@ returns-in-Kept-clause-going g c = λ begin given h.
     let w = c.args.self.now.watch in let n : YardWatch = record w { pass = c.try_switch.new.pass } in let v = view_of w.pass in let u = view_of n.pass in
     let kept = c.in-Kept.kept in let renews = c.in-Kept.ensures.kept kept refl in
     lease_since begin.watch w n h.since h.own refl c.try_switch.ensures.same
-    (reader_holds (RenewsAs c.args.lease (renewed.Kept kept)) (λ found. renewal_events c.args.lease (renewed.Kept kept)) v (Some kept) None u renews) kept (kept_then v.task v.graph v u h.of_task refl refl h.stays c.args.lease kept renews)
+    (reader_holds (RenewsAs c.args.lease (renewed.Kept kept)) (λ found. renewal_events c.args.lease (renewed.Kept kept)) v (Some kept) None u renews) kept (kept_then v.task v.abstraction v u h.of_task refl refl h.stays c.args.lease kept renews)
 
 pub returns-in-Kept-clause-searched : goal.returns-in-Kept-clause-searched
 returns-in-Kept-clause-searched g c =
@@ -32,49 +32,49 @@ pub returns-in-Gave-Leased-clause-going : goal.returns-in-Gave-Leased-clause-goi
 returns-in-Gave-Leased-clause-going g c = λ begin given h.
     let w = c.args.self.now.watch in let n : YardWatch = record w { pass = c.try_switch.new.pass } in let v = view_of w.pass in let u = view_of n.pass in
     let next = c.in-Gave-Leased.next in let gave = c.try_switch.ensures.gave (Leased next) (c.in-Gave-Leased.is ∙ ap Gave c.in-Gave-Leased.field-0-is) in
-    lease_since begin.watch w n h.since h.own refl c.try_switch.ensures.same (gave_holder v.task v.graph v u h.of_task refl refl h.stays c.args.lease (worker_of w.pass) (Leased next) gave) next
-    (switched_then v.task v.graph v u h.of_task refl refl h.stays c.args.lease (worker_of w.pass) next gave)
+    lease_since begin.watch w n h.since h.own refl c.try_switch.ensures.same (gave_holder v.task v.abstraction v u h.of_task refl refl h.stays c.args.lease (worker_of w.pass) (Leased next) gave) next
+    (switched_then v.task v.abstraction v u h.of_task refl refl h.stays c.args.lease (worker_of w.pass) next gave)
 
 pub returns-in-Gave-Leased-clause-searched : goal.returns-in-Gave-Leased-clause-searched
 returns-in-Gave-Leased-clause-searched g c =
     let p = c.args.self.now.watch.pass in let v = view_of p in let u = view_of c.try_switch.new.pass in let h = c.requires.may_return.2 in let reply = Leased c.in-Gave-Leased.next in
-    holder_searched v u (gave_holder v.task v.graph v u h.of_task refl refl h.stays c.args.lease (worker_of p) reply (c.try_switch.ensures.gave reply (c.in-Gave-Leased.is ∙ ap Gave c.in-Gave-Leased.field-0-is)))
+    holder_searched v u (gave_holder v.task v.abstraction v u h.of_task refl refl h.stays c.args.lease (worker_of p) reply (c.try_switch.ensures.gave reply (c.in-Gave-Leased.is ∙ ap Gave c.in-Gave-Leased.field-0-is)))
 
 pub returns-in-Gave-NotYet-clause-home : goal.returns-in-Gave-NotYet-clause-home
 returns-in-Gave-NotYet-clause-home g c = λ begin given h.
     let w = c.args.self.now.watch in let n : YardWatch = record w { pass = c.try_switch.new.pass } in let v = view_of w.pass in let u = view_of n.pass in
     let gave = c.try_switch.ensures.gave NotYet (c.in-Gave-NotYet.is ∙ ap Gave c.in-Gave-NotYet.field-0-is) in
-    none_since begin.watch w n h.since h.own refl c.try_switch.ensures.same (gave_holder v.task v.graph v u h.of_task refl refl h.stays c.args.lease (worker_of w.pass) NotYet gave)
-    (wait_home v.task v.graph v u h.of_task refl refl h.stays c.args.lease (worker_of w.pass) gave)
+    none_since begin.watch w n h.since h.own refl c.try_switch.ensures.same (gave_holder v.task v.abstraction v u h.of_task refl refl h.stays c.args.lease (worker_of w.pass) NotYet gave)
+    (wait_home v.task v.abstraction v u h.of_task refl refl h.stays c.args.lease (worker_of w.pass) gave)
 
 pub returns-in-Gave-NotYet-clause-searched : goal.returns-in-Gave-NotYet-clause-searched
 returns-in-Gave-NotYet-clause-searched g c =
     let p = c.args.self.now.watch.pass in let v = view_of p in let u = view_of c.try_switch.new.pass in let h = c.requires.may_return.2 in
-    holder_searched v u (gave_holder v.task v.graph v u h.of_task refl refl h.stays c.args.lease (worker_of p) NotYet (c.try_switch.ensures.gave NotYet (c.in-Gave-NotYet.is ∙ ap Gave c.in-Gave-NotYet.field-0-is)))
+    holder_searched v u (gave_holder v.task v.abstraction v u h.of_task refl refl h.stays c.args.lease (worker_of p) NotYet (c.try_switch.ensures.gave NotYet (c.in-Gave-NotYet.is ∙ ap Gave c.in-Gave-NotYet.field-0-is)))
 
 pub returns-in-Gave-Over-clause-home : goal.returns-in-Gave-Over-clause-home
 returns-in-Gave-Over-clause-home g c = λ begin given h.
     let w = c.args.self.now.watch in let n : YardWatch = record w { pass = c.try_switch.new.pass } in let v = view_of w.pass in let u = view_of n.pass in let end = c.in-Gave-Over.field-0-0 in
     let gave = c.try_switch.ensures.gave (Over end) (c.in-Gave-Over.is ∙ ap Gave c.in-Gave-Over.field-0-is) in
-    none_since begin.watch w n h.since h.own refl c.try_switch.ensures.same (gave_holder v.task v.graph v u h.of_task refl refl h.stays c.args.lease (worker_of w.pass) (Over end) gave)
-    (over_home v.task v.graph v u h.of_task refl refl h.stays c.args.lease (worker_of w.pass) end gave)
+    none_since begin.watch w n h.since h.own refl c.try_switch.ensures.same (gave_holder v.task v.abstraction v u h.of_task refl refl h.stays c.args.lease (worker_of w.pass) (Over end) gave)
+    (over_home v.task v.abstraction v u h.of_task refl refl h.stays c.args.lease (worker_of w.pass) end gave)
 
 pub returns-in-Gave-Over-clause-searched : goal.returns-in-Gave-Over-clause-searched
 returns-in-Gave-Over-clause-searched g c =
     let p = c.args.self.now.watch.pass in let v = view_of p in let u = view_of c.try_switch.new.pass in let h = c.requires.may_return.2 in let reply = Over c.in-Gave-Over.field-0-0 in
-    holder_searched v u (gave_holder v.task v.graph v u h.of_task refl refl h.stays c.args.lease (worker_of p) reply (c.try_switch.ensures.gave reply (c.in-Gave-Over.is ∙ ap Gave c.in-Gave-Over.field-0-is)))
+    holder_searched v u (gave_holder v.task v.abstraction v u h.of_task refl refl h.stays c.args.lease (worker_of p) reply (c.try_switch.ensures.gave reply (c.in-Gave-Over.is ∙ ap Gave c.in-Gave-Over.field-0-is)))
 
 pub returns-in-Gave-Memory-clause-home : goal.returns-in-Gave-Memory-clause-home
 returns-in-Gave-Memory-clause-home g c = λ begin given h.
     let w = c.args.self.now.watch in let n : YardWatch = record w { pass = c.try_switch.new.pass } in let v = view_of w.pass in let u = view_of n.pass in
     let gave = c.try_switch.ensures.gave Memory (c.in-Gave-Memory.is ∙ ap Gave c.in-Gave-Memory.field-0-is) in
-    none_since begin.watch w n h.since h.own refl c.try_switch.ensures.same (gave_holder v.task v.graph v u h.of_task refl refl h.stays c.args.lease (worker_of w.pass) Memory gave)
-    (memory_home v.task v.graph v u h.of_task refl refl h.stays c.args.lease (worker_of w.pass) gave)
+    none_since begin.watch w n h.since h.own refl c.try_switch.ensures.same (gave_holder v.task v.abstraction v u h.of_task refl refl h.stays c.args.lease (worker_of w.pass) Memory gave)
+    (memory_home v.task v.abstraction v u h.of_task refl refl h.stays c.args.lease (worker_of w.pass) gave)
 
 pub returns-in-Gave-Memory-clause-searched : goal.returns-in-Gave-Memory-clause-searched
 returns-in-Gave-Memory-clause-searched g c =
     let p = c.args.self.now.watch.pass in let v = view_of p in let u = view_of c.try_switch.new.pass in let h = c.requires.may_return.2 in
-    holder_searched v u (gave_holder v.task v.graph v u h.of_task refl refl h.stays c.args.lease (worker_of p) Memory (c.try_switch.ensures.gave Memory (c.in-Gave-Memory.is ∙ ap Gave c.in-Gave-Memory.field-0-is)))
+    holder_searched v u (gave_holder v.task v.abstraction v u h.of_task refl refl h.stays c.args.lease (worker_of p) Memory (c.try_switch.ensures.gave Memory (c.in-Gave-Memory.is ∙ ap Gave c.in-Gave-Memory.field-0-is)))
 
 pub returns-in-Busy-clause-still : goal.returns-in-Busy-clause-still
 returns-in-Busy-clause-still g c = λ begin given h.
@@ -85,4 +85,4 @@ returns-in-Busy-clause-still g c = λ begin given h.
 pub returns-in-Busy-clause-searched : goal.returns-in-Busy-clause-searched
 returns-in-Busy-clause-searched g c =
     let b = c.in-Busy.ensures.busy c.in-Busy.lease refl in
-    λ i. record { task = (b.1 i).task; abstraction = (b.1 i).graph; choice = (b.1 i).choice }
+    λ i. record { task = (b.1 i).task; abstraction = (b.1 i).abstraction; choice = (b.1 i).choice }

@@ -6,8 +6,8 @@ use Rattle.pb_workers.specs.Shared.{IsLeased}
 use Rattle.pb_workers.proofs.Sharing.{choice_is, at_work, of_search, watched, leased_for, work_since, kept_searched}
 use Rattle.pb_workers.proofs.yard_lessor.YardLessorLessor.work_on.Goals as goal
 
-pub work_watched-requires-clause-graph : goal.work_watched-requires-clause-graph
-work_watched-requires-clause-graph g c =
+pub work_watched-requires-clause-of_task : goal.work_watched-requires-clause-of_task
+work_watched-requires-clause-of_task g c =
     let v = view_of c.args.self.now.watch.pass in
     IsLeased.of_task (leased_for v c.args.lease.now c.args.worker.now.task.now c.args.worker.now.abstraction.now c.requires.serves.task c.requires.serves.abstraction c.requires.holds.2.leased)
 
@@ -51,6 +51,6 @@ returns-clause-serves g c =
     let choice = choice_is t a (view_of p) p.is_live c.args.lease.now (leased_for (view_of p) c.args.lease.now t a c.requires.serves.task c.requires.serves.abstraction c.requires.holds.2.leased) in
     record {
       task = e.stays.lease.task ∙ c.requires.serves.task ∙ sym e.task;
-      abstraction = e.stays.lease.graph ∙ c.requires.serves.abstraction ∙ sym e.abstraction;
+      abstraction = e.stays.lease.abstraction ∙ c.requires.serves.abstraction ∙ sym e.abstraction;
       tools = subst (IsOfTask s.estimator s.task.now) (sym (e.stays.lease.choice ∙ choice)) e.tools;
     }

@@ -13,7 +13,7 @@ returns-in-Some c =
     let r = c.close_with-graph.ensures.rule in
     let f = c.close_with-graph.result.0 in
     let n = c.close_with-graph.result.1 in
-    let is : bounded f (cost_of n) ≡ c.take_bound.new.self = ap (bounded f) (sym c.cost.ensures ∙ c.in-Some.is) ∙ sym c.take_bound.ensures.lowered in
+    let is : bounded f (cost_of n) ≡ c.lower_incumbent.new.self = ap (bounded f) (sym c.cost.ensures ∙ c.in-Some.is) ∙ sym c.lower_incumbent.ensures.lowered in
     record { closed = subst (λ (z : GraphValue). IsClosed (view p.turn) z) is (closed (bounded f (cost_of n)) (number p.turn) (view p.turn) p.is_live r.0 (closing_yard f n r.0 r.1) r.2 r.3 c.requires.off) }
 
 pub returns-in_default : goal.returns-in_default

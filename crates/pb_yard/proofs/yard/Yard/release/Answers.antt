@@ -18,7 +18,7 @@ release-requires g c =
     let v = view p.turn in
     let k = entered f v o (number p.turn) _ e.view p.is_live e.rule in
     subst (λ (z : GraphValue). IsOfGraph z c.args.lease) (sym (c.state_mut.ensures.value ∙ e.graph))
-    (brought_of_graph (bounded f o) (bounded f o) (cost_of k.0) k.1 (number p.turn) (view_read (Some f) v o) k.2 k.3 p.is_live (one_if c.args.trouble) c.args.lease (brought_on v (Some f) o _ c.args.lease e.falls.0 c.requires.brought))
+    (brought_of_graph (bounded f o) (bounded f o) (cost_of k.0) k.1 (number p.turn) (view_read (Some f) v o) k.2 k.3 p.is_live (one_if c.args.memory) c.args.lease (brought_on v (Some f) o _ c.args.lease e.falls.0 c.requires.brought))
 
 pub leave-requires-clause-rule : goal.leave-requires-clause-rule
 leave-requires-clause-rule g c =
@@ -29,7 +29,7 @@ leave-requires-clause-rule g c =
     let x = bounded f o in
     let y = c.release.new.self in
     let l = c.args.lease in
-    let t = c.args.trouble in
+    let t = c.args.memory in
     let s = c.release.ensures in
     let v = view p.turn in
     let w = view_read (Some f) v o in
@@ -47,7 +47,7 @@ returns-clause-released g c =
     let x = bounded f o in
     let y = c.release.new.self in
     let l = c.args.lease in
-    let t = c.args.trouble in
+    let t = c.args.memory in
     let s = c.release.ensures in
     let v = view p.turn in
     let w = view_read (Some f) v o in
@@ -65,7 +65,7 @@ invariant_of-pass-clause-seen_is g c =
     let x = bounded f o in
     let y = c.release.new.self in
     let l = c.args.lease in
-    let t = c.args.trouble in
+    let t = c.args.memory in
     let s = c.release.ensures in
     let v = view p.turn in
     let w = view_read (Some f) v o in

@@ -36,8 +36,8 @@ pub sign_off-requires-clause-cause : goal.sign_off-requires-clause-cause
 sign_off-requires-clause-cause g c =
     let p = c.args.pass.now in
     let r = c.enter-held.ensures.rule.1 in
-    subst (λ (z : GraphValue). (c.args.trouble || is_some z.table.end) ≡ true) (sym (c.state_mut.ensures.value ∙ c.enter-held.ensures.won.1))
-    (cause (found c.enter-held.result) (cost_of c.enter-held.ensures.rule.0) r.0 (number p.turn) (view p.turn) r.1 r.2 p.is_live c.args.trouble c.requires.cause)
+    subst (λ (z : GraphValue). (c.args.memory || is_some z.table.end) ≡ true) (sym (c.state_mut.ensures.value ∙ c.enter-held.ensures.won.1))
+    (cause (found c.enter-held.result) (cost_of c.enter-held.ensures.rule.0) r.0 (number p.turn) (view p.turn) r.1 r.2 p.is_live c.args.memory c.requires.cause)
 
 pub leave-requires-clause-rule : goal.leave-requires-clause-rule
 leave-requires-clause-rule g c =
@@ -45,7 +45,7 @@ leave-requires-clause-rule g c =
     let e = c.enter-held.ensures in
     let x = found c.enter-held.result in
     let y = c.sign_off.new.self in
-    let t = c.args.trouble in
+    let t = c.args.memory in
     let f = c.sign_off.ensures in
     let v = view p.turn in
     let found_is : c.state_mut.result.now ≡ x = c.state_mut.ensures.value ∙ e.won.1 in
@@ -58,7 +58,7 @@ returns-clause-signed_off g c =
     let e = c.enter-held.ensures in
     let x = found c.enter-held.result in
     let y = c.sign_off.new.self in
-    let t = c.args.trouble in
+    let t = c.args.memory in
     let f = c.sign_off.ensures in
     let v = view p.turn in
     let found_is : c.state_mut.result.now ≡ x = c.state_mut.ensures.value ∙ e.won.1 in
@@ -72,7 +72,7 @@ invariant_of-pass-clause-seen_is g c =
     let e = c.enter-held.ensures in
     let x = found c.enter-held.result in
     let y = c.sign_off.new.self in
-    let t = c.args.trouble in
+    let t = c.args.memory in
     let f = c.sign_off.ensures in
     let v = view p.turn in
     let found_is : c.state_mut.result.now ≡ x = c.state_mut.ensures.value ∙ e.won.1 in
