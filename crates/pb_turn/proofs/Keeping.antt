@@ -80,8 +80,8 @@ module _ {S V : Type 0} (fact : S → ℕ → List V → Type 0) (spent : V) whe
     at_home = ap (λ (l : List (maybe.Option (Option S))). get_elem? l 0) r.homes ∙ ap (λ (b : ℕ). some (home_of b r.state)) nobody_holds
 
   missed : (s : St) (r : Rule s) (id : ℕ) (me : Known S V) → me.0.stage ≡ Resting → 0 < me.0.parts → get_elem? s.views id ≡ some me.0
-      → Rule (stepped s 0 (get_or s.words 0 0) id me.1 (pass_view me.0.stage me.0.parts (me.0.misses + 1) me.0.view) keeps)
-  missed s r id me idle some_parts at = let w : D = pass_view me.0.stage me.0.parts (me.0.misses + 1) me.0.view in record {
+      → Rule (stepped s 0 (get_or s.words 0 0) id me.1 (pass_view me.0.stage me.0.parts (me.0.tries + 1) (me.0.misses + 1) me.0.view) keeps)
+  missed s r id me idle some_parts at = let w : D = pass_view me.0.stage me.0.parts (me.0.tries + 1) (me.0.misses + 1) me.0.view in record {
     state = r.state;
     turn = r.turn;
     holder = r.holder;
@@ -101,8 +101,8 @@ module _ {S V : Type 0} (fact : S → ℕ → List V → Type 0) (spent : V) whe
   }
 
   gained : (s : St) (r : Rule s) (id : ℕ) (me : Known S V) → r.turn ≡ 0 → 0 < me.0.parts → get_elem? s.views id ≡ some me.0
-      → Rule (stepped s 0 1 id me.1 (pass_view (Holding r.state) me.0.parts me.0.misses me.0.view) (takes 0 (Some r.state)))
-  gained s r id me free some_parts at = let w : D = pass_view (Holding r.state) me.0.parts me.0.misses me.0.view in record {
+      → Rule (stepped s 0 1 id me.1 (pass_view (Holding r.state) me.0.parts (me.0.tries + 1) me.0.misses me.0.view) (takes 0 (Some r.state)))
+  gained s r id me free some_parts at = let w : D = pass_view (Holding r.state) me.0.parts (me.0.tries + 1) me.0.misses me.0.view in record {
     state = r.state;
     turn = 1;
     holder = id;
@@ -130,23 +130,23 @@ module _ {S V : Type 0} (fact : S → ℕ → List V → Type 0) (spent : V) whe
       → Allows Rule slots id me 0 (λ n. either (eqb n 0) 1 n) (tried fact number (step slots 0 0 1 none) me)
   tries slots id me number same idle some_parts s r _ at _ = let n : ℕ = get_or s.words 0 0 in let found : n ≡ r.turn = ap (λ (l : List ℕ). get_or l 0 0) r.words in dite (ℕ_discrete n 0)
       (λ hit. let free : r.turn ≡ 0 = sym found ∙ hit in (
-        pass_view (Holding r.state) me.0.parts me.0.misses me.0.view,
+        pass_view (Holding r.state) me.0.parts (me.0.tries + 1) me.0.misses me.0.view,
         takes 0 (Some r.state),
         ap (λ (l : List (maybe.Option (Option S))). get_elem? l 0) r.homes ∙ ap (λ (b : ℕ). some (home_of b r.state)) free,
-        subst (λ b. Rule (stepped s 0 (either b 1 n) id me.1 (pass_view (Holding r.state) me.0.parts me.0.misses me.0.view) (takes 0 (Some r.state)))) (sym (eq-eqb n 0 hit)) (gained s r id me free some_parts at),
+        subst (λ b. Rule (stepped s 0 (either b 1 n) id me.1 (pass_view (Holding r.state) me.0.parts (me.0.tries + 1) me.0.misses me.0.view) (takes 0 (Some r.state)))) (sym (eq-eqb n 0 hit)) (gained s r id me free some_parts at),
         ((λ _. (r.state, (refl, subst (λ k. Stands fact k me.0.view r.state) (sym same) (stands s r id me at)))), λ no. absurd (no hit)),
       ))
       (λ miss. (
-        pass_view me.0.stage me.0.parts (me.0.misses + 1) me.0.view,
+        pass_view me.0.stage me.0.parts (me.0.tries + 1) (me.0.misses + 1) me.0.view,
         keeps,
         tt,
-        subst (λ b. Rule (stepped s 0 (either b 1 n) id me.1 (pass_view me.0.stage me.0.parts (me.0.misses + 1) me.0.view) keeps)) (sym (ne_eqb n 0 miss)) (missed s r id me idle some_parts at),
+        subst (λ b. Rule (stepped s 0 (either b 1 n) id me.1 (pass_view me.0.stage me.0.parts (me.0.tries + 1) (me.0.misses + 1) me.0.view) keeps)) (sym (ne_eqb n 0 miss)) (missed s r id me idle some_parts at),
         ((λ yes. absurd (miss yes)), λ _. ((let l = r.low in omega arith), (refl, not_alone s r id me idle at found miss, (r.state, subst (λ k. Stands fact k me.0.view r.state) (sym same) (stands s r id me at))))),
       ))
 
   pub leaves : (slots id : ℕ) (me : Known S V) (x y : S) (w : V) (next : Option V) → me.0.stage ≡ Holding x → me.1 ≡ (0, Some y) ∷ [] → next ≡ Some w → LeaveKeeps fact id me.0.view x y w
       → Allows Rule slots id me 0 (λ _. 0) (λ _. left next (step slots 0 0 0 none) me 0)
-  leaves slots id me x y w next holds has is asked s r _ at _ = let d' : D = pass_view Resting me.0.parts me.0.misses w in
+  leaves slots id me x y w next holds has is asked s r _ at _ = let d' : D = pass_view Resting me.0.parts me.0.tries me.0.misses w in
       let known = subst (λ (st : Stage S). Knows r.turn r.holder r.state id st) holds (r.each_pass id me.0 at) in (
         d',
         gives,
@@ -166,7 +166,7 @@ module _ {S V : Type 0} (fact : S → ℕ → List V → Type 0) (spent : V) whe
               (λ z. absurd (idle_not x (sym (ap (λ (d : D). d.stage) (r.no_parts id me.0 at z)) ∙ holds))) (λ j d _ e. r.no_parts j d e);
           kept = subst (fact y r.number) (sym (map_set view_of s.views id d')) (asked r.number (map view_of s.views) (subst (λ (z : S). fact z r.number (map view_of s.views)) (sym known.2) r.kept) (at_map view_of s.views id me.0 at));
         },
-        (refl, refl, refl, is, ap rest has),
+        (refl, refl, refl, refl, is, ap rest has),
       )
 
   pub splits : (id : ℕ) (d : D) (kept given : V → V) → 1 < d.parts → SplitKeeps fact id d.view (kept d.view) (given d.view) → Splits Rule id d (kept_pass kept d) (given_pass given d)
@@ -226,8 +226,8 @@ module _ {S V : Type 0} (fact : S → ℕ → List V → Type 0) (spent : V) whe
 
   -- a step on the number alone, after which the pass has another view
   numbered : (s : St) (r : Rule s) (n id : ℕ) (me : Known S V) (w : V) → 0 < me.0.parts → get_elem? s.views id ≡ some me.0 → fact r.state n (set (map view_of s.views) id w)
-      → Rule (stepped s 1 n id me.1 (pass_view me.0.stage me.0.parts me.0.misses w) keeps)
-  numbered s r n id me w some_parts at h = let d' : D = pass_view me.0.stage me.0.parts me.0.misses w in record {
+      → Rule (stepped s 1 n id me.1 (pass_view me.0.stage me.0.parts me.0.tries me.0.misses w) keeps)
+  numbered s r n id me w some_parts at h = let d' : D = pass_view me.0.stage me.0.parts me.0.tries me.0.misses w in record {
     state = r.state;
     turn = r.turn;
     holder = r.holder;
@@ -253,7 +253,7 @@ module _ {S V : Type 0} (fact : S → ℕ → List V → Type 0) (spent : V) whe
   reads slots id me pass loaded same some_parts asked s r _ at _ = let n : ℕ = get_or s.words 1 0 in let h = at_number s r in
       let there = at_map view_of s.views id me.0 at in let w : V = loaded (found_by me.0.stage) me.0.view n in
       let held = knows_held r.turn r.holder r.state id me.0.stage (r.each_pass id me.0 at) in (
-        pass_view me.0.stage me.0.parts me.0.misses w,
+        pass_view me.0.stage me.0.parts me.0.tries me.0.misses w,
         keeps,
         tt,
         numbered s r n id me w some_parts at (asked r.state n (map view_of s.views) h there held),
@@ -264,7 +264,7 @@ module _ {S V : Type 0} (fact : S → ℕ → List V → Type 0) (spent : V) whe
       → Allows Rule slots id me 1 (λ n. min n k) (sunk fact lowered pass (step slots 1 k 0 none) me)
   sinks slots id me pass k lowered same some_parts asked s r _ at _ = let n : ℕ = get_or s.words 1 0 in let h = at_number s r in
       let there = at_map view_of s.views id me.0 at in let w : V = lowered me.0.view k in (
-        pass_view me.0.stage me.0.parts me.0.misses w,
+        pass_view me.0.stage me.0.parts me.0.tries me.0.misses w,
         keeps,
         tt,
         numbered s r (min n k) id me w some_parts at (asked r.state n (map view_of s.views) h there),
@@ -273,7 +273,7 @@ module _ {S V : Type 0} (fact : S → ℕ → List V → Type 0) (spent : V) whe
 
   pub commits : (slots id : ℕ) (me : Known S V) (x y : S) (w : V) (stage : Stage S) (next : Option V) → me.0.stage ≡ Holding x → 0 < me.0.parts → stage ≡ Holding y → next ≡ Some w → LeaveKeeps fact id me.0.view x y w
       → Allows Rule slots id me 1 (λ n. n) (committed stage next (step slots 1 0 0 none) me)
-  commits slots id me x y w stage next holds some_parts then is asked s r _ at _ = let n : ℕ = get_or s.words 1 0 in let d' : D = pass_view (Holding y) me.0.parts me.0.misses w in
+  commits slots id me x y w stage next holds some_parts then is asked s r _ at _ = let n : ℕ = get_or s.words 1 0 in let d' : D = pass_view (Holding y) me.0.parts me.0.tries me.0.misses w in
       let known = subst (λ (st : Stage S). Knows r.turn r.holder r.state id st) holds (r.each_pass id me.0 at) in
       let there = at_map view_of s.views id me.0 at in (
         d',
@@ -294,5 +294,5 @@ module _ {S V : Type 0} (fact : S → ℕ → List V → Type 0) (spent : V) whe
           no_parts = each_set (λ j d. d.parts ≡ 0 → d ≡ spent_pass spent) s.views id d' (λ z. absurd (omega arith)) (λ j d _ e. r.no_parts j d e);
           kept = subst (fact y n) (sym (map_set view_of s.views id d')) (asked n (map view_of s.views) (subst (λ (z : S). fact z n (map view_of s.views)) (sym known.2) (at_number s r)) there);
         },
-        (sym then, refl, refl, is, refl),
+        (sym then, refl, refl, refl, is, refl),
       )

@@ -40,6 +40,10 @@ module _ {R S V : Type 0} {g : Ghosts R S V} where
   abbrev pub parts : Pass R S V g → ℕ
   parts p = p.seat.me.0.parts
 
+  -- how many steps of the pass's own tried for the turn
+  abbrev pub tries : Pass R S V g → ℕ
+  tries p = p.seat.me.0.tries
+
   -- how often a step of the pass's own found the turn held
   abbrev pub misses : Pass R S V g → ℕ
   misses p = p.seat.me.0.misses

@@ -27,24 +27,26 @@ abbrev pub Known : Type 0 → Type 0 → Type 0
 Known S V = Me (Option S) (PassView S V)
 
 module _ {S V : Type 0} where
-  abbrev pub pass_view : Stage S → ℕ → ℕ → V → PassView S V
-  pass_view stage parts misses v =
-      record { stage = stage; parts = parts; misses = misses; view = v }
+  abbrev pub pass_view : Stage S → ℕ → ℕ → ℕ → V → PassView S V
+  pass_view stage parts tries misses v =
+      record { stage = stage; parts = parts; tries = tries; misses = misses; view = v }
 
   abbrev pub first_pass : V → PassView S V
-  first_pass v = pass_view Resting whole 0 v
+  first_pass v = pass_view Resting whole 0 0 v
 
   abbrev pub spent_pass : V → PassView S V
-  spent_pass v = pass_view Resting 0 0 v
+  spent_pass v = pass_view Resting 0 0 0 v
 
   abbrev pub kept_pass : (V → V) → PassView S V → PassView S V
-  kept_pass kept d = pass_view d.stage (d.parts - 1) d.misses (kept d.view)
+  kept_pass kept d = pass_view d.stage (d.parts - 1) d.tries d.misses (kept d.view)
 
   abbrev pub given_pass : (V → V) → PassView S V → PassView S V
-  given_pass given d = pass_view Resting 1 0 (given d.view)
+  given_pass given d = pass_view Resting 1 0 0 (given d.view)
 
   abbrev pub met_pass : (V → V → V) → PassView S V → PassView S V → PassView S V
-  met_pass met d e = pass_view d.stage (d.parts + e.parts) (d.misses + e.misses) (met d.view e.view)
+  met_pass met d e =
+      pass_view d.stage (d.parts + e.parts) (d.tries + e.tries) (d.misses + e.misses)
+      (met d.view e.view)
 
   abbrev pub view_of : PassView S V → V
   view_of d = d.view
@@ -71,17 +73,21 @@ module _ {S V : Type 0} where
         → d ≡ spent_pass spent
     pub kept : fact state number (map view_of s.views)
 
-  -- the pass has the turn and the state x, of which the fact holds
+  -- the pass counts a try. It has the turn and the state x, of which the fact holds
   abbrev pub Won : (S → ℕ → List V → Type 0) → ℕ → Known S V → S → Known S V → Type 0
   Won fact pass m x m' =
-      (m' ≡ (pass_view (Holding x) m.0.parts m.0.misses m.0.view, (0, Some x) ∷ m.1))
+      (m' ≡ (
+        pass_view (Holding x) m.0.parts (m.0.tries + 1) m.0.misses m.0.view,
+        (0, Some x) ∷ m.1,
+      ))
       × Stands fact pass m.0.view x
 
-  -- the pass counts a miss. It isn't the only one, and the fact holds of what the holder found
+  -- The pass counts a try and a miss. It isn't the only one, and the fact holds of what the holder
+  -- found.
   abbrev pub Missed : (S → ℕ → List V → Type 0) → ℕ → Known S V → Known S V → Type 0
   Missed fact pass m m' =
-      (m' ≡ (pass_view m.0.stage m.0.parts (m.0.misses + 1) m.0.view, m.1)) × (m.0.parts ≢ whole)
-      × ((x : S) × Stands fact pass m.0.view x)
+      (m' ≡ (pass_view m.0.stage m.0.parts (m.0.tries + 1) (m.0.misses + 1) m.0.view, m.1))
+      × (m.0.parts ≢ whole) × ((x : S) × Stands fact pass m.0.view x)
 
   -- a try for the turn, by what it found
   abbrev pub tried : (S → ℕ → List V → Type 0) → ℕ → Step (Option S) → Known S V → ℕ → Known S V
@@ -95,7 +101,7 @@ module _ {S V : Type 0} where
       → Known S V → ℕ → Known S V → Type 0
   read fact loaded pass st m n m' =
       (m' ≡ (
-        pass_view m.0.stage m.0.parts m.0.misses (loaded (found_by m.0.stage) m.0.view n),
+        pass_view m.0.stage m.0.parts m.0.tries m.0.misses (loaded (found_by m.0.stage) m.0.view n),
         m.1,
       )) × ((x : S) × StandsAt fact pass m.0.view x n × IsHeld (found_by m.0.stage) x)
 
@@ -104,17 +110,20 @@ module _ {S V : Type 0} where
   abbrev pub sunk : (S → ℕ → List V → Type 0) → (V → ℕ → V) → ℕ → Step (Option S) → Known S V → ℕ
       → Known S V → Type 0
   sunk fact lowered pass st m n m' =
-      (m' ≡ (pass_view m.0.stage m.0.parts m.0.misses (lowered m.0.view st.first), m.1))
+      (m' ≡ (
+        pass_view m.0.stage m.0.parts m.0.tries m.0.misses (lowered m.0.view st.first),
+        m.1,
+      ))
       × ((x : S) × StandsAt fact pass m.0.view x n)
 
   -- the store that leaves
   abbrev pub left : Option V → Step (Option S) → Known S V → ℕ → Known S V → Type 0
   left next st m n m' =
-      (m'.0.stage ≡ Resting) × (m'.0.parts ≡ m.0.parts) × (m'.0.misses ≡ m.0.misses)
-      × (next ≡ Some m'.0.view) × (m'.1 ≡ [])
+      (m'.0.stage ≡ Resting) × (m'.0.parts ≡ m.0.parts) × (m'.0.tries ≡ m.0.tries)
+      × (m'.0.misses ≡ m.0.misses) × (next ≡ Some m'.0.view) × (m'.1 ≡ [])
 
   -- the step at which what a holder did takes effect, while it keeps the turn
   abbrev pub committed : Stage S → Option V → Step (Option S) → Known S V → ℕ → Known S V → Type 0
   committed stage next st m n m' =
-      (m'.0.stage ≡ stage) × (m'.0.parts ≡ m.0.parts) × (m'.0.misses ≡ m.0.misses)
-      × (next ≡ Some m'.0.view) × (m'.1 ≡ m.1)
+      (m'.0.stage ≡ stage) × (m'.0.parts ≡ m.0.parts) × (m'.0.tries ≡ m.0.tries)
+      × (m'.0.misses ≡ m.0.misses) × (next ≡ Some m'.0.view) × (m'.1 ≡ m.1)

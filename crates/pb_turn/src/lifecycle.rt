@@ -1,7 +1,7 @@
 //! Making a lock, splitting and meeting passes, and taking the state out at the end.
 ghost use Rattle.std.specs.Prelude.{◌≡◌, ◌+◌, ◌<◌, [], ◌∷◌, Some, IfOk, IfErr};
 ghost use Rattle.pb_turn.specs.Obligations.{SplitKeeps, MeetKeeps, StandsAlone};
-ghost use Rattle.pb_turn.specs.Passes.{view, number, parts, misses, whole, IsResting, IsPassOf, IsSamePlace};
+ghost use Rattle.pb_turn.specs.Passes.{view, number, parts, tries, misses, whole, IsResting, IsPassOf, IsSamePlace};
 ghost use Rattle.pb_turn.specs.Passes as passes;
 
 use crate::lock::TurnLock;
@@ -23,7 +23,8 @@ impl<R: TurnRule> TurnLock<R> {
         requires rule { R.fact state number (R.first state ∷ []) }
         ensures ok { IfOk result (λ r. IsPassOf r.0 r.1 × IsResting r.1 × (view r.1 ≡ R.first state)
             × (parts r.1 ≡ whole)) }
-        ensures first { IfOk result (λ r. (passes.number r.1 ≡ 0) × (misses r.1 ≡ 0)) }
+        ensures first { IfOk result (λ r. (passes.number r.1 ≡ 0) × (tries r.1 ≡ 0)
+            × (misses r.1 ≡ 0)) }
         ensures err { IfErr result (λ r. r.1 ≡ state) }
     {
         let about = Snapshot::of(&state);
@@ -44,11 +45,13 @@ impl<R: TurnRule> TurnLock<R> {
         requires more { 1 < parts pass.old }
         requires rule { SplitKeeps R.fact (number pass.old) (view pass.old) (R.kept (view pass.old))
             (R.given (view pass.old)) }
-        ensures same { IsSamePlace pass.old pass.new × (misses pass.new ≡ misses pass.old) }
+        ensures same { IsSamePlace pass.old pass.new × (tries pass.new ≡ tries pass.old)
+            × (misses pass.new ≡ misses pass.old) }
         ensures kept { (view pass.new ≡ R.kept (view pass.old))
             × (parts pass.new + 1 ≡ parts pass.old) }
         ensures given { IsPassOf self.now result × IsResting result
-            × (view result ≡ R.given (view pass.old)) × (parts result ≡ 1) × (misses result ≡ 0) }
+            × (view result ≡ R.given (view pass.old)) × (parts result ≡ 1) × (tries result ≡ 0)
+            × (misses result ≡ 0) }
     {
         self.split_off(pass)
     }
@@ -61,6 +64,7 @@ impl<R: TurnRule> TurnLock<R> {
         requires rule { MeetKeeps R.fact (number pass.old) (view pass.old) (number other)
             (view other) (R.met (view pass.old) (view other)) R.spent }
         ensures same { IsSamePlace pass.old pass.new
+            × (tries pass.new ≡ tries pass.old + tries other)
             × (misses pass.new ≡ misses pass.old + misses other) }
         ensures met { (view pass.new ≡ R.met (view pass.old) (view other))
             × (parts pass.new ≡ parts pass.old + parts other) }

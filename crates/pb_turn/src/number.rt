@@ -1,7 +1,7 @@
 //! Reading the number, and lowering it.
 ghost use Rattle.std.specs.Prelude.{◌≡◌, ℕ};
 ghost use Rattle.pb_turn.specs.Obligations.{LoadKeeps, LowerKeeps, StandsAt, IsHeld};
-ghost use Rattle.pb_turn.specs.Passes.{view, parts, misses, held, IsPassOf, IsSamePlace};
+ghost use Rattle.pb_turn.specs.Passes.{view, parts, tries, misses, held, IsPassOf, IsSamePlace};
 ghost use Rattle.pb_turn.specs.Passes as passes;
 
 use crate::lock::TurnLock;
@@ -16,7 +16,7 @@ impl<R: TurnRule> TurnLock<R> {
         requires rule { LoadKeeps R.fact (passes.number pass.old) (view pass.old) (held pass.old)
             (R.loaded (held pass.old) (view pass.old)) }
         ensures same { IsSamePlace pass.old pass.new × (parts pass.new ≡ parts pass.old)
-            × (misses pass.new ≡ misses pass.old) }
+            × (tries pass.new ≡ tries pass.old) × (misses pass.new ≡ misses pass.old) }
         ensures view { view pass.new ≡ R.loaded (held pass.old) (view pass.old) result }
         ensures rule { (x : R.State) × StandsAt R.fact (passes.number pass.old) (view pass.old) x
             result × IsHeld (held pass.old) x }
@@ -31,7 +31,7 @@ impl<R: TurnRule> TurnLock<R> {
         requires rule { LowerKeeps R.fact (passes.number pass.old) (view pass.old) number
             (R.lowered (view pass.old) number) }
         ensures same { IsSamePlace pass.old pass.new × (parts pass.new ≡ parts pass.old)
-            × (misses pass.new ≡ misses pass.old) }
+            × (tries pass.new ≡ tries pass.old) × (misses pass.new ≡ misses pass.old) }
         ensures view { view pass.new ≡ R.lowered (view pass.old) number }
         ensures rule { (x : R.State) × (found : ℕ)
             × StandsAt R.fact (passes.number pass.old) (view pass.old) x found }

@@ -3,7 +3,7 @@
 //! these two.
 ghost use Rattle.std.specs.Prelude.{◌≡◌, ◌≢◌, ◌+◌, ◌<◌, ℕ, Some, MatchBool, ⊤};
 ghost use Rattle.pb_turn.specs.Obligations.{LeaveKeeps, LoadKeeps, LowerKeeps, SplitKeeps, MeetKeeps, Stands, StandsAt, IsHeld};
-ghost use Rattle.pb_turn.specs.Passes.{view, number, parts, misses, whole, held, found, state, IsResting, HoldsTurn, HasLaid, IsPassOf, IsSamePass, IsSamePlace};
+ghost use Rattle.pb_turn.specs.Passes.{view, number, parts, tries, misses, whole, held, found, state, IsResting, HoldsTurn, HasLaid, IsPassOf, IsSamePass, IsSamePlace};
 ghost use Rattle.pb_turn.specs.declared.table_rule.Stage.TheVariants.{Holding};
 
 use crate::lock::TurnLock;
@@ -18,11 +18,12 @@ use std::marker::Brand;
 use std::snapshot::Snapshot;
 
 impl<R: TurnRule> TurnLock<R> {
-    // Takes the turn if it is free, and says whether it did.
+    // Takes the turn if it is free, and says whether it did. Either way this is one try.
     pub(crate) fn try_turn(&self, pass: &mut Pass<R>) -> bool
         requires own { IsPassOf self.now pass.old }
         requires rests { IsResting pass.old }
         ensures same { IsSamePass pass.old pass.new × (view pass.new ≡ view pass.old) }
+        ensures tries { tries pass.new ≡ tries pass.old + 1 }
         ensures misses { MatchBool result (misses pass.new ≡ misses pass.old)
             (misses pass.new ≡ misses pass.old + 1) }
         ensures turn { MatchBool result ((x : R.State) × HasLaid pass.new x x
@@ -39,6 +40,7 @@ impl<R: TurnRule> TurnLock<R> {
         requires rests { IsResting pass.old }
         requires number { N.number ≡ number pass.old }
         ensures same { IsSamePass pass.old pass.new × (view pass.new ≡ view pass.old) }
+        ensures tries { tries pass.new ≡ tries pass.old + 1 }
         ensures misses { MatchBool result (misses pass.new ≡ misses pass.old)
             (misses pass.new ≡ misses pass.old + 1) }
         ensures turn { MatchBool result ((x : R.State) × HasLaid pass.new x x
@@ -57,7 +59,7 @@ impl<R: TurnRule> TurnLock<R> {
         requires own { IsPassOf self.now pass.old }
         requires laid { (x : R.State) × HasLaid pass.old x x }
         ensures same { IsSamePass pass.old pass.new × (view pass.new ≡ view pass.old)
-            × (misses pass.new ≡ misses pass.old) }
+            × (tries pass.new ≡ tries pass.old) × (misses pass.new ≡ misses pass.old) }
         ensures held { HasLaid pass.old (found result) (found result)
             × HoldsTurn pass.new (found result) × (state result ≡ found result) }
     {
@@ -73,7 +75,7 @@ impl<R: TurnRule> TurnLock<R> {
         requires own { IsPassOf self.now pass.old }
         requires holds { HoldsTurn pass.old found.now.value }
         ensures same { IsSamePass pass.old pass.new × (view pass.new ≡ view pass.old)
-            × (misses pass.new ≡ misses pass.old) }
+            × (tries pass.new ≡ tries pass.old) × (misses pass.new ≡ misses pass.old) }
         ensures laid { HasLaid pass.new found.now.value state }
     {
         let _ = found;
@@ -95,7 +97,7 @@ impl<R: TurnRule> TurnLock<R> {
         requires rule { LeaveKeeps R.fact (number pass.old) (view pass.old) found.now.value
             leaves.now.value (M.after said.now found.now.value leaves.now.value (view pass.old)) }
         ensures same { IsSamePass pass.old pass.new × IsResting pass.new
-            × (misses pass.new ≡ misses pass.old) }
+            × (tries pass.new ≡ tries pass.old) × (misses pass.new ≡ misses pass.old) }
         ensures view { view pass.new ≡ M.after said.now found.now.value leaves.now.value
             (view pass.old) }
     {
@@ -116,7 +118,7 @@ impl<R: TurnRule> TurnLock<R> {
             × LeaveKeeps R.fact (number pass.old) (view pass.old) found.now.value leaves.now.value
             w }
         ensures same { IsSamePass pass.old pass.new × IsResting pass.new
-            × (misses pass.new ≡ misses pass.old) }
+            × (tries pass.new ≡ tries pass.old) × (misses pass.new ≡ misses pass.old) }
         ensures view { N.next ≡ Some (view pass.new) }
     {
         let _ = found;
@@ -138,7 +140,8 @@ impl<R: TurnRule> TurnLock<R> {
         requires holds { HoldsTurn pass.old found.now.value }
         requires rule { LeaveKeeps R.fact (number pass.old) (view pass.old) found.now.value
             leaves.now.value (M.after said.now found.now.value leaves.now.value (view pass.old)) }
-        ensures same { IsSamePass pass.old pass.new × (misses pass.new ≡ misses pass.old) }
+        ensures same { IsSamePass pass.old pass.new × (tries pass.new ≡ tries pass.old)
+            × (misses pass.new ≡ misses pass.old) }
         ensures holds { HoldsTurn pass.new leaves.now.value }
         ensures view { view pass.new ≡ M.after said.now found.now.value leaves.now.value
             (view pass.old) }
@@ -160,7 +163,8 @@ impl<R: TurnRule> TurnLock<R> {
         requires rule { (w : R.View) × (N.next ≡ Some w)
             × LeaveKeeps R.fact (number pass.old) (view pass.old) found.now.value leaves.now.value
             w }
-        ensures same { IsSamePass pass.old pass.new × (misses pass.new ≡ misses pass.old) }
+        ensures same { IsSamePass pass.old pass.new × (tries pass.new ≡ tries pass.old)
+            × (misses pass.new ≡ misses pass.old) }
         ensures holds { HoldsTurn pass.new leaves.now.value }
         ensures view { N.next ≡ Some (view pass.new) }
     {
@@ -177,7 +181,7 @@ impl<R: TurnRule> TurnLock<R> {
         requires rule { LoadKeeps R.fact (number pass.old) (view pass.old) (held pass.old)
             (R.loaded (held pass.old) (view pass.old)) }
         ensures same { IsSamePlace pass.old pass.new × (parts pass.new ≡ parts pass.old)
-            × (misses pass.new ≡ misses pass.old) }
+            × (tries pass.new ≡ tries pass.old) × (misses pass.new ≡ misses pass.old) }
         ensures view { view pass.new ≡ R.loaded (held pass.old) (view pass.old) result }
         ensures rule { (x : R.State) × StandsAt R.fact (number pass.old) (view pass.old) x result
             × IsHeld (held pass.old) x }
@@ -192,7 +196,7 @@ impl<R: TurnRule> TurnLock<R> {
         requires rule { LoadKeeps R.fact (number pass.old) (view pass.old) (held pass.old)
             (R.loaded (held pass.old) (view pass.old)) }
         ensures same { IsSamePlace pass.old pass.new × (parts pass.new ≡ parts pass.old)
-            × (misses pass.new ≡ misses pass.old) }
+            × (tries pass.new ≡ tries pass.old) × (misses pass.new ≡ misses pass.old) }
         ensures view { view pass.new ≡ R.loaded (held pass.old) (view pass.old) result }
         ensures rule { (x : R.State) × StandsAt R.fact (number pass.old) (view pass.old) x result
             × IsHeld (held pass.old) x }
@@ -207,7 +211,7 @@ impl<R: TurnRule> TurnLock<R> {
         requires rule { LowerKeeps R.fact (number pass.old) (view pass.old) to
             (R.lowered (view pass.old) to) }
         ensures same { IsSamePlace pass.old pass.new × (parts pass.new ≡ parts pass.old)
-            × (misses pass.new ≡ misses pass.old) }
+            × (tries pass.new ≡ tries pass.old) × (misses pass.new ≡ misses pass.old) }
         ensures view { view pass.new ≡ R.lowered (view pass.old) to }
         ensures rule { (x : R.State) × (found : ℕ)
             × StandsAt R.fact (number pass.old) (view pass.old) x found }
@@ -222,7 +226,7 @@ impl<R: TurnRule> TurnLock<R> {
         requires rule { LowerKeeps R.fact (number pass.old) (view pass.old) to
             (R.lowered (view pass.old) to) }
         ensures same { IsSamePlace pass.old pass.new × (parts pass.new ≡ parts pass.old)
-            × (misses pass.new ≡ misses pass.old) }
+            × (tries pass.new ≡ tries pass.old) × (misses pass.new ≡ misses pass.old) }
         ensures view { view pass.new ≡ R.lowered (view pass.old) to }
         ensures rule { (x : R.State) × (found : ℕ)
             × StandsAt R.fact (number pass.old) (view pass.old) x found }
@@ -237,11 +241,13 @@ impl<R: TurnRule> TurnLock<R> {
         requires more { 1 < parts pass.old }
         requires rule { SplitKeeps R.fact (number pass.old) (view pass.old) (R.kept (view pass.old))
             (R.given (view pass.old)) }
-        ensures same { IsSamePlace pass.old pass.new × (misses pass.new ≡ misses pass.old) }
+        ensures same { IsSamePlace pass.old pass.new × (tries pass.new ≡ tries pass.old)
+            × (misses pass.new ≡ misses pass.old) }
         ensures kept { (view pass.new ≡ R.kept (view pass.old))
             × (parts pass.new + 1 ≡ parts pass.old) }
         ensures given { IsPassOf self.now result × IsResting result
-            × (view result ≡ R.given (view pass.old)) × (parts result ≡ 1) × (misses result ≡ 0) }
+            × (view result ≡ R.given (view pass.old)) × (parts result ≡ 1) × (tries result ≡ 0)
+            × (misses result ≡ 0) }
     {
         let shared = &self.table.shared;
         let seat = shared.split_seat::<SplitPass<R>>(&mut pass.seat);
@@ -255,6 +261,7 @@ impl<R: TurnRule> TurnLock<R> {
         requires rule { MeetKeeps R.fact (number pass.old) (view pass.old) (number other)
             (view other) (R.met (view pass.old) (view other)) R.spent }
         ensures same { IsSamePlace pass.old pass.new
+            × (tries pass.new ≡ tries pass.old + tries other)
             × (misses pass.new ≡ misses pass.old + misses other) }
         ensures met { (view pass.new ≡ R.met (view pass.old) (view other))
             × (parts pass.new ≡ parts pass.old + parts other) }

@@ -33,6 +33,8 @@ pub struct PassView<S, V> {
     pub stage: Stage<S>,
     /// The pass's parts of the right to close the lock.
     pub parts: u64,
+    /// How many steps of the pass's own tried for the turn.
+    pub tries: u64,
     /// How often a step of the pass's own found the turn held.
     pub misses: u64,
     /// What the caller's rule sees.

@@ -1,7 +1,7 @@
 //! Taking the turn, and leaving it.
 ghost use Rattle.std.specs.Prelude.{◌≡◌, ◌≢◌, ◌+◌, ◌≤◌, IfSome, IfNone};
 ghost use Rattle.pb_turn.specs.Obligations.{LeaveKeeps, Stands};
-ghost use Rattle.pb_turn.specs.Passes.{view, number, parts, misses, whole, found, state, IsResting, HoldsTurn, IsPassOf, IsSamePass};
+ghost use Rattle.pb_turn.specs.Passes.{view, number, parts, tries, misses, whole, found, state, IsResting, HoldsTurn, IsPassOf, IsSamePass};
 
 use crate::lock::TurnLock;
 use crate::pass::{Held, Pass};
@@ -24,13 +24,14 @@ fn pause(round: u32) {
 }
 
 impl<R: TurnRule> TurnLock<R> {
-    /// Tries once to take the turn, and never waits. None comes only if this call's own step found
-    /// the turn held by another pass; the pass then counts a miss, and is otherwise as before. A
-    /// pass that has all parts always gets the turn.
+    /// Tries once to take the turn, and never waits. The pass counts this one try. None comes only
+    /// if that one step found the turn held by another pass; the pass then counts a miss too, and
+    /// is otherwise as before. A pass that has all parts always gets the turn.
     pub fn try_enter(&self, pass: &mut Pass<R>) -> Option<Held<R>>
         requires own { IsPassOf self.now pass.old }
         requires rests { IsResting pass.old }
         ensures same { IsSamePass pass.old pass.new × (view pass.new ≡ view pass.old) }
+        ensures one_step { tries pass.new ≡ tries pass.old + 1 }
         ensures won { IfSome result (λ h. HoldsTurn pass.new (found h) × (state h ≡ found h)
             × (misses pass.new ≡ misses pass.old)) }
         ensures rule { IfSome result (λ h. Stands R.fact (number pass.old) (view pass.old)
@@ -47,7 +48,8 @@ impl<R: TurnRule> TurnLock<R> {
         Some(self.take_state(pass))
     }
 
-    /// Takes the turn, and sleeps while another pass holds it. It may wait for ever.
+    /// Takes the turn, and sleeps while another pass holds it. It may wait for ever. Each of its
+    /// tries but the last is a miss.
     pub fn enter<W: Wait>(&self, rt: &W, pass: &mut Pass<R>) -> Held<R>
         requires own { IsPassOf self.now pass.old }
         requires rests { IsResting pass.old }
@@ -55,6 +57,7 @@ impl<R: TurnRule> TurnLock<R> {
         ensures won { HoldsTurn pass.new (found result) × (state result ≡ found result) }
         ensures rule { Stands R.fact (number pass.old) (view pass.old) (found result) }
         ensures misses { misses pass.old ≤ misses pass.new }
+        ensures tries { tries pass.new + misses pass.old ≡ tries pass.old + misses pass.new + 1 }
     {
         for _ in rt.forever() {
             if let Some(held) = self.try_often(pass) {
@@ -74,8 +77,11 @@ impl<R: TurnRule> TurnLock<R> {
         ensures won { IfSome result (λ h. HoldsTurn pass.new (found h) × (state h ≡ found h)) }
         ensures rule { IfSome result (λ h. Stands R.fact (number pass.old) (view pass.old)
             (found h)) }
-        ensures lost { IfNone result (IsResting pass.new) }
+        ensures lost { IfNone result (IsResting pass.new
+            × (tries pass.new + misses pass.old ≡ tries pass.old + misses pass.new)) }
         ensures misses { misses pass.old ≤ misses pass.new }
+        ensures tries { IfSome result (λ _. tries pass.new + misses pass.old
+            ≡ tries pass.old + misses pass.new + 1) }
     {
         for round in 0..TRIES {
             if let Some(held) = self.try_enter(pass) {
@@ -95,7 +101,7 @@ impl<R: TurnRule> TurnLock<R> {
         requires rule { LeaveKeeps R.fact (number pass.old) (view pass.old) (found held)
             (state held) (M.after said.now (found held) (state held) (view pass.old)) }
         ensures same { IsSamePass pass.old pass.new × IsResting pass.new
-            × (misses pass.new ≡ misses pass.old) }
+            × (tries pass.new ≡ tries pass.old) × (misses pass.new ≡ misses pass.old) }
         ensures view { view pass.new ≡ M.after said.now (found held) (state held) (view pass.old) }
     {
         let Held { state, found } = held;
@@ -118,7 +124,8 @@ impl<R: TurnRule> TurnLock<R> {
         requires holds { HoldsTurn pass.old (found held) }
         requires rule { LeaveKeeps R.fact (number pass.old) (view pass.old) (found held)
             (state held) (M.after said.now (found held) (state held) (view pass.old)) }
-        ensures same { IsSamePass pass.old pass.new × (misses pass.new ≡ misses pass.old) }
+        ensures same { IsSamePass pass.old pass.new × (tries pass.new ≡ tries pass.old)
+            × (misses pass.new ≡ misses pass.old) }
         ensures holds { HoldsTurn pass.new (found result) }
         ensures state { (found result ≡ state held) × (state result ≡ state held) }
         ensures view { view pass.new ≡ M.after said.now (found held) (state held) (view pass.old) }
