@@ -1,5 +1,5 @@
 -- A row that is put into a list of entries.
-use Rattle.std.proofs.Common.{◌≡◌, ◌≤◌, ℕ, Bool, true, false, cond, Option, Some, List, [], ◌∷◌, refl, sym, ap, ◌∙◌, arith, nat_eq, nat_lt, if◌then◌else◌, is_some, true≢false}
+use Rattle.std.proofs.Common.{◌≡◌, ◌≤◌, ◌<◌, ℕ, zero, suc, length, Bool, true, false, cond, Option, Some, List, [], ◌∷◌, refl, sym, ap, ◌∙◌, arith, nat_eq, nat_lt, if◌then◌else◌, is_some, true≢false}
 use Rattle.std.proofs.lemmas.Bool.{ne_eqb}
 use Rattle.std.proofs.lemmas.Bool.Decides.{nat_tests}
 use Rattle.std.proofs.lemmas.Cmp.{nat_eq_equiv}
@@ -97,3 +97,9 @@ key_by_state state (entry ∷ entries) key found = at (nat_eq state entry.0) ref
         → (lookup_key (nat_eq state) entries ≡ Some key → state ≡ key) → state ≡ key
     at true e f next = let same : entry.0 ≡ key = cc in equal state entry.0 e ∙ same
     at false e f next = next f
+
+-- what stands at a place
+pub there_is : (entries : List (ℕ × Row)) (place : ℕ) → place < length entries → (state : ℕ) × (row : Row) × (slice_get entries place ≡ Some (state, row))
+there_is [] place less = absurd (omega (arith, less))
+there_is (entry ∷ entries) zero less = (entry.0, entry.1, refl)
+there_is (entry ∷ entries) (suc place) less = there_is entries place (omega (arith, less))

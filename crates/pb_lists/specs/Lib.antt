@@ -13,3 +13,4 @@ pub mod NarrowRow
 pub mod ListedRows
 pub mod Rows
 pub mod Store
+pub mod Reopened

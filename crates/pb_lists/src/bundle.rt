@@ -3,14 +3,16 @@ ghost use Rattle.std.specs.Map.{keys_of};
 ghost use Rattle.std.specs.List.{IsDistinct};
 ghost use Rattle.pb_model.specs.Key.{IsBest, IsFirstRow};
 ghost use Rattle.pb_model.specs.Store.{HasOpened};
-ghost use Rattle.pb_model.specs.Work.{offered_row};
+ghost use Rattle.pb_model.specs.Work.{offered_row, reopened_row};
 ghost use Rattle.pb_model.specs.declared.row.Status.TheVariants.{Opened, Closed, Cut};
 ghost use Rattle.indexmap.specs.IndexMap.{insert_entry};
 ghost use Rattle.pb_lists.specs.Bundle.{Content, row_in, row_of, put, SetsRow, SetsStatus, IsOpened};
 ghost use Rattle.pb_lists.specs.Offers.{offer_of};
 ghost use Rattle.pb_lists.specs.Fields.{is_opened};
+ghost use Rattle.pb_lists.specs.Reopened.{reopened, weight_in, bound_in, IsPreparedFrom};
 
 use crate::buckets::{Buckets, file, key_from, key_of, place_on_top, tidy};
+use crate::reopening::{OpenedSet, opened_again, reopen_rows};
 use crate::rows::Rows;
 use pb_model::{Estimate, Key, Row, Status};
 use pb_packed::Packed;
@@ -239,6 +241,41 @@ impl Bundle {
         ensures weight { self.new.weight ≡ self.old.weight }
     {
         self.settle(state, Status::Cut);
+    }
+
+    /// What the bundle needs to go on at the weight num / den, where `bound` is the incumbent of its
+    /// search: its rows that are Opened or will be, in the order of this weight. An error means
+    /// out of memory.
+    pub fn prepare(&self, num: u64, den: u64, bound: u64) -> Result<OpenedSet, AllocError>
+        requires positive { 1 ≤ den }
+        requires at_least_one { den ≤ num }
+        requires small { num ≤ 1000 }
+        ensures prepared { IfOk result (λ set. IsPreparedFrom self.now set) }
+        ensures weight { IfOk result (λ set. weight_in set ≡ record { num = num; den = den }) }
+        ensures bound { IfOk result (λ set. bound_in set ≡ bound) }
+    {
+        Ok(OpenedSet {
+            opened: opened_again(self.alloc, &self.rows, num, den, bound)?,
+            num,
+            den,
+            bound,
+        })
+    }
+
+    /// Goes on at the weight that the set was prepared for. Each Cut row that may not be cut at
+    /// this weight and under the set's incumbent is Opened again, and all else stays. It takes no
+    /// memory.
+    pub fn adopt(&mut self, set: OpenedSet)
+        requires { IsPreparedFrom self.old set }
+        ensures reopened { self.new ≡ reopened (weight_in set) (bound_in set) self.old }
+        ensures rows { (state : ℕ) → row_of self.new state
+            ≡ reopened_row (weight_in set) (Some (bound_in set)) (row_of self.old state) }
+        ensures weight { self.new.weight ≡ weight_in set }
+    {
+        reopen_rows(&mut self.rows, set.num, set.den, set.bound);
+        self.opened = set.opened;
+        self.num = set.num;
+        self.den = set.den;
     }
 
     // Adds an Opened row for a state that has none. Room is taken in the table, then the state

@@ -10,6 +10,7 @@ mod heap;
 mod laws;
 mod narrow_row;
 mod narrow_rows;
+mod reopening;
 mod rows;
 mod rules;
 mod store;
@@ -20,5 +21,6 @@ mod word_entry;
 
 pub use bundle::{Bundle, Offer};
 pub use laws::{entries_are_rows, keys_are_ordered};
+pub use reopening::OpenedSet;
 pub use rules::may_be_cut;
 pub use store::Store;

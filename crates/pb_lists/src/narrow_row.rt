@@ -83,6 +83,13 @@ impl<const W: usize> NarrowRow<W> {
         u64::from(self.g)
     }
 
+    // The g, the estimate and the status.
+    pub(crate) fn costs(&self) -> (u64, Estimate, Status)
+        ensures { result ≡ (self.now.g, self.now.estimate, self.now.status) }
+    {
+        (u64::from(self.g), self.estimate(), self.status)
+    }
+
     // The g and the estimate, if the row is Opened.
     pub(crate) fn opened(&self) -> Option<(u64, Estimate)>
         ensures { result ≡ opened_costs (Some self.now) }

@@ -135,6 +135,18 @@ impl<const W: usize> NarrowRows<W> {
         }
     }
 
+    // The g, the estimate and the status of the row that came after i others.
+    pub(crate) fn costs_at(&self, i: u64) -> (u64, Estimate, Status)
+        requires { i < length self.now.entries }
+        ensures { (state : ℕ) (row : _) → slice_get self.now.entries i ≡ Some (state, row)
+            → result ≡ (row.g, row.estimate, row.status) }
+    {
+        match self.rows.get_index(i as usize) {
+            Some(entry) => entry.1.costs(),
+            None => unreachable!(),
+        }
+    }
+
     // The place of a state's row, or None if it has none.
     pub(crate) fn place_of(&self, state: &Packed) -> Option<u64>
         ensures some { IfSome result (λ place. (row : _)

@@ -109,6 +109,20 @@ impl WideRows {
         }
     }
 
+    // The g, the estimate and the status of the row that came after i others.
+    #[inline(never)]
+    pub(crate) fn costs_at(&self, i: u64) -> (u64, Estimate, Status)
+        requires { i < length (wide_of self.now).entries }
+        ensures { (state : ℕ) (row : _) → slice_get (wide_of self.now).entries i ≡ Some (state, row)
+            → result ≡ (row.g, row.estimate, row.status) }
+    {
+        match self {
+            WideRows::Few(rows) => rows.costs_at(i),
+            WideRows::Many(rows) => rows.costs_at(i),
+            WideRows::Any(rows) => rows.costs_at(i),
+        }
+    }
+
     // The place of a state's row, or None if it has none.
     #[inline(never)]
     pub(crate) fn place_of(&self, state: &Packed) -> Option<u64>
