@@ -10,3 +10,4 @@ mod ByRows
 mod Opening
 mod Distinct
 mod Worked
+mod AllOpened

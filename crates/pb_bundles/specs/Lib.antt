@@ -10,3 +10,4 @@ pub mod Tree
 pub mod Lending
 pub mod Stores
 pub mod Laws
+pub mod Reopened

@@ -8,6 +8,7 @@ mod homes;
 mod laws;
 mod moves;
 mod parts;
+mod reopening;
 mod rooms;
 mod tree;
 mod winner;
