@@ -1,10 +1,12 @@
 -- Estimators by their choice.
-use Rattle.std.proofs.Common.{◌≡◌, ℕ, Option, None, Some, refl, sym, ap, ◌∙◌, subst}
+use Rattle.std.proofs.Common.{◌≡◌, ℕ, Option, None, Some, refl, sym, ap, subst}
 use Rattle.pb_task.specs.declared.parts.TaskParts.{TaskParts}
 use Rattle.pb_pattern.specs.Tables.{TableValue, IsOfTask as IsTableOf}
 use Rattle.pb_estimate.specs.declared.choice.Choice.{Choice}
 use Rattle.pb_estimate.specs.declared.choice.Choice.TheVariants.{Plain, Pattern}
 use Rattle.pb_estimate.specs.declared.estimator.Tables.{Tables}
+use Rattle.pb_estimate.specs.declared.action_index.ActionIndex.{ActionIndex}
+use Rattle.pb_estimate.specs.Indexed.{HasIndex}
 use Rattle.pb_estimate.specs.Tables.{EstimatorValue, AreOfTask, HasTable, IsOfTask}
 
 -- a table that the choice needs is of the task, and the choice is by its number
@@ -34,7 +36,16 @@ module _ (estimator : EstimatorValue) (task : TaskParts) (choice : Choice) (of_t
   pub is_plain : estimator.table ≡ None → choice ≡ Plain
   is_plain e = by_none task choice (subst (λ (t : Option TableValue). HasTable task choice t) e keeps_table)
 
-  -- only what the plain estimates need changes
-  pub stays : (plain : Tables) → AreOfTask plain task → IsOfTask (record { plain = plain; table = estimator.table }) task choice
+  pub keeps_index : HasIndex task estimator.index
   unfolding IsOfTask
-  stays plain are = (are, keeps_table)
+  keeps_index = of_task.2
+
+  -- only what the plain estimates need changes
+  pub stays : (plain : Tables) → AreOfTask plain task → IsOfTask (record { plain = plain; table = estimator.table; index = estimator.index }) task choice
+  unfolding IsOfTask
+  stays plain are = (are, keeps_table, keeps_index)
+
+  -- only the index changes
+  pub stays_indexed : (index : Option ActionIndex) → HasIndex task index → IsOfTask (record { plain = estimator.plain; table = estimator.table; index = index }) task choice
+  unfolding IsOfTask
+  stays_indexed index has = (keeps_plain, keeps_table, has)

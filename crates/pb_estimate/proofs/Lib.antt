@@ -21,4 +21,6 @@ mod Pieces
 mod Standing
 mod Underway
 mod Steps
+mod Marked
 mod Relaxing
+mod Indexing

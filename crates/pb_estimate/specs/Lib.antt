@@ -10,6 +10,7 @@ pub mod CostWords
 pub mod Exploring
 pub mod Merged
 pub mod Relaxed
+pub mod Indexed
 pub mod Tables
 pub mod Spelling
 pub mod Laws

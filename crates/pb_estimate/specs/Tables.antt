@@ -17,6 +17,8 @@ use Rattle.pb_estimate.specs.declared.merging.MergedAction.{MergedAction}
 use Rattle.pb_estimate.specs.Merged.{merged_at, StandFor}
 use Rattle.pb_estimate.specs.Relaxed.{RelaxedAction, relaxed_at}
 use Rattle.pb_estimate.specs.declared.relaxed.RelaxedTask.{RelaxedTask}
+use Rattle.pb_estimate.specs.declared.action_index.ActionIndex.{ActionIndex}
+use Rattle.pb_estimate.specs.Indexed.{HasIndex}
 use Rattle.pb_estimate.specs.declared.strips.Counters.{Counters}
 use Rattle.pb_estimate.specs.declared.estimator.Tables.{Tables}
 use Rattle.pb_estimate.specs.declared.estimator.Tables.TheVariants as tables
@@ -120,6 +122,7 @@ pub record AreCounters (strips : StripsParts) (counters : Counters) : Type 0 whe
 pub record EstimatorValue : Type 0 where
   pub plain : Tables  -- what the plain estimates need
   pub table : Option TableValue  -- the table of patterns, if the choice needs one
+  pub index : Option ActionIndex  -- the task's actions by the atoms that they need, if it has many
 
 -- what the plain estimates of this task need is kept
 unfoldable pub AreOfTask : Tables → TaskParts → Type 0
@@ -142,6 +145,7 @@ HasTable task (Pattern number) (Some table) =
 unfoldable pub IsOfTask : EstimatorValue → TaskParts → Choice → Type 0
 IsOfTask estimator task choice =
     AreOfTask estimator.plain task × HasTable task choice estimator.table
+    × HasIndex task estimator.index
 
 -- an estimator is of this task, by some choice
 abbrev pub IsOfSomeChoice : EstimatorValue → TaskParts → Type 0

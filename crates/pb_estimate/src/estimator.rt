@@ -1,15 +1,18 @@
-ghost use Rattle.std.specs.Prelude.{◌≡◌, true, IsTrue, IfOk};
+ghost use Rattle.std.specs.Prelude.{◌≡◌, ◌≤◌, true, IsTrue, IfOk, vec_capacity};
 ghost use Rattle.std.specs.Option.{option_map, option_copied};
 ghost use Rattle.std.specs.Arc.{arc_value};
-ghost use Rattle.pb_task.specs.Parts.{space_of};
+ghost use Rattle.pb_model.specs.Space.{steps};
+ghost use Rattle.pb_task.specs.Parts.{space_of, max_degree_of};
 ghost use Rattle.pb_pattern.specs.Tables.{IsOfTask as IsTableOf};
 ghost use Rattle.pb_estimate.specs.Estimates.{choice_with, estimate_by, estimate_of, greater, pattern_of, suits};
+ghost use Rattle.pb_estimate.specs.Indexed.{HasIndex};
 ghost use Rattle.pb_estimate.specs.Tables.{AreOfTask, HasTable, IsOfTask, IsOfSomeChoice};
 
+use crate::action_index::{ActionIndex, MANY_ACTIONS};
 use crate::choice::Choice;
 use crate::strips::Counters;
 use crate::{grid, strips, tiles};
-use pb_model::Estimate;
+use pb_model::{Estimate, Succ};
 use pb_packed::Packed;
 use pb_pattern::Table;
 use pb_task::{Task, TaskParts};
@@ -29,12 +32,14 @@ pub enum Tables {
     Strips(Counters),
 }
 
-/// Computes the estimates of one task's states by one choice. Contracts see what it keeps, and that
-/// it is of the task and the choice. A table of patterns is shared with other estimators.
+/// Computes the estimates of one task's states by one choice, and finds their successors. Contracts
+/// see what it keeps, and that it is of the task and the choice. A table of patterns is shared with
+/// other estimators.
 #[derive(Drop)]
 pub struct Estimator {
     plain: Tables,
     table: Option<Arc<Table>>,
+    index: Option<ActionIndex>,
 }
 
 impl Model for Estimator {
@@ -44,7 +49,11 @@ impl Model for Estimator {
 
     ghost Value = { EstimatorValue };
 
-    ghost view = { λ e. record { plain = e.plain; table = option_map arc_value e.table } };
+    ghost view = { λ e. record {
+      plain = e.plain;
+      table = option_map arc_value e.table;
+      index = e.index;
+    } };
 }
 
 impl Tables {
@@ -82,6 +91,18 @@ impl Tables {
     }
 }
 
+// The index of a task's actions, if the task has many.
+fn index_of(alloc: Global, task: &Task) -> Result<Option<ActionIndex>, AllocError>
+    ensures { IfOk result (HasIndex task.now) }
+{
+    match task.parts() {
+        TaskParts::Strips(parts) if MANY_ACTIONS <= parts.actions.len() => {
+            Ok(Some(ActionIndex::of(alloc, parts)?))
+        }
+        _ => Ok(None),
+    }
+}
+
 // The greater of two estimates, and Dead if one is.
 fn greater(one: Estimate, other: Estimate) -> Estimate
     ensures { result ≡ greater one other }
@@ -101,8 +122,13 @@ impl Estimator {
         ensures { IfOk result (λ estimator. IsOfTask estimator task.now choice.now) }
     {
         let plain = Tables::of(alloc, task)?;
+        let index = index_of(alloc, task)?;
         let table = choice.table(alloc, task)?;
-        Ok(Estimator { plain, table })
+        Ok(Estimator {
+            plain,
+            table,
+            index,
+        })
     }
 
     /// The estimator of a task that looks up this table of the task. It is the plain one if the
@@ -113,12 +139,17 @@ impl Estimator {
             (choice_with (arc_value table).pattern)) }
     {
         let plain = Tables::of(alloc, task)?;
+        let index = index_of(alloc, task)?;
         let table = if table.pattern() == 0 {
             None
         } else {
             Some(table)
         };
-        Ok(Estimator { plain, table })
+        Ok(Estimator {
+            plain,
+            table,
+            index,
+        })
     }
 
     /// The estimator of a task by a choice, with the table that the choice needs, if it needs one.
@@ -134,11 +165,16 @@ impl Estimator {
     {
         let _ = choice;
         let plain = Tables::of(alloc, task)?;
+        let index = index_of(alloc, task)?;
         let table = match table {
             Some(table) => Some(Arc::clone(table)?),
             None => None,
         };
-        Ok(Estimator { plain, table })
+        Ok(Estimator {
+            plain,
+            table,
+            index,
+        })
     }
 
     /// The number of the pattern that the estimates look up, and 0 if they look up none.
@@ -166,6 +202,25 @@ impl Estimator {
         match &self.table {
             None => plain,
             Some(table) => greater(plain, table.least(task, state)),
+        }
+    }
+
+    /// Replaces the list by all successors of a state of the estimator's own task, in order of the
+    /// actions. It takes no memory: the list has room for them. From some 500 actions of a STRIPS
+    /// task on, an action is looked at only if the state has the rarest of the atoms that it needs
+    /// (M. Helmert, "The Fast Downward planning system", 2006).
+    pub fn successors(&mut self, task: &Task, from: &Packed, out: &mut Vec<Succ>)
+        requires task { IsOfSomeChoice self.old task.now }
+        requires state { IsTrue ((space_of task.now).is_state from.now) }
+        requires room { max_degree_of task.now ≤ vec_capacity out.old }
+        ensures successors { out.new.items ≡ steps (space_of task.now) from.now }
+        ensures room { vec_capacity out.old ≤ vec_capacity out.new }
+        ensures task { (choice : _) → IsOfTask self.old task.now choice
+            → IsOfTask self.new task.now choice }
+    {
+        match (task.parts(), &mut self.index) {
+            (TaskParts::Strips(parts), Some(index)) => index.successors(task, parts, from, out),
+            _ => task.successors(from, out),
         }
     }
 }

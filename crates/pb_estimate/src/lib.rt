@@ -8,6 +8,7 @@
 //! pattern it is the greater of the plain estimate and the pattern value.
 #![tactic(auto)]
 
+mod action_index;
 mod atom_sets;
 mod choice;
 mod distance;
@@ -16,12 +17,14 @@ mod exploration;
 mod flat_lists;
 mod grid;
 mod laws;
+mod marks;
 mod merging;
 mod relaxed;
 mod spelling;
 mod strips;
 mod tiles;
 
+pub use action_index::ActionIndex;
 pub use choice::Choice;
 pub use estimator::{Estimator, Tables};
 pub use exploration::{AtomCost, CostWord, Exploration};

@@ -165,7 +165,7 @@ fn flat_lists(alloc: Global, lists: &[ActionList]) -> Result<FlatLists, AllocErr
 
 // For each atom the actions that need it, while more are added.
 #[derive(Drop)]
-struct Users {
+pub(crate) struct Users {
     lists: Vec<ActionList>,
 }
 
@@ -179,7 +179,7 @@ impl Model for Users {
 
 impl Users {
     // No action needs any of `count` atoms.
-    fn none(alloc: Global, count: u32) -> Result<Users, AllocError>
+    pub(crate) fn none(alloc: Global, count: u32) -> Result<Users, AllocError>
         ensures { IfOk result (λ users. users ≡ replicate count []) }
     {
         let mut lists = Vec::new(alloc);
@@ -203,8 +203,17 @@ impl Users {
         push_each(&mut self.lists, atoms, action)
     }
 
+    // An action needs this atom too.
+    pub(crate) fn push_one(&mut self, atom: u16, action: u16) -> Result<(), AllocError>
+        requires { atom < length self.old }
+        ensures { OnOk result (self.new
+            ≡ slice_set self.old atom (slice_index_or self.old atom [] ++ action ∷ [])) }
+    {
+        push_at(&mut self.lists, atom, action)
+    }
+
     // The same lists in one array.
-    fn flat(&self, alloc: Global) -> Result<FlatLists, AllocError>
+    pub(crate) fn flat(&self, alloc: Global) -> Result<FlatLists, AllocError>
         ensures { IfOk result (λ flat. flat ≡ self.now) }
     {
         flat_lists(alloc, self.lists.as_slice())

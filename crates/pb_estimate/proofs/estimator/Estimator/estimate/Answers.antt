@@ -45,6 +45,6 @@ returns-clause-task c choice of_task =
     let viewed = subst (λ (e : EstimatorValue). IsOfTask e c.args.task.now choice) (sym c.self.view_is) of_task in
     let kept = stays _ c.args.task.now choice viewed c.estimate-plain.new.self c.estimate-plain.ensures.task in
     elim c.match-self.branch [
-      | in-None w ↦ subst (λ (i : Inside). IsOfTask (record { plain = i.plain; table = option_map arc_value i.table }) c.args.task.now choice) (sym w.self-inside-is) kept
-      | in-Some w ↦ subst (λ (i : Inside). IsOfTask (record { plain = i.plain; table = option_map arc_value i.table }) c.args.task.now choice) (sym w.self-inside-is) kept
+      | in-None w ↦ subst (λ (i : Inside). IsOfTask (record { plain = i.plain; table = option_map arc_value i.table; index = i.index }) c.args.task.now choice) (sym w.self-inside-is) kept
+      | in-Some w ↦ subst (λ (i : Inside). IsOfTask (record { plain = i.plain; table = option_map arc_value i.table; index = i.index }) c.args.task.now choice) (sym w.self-inside-is) kept
     ]
