@@ -1,5 +1,5 @@
 //! Sending and taking.
-ghost use Rattle.std.specs.Prelude.{◌≡◌, ◌<◌, ◌↔◌, IsTrue, IsNone, IfSome, IfNone, IfErr, OnOk, OnErr};
+ghost use Rattle.std.specs.Prelude.{◌≡◌, ◌<◌, ◌↔◌, IsTrue, true, IsNone, IfSome, IfNone, IfErr, OnOk, OnErr};
 ghost use Rattle.pb_mail.specs.Views.{sent_view};
 ghost use Rattle.pb_mail.specs.Rule.{AreWhole, WasEmpty, HasMetAll};
 ghost use Rattle.pb_mail.specs.Passes.{IsPassOf, view_at, number_of, made_by, owners_of, ChangesAt, TakesFrom, KnowsTheSame};
@@ -7,7 +7,7 @@ ghost use Rattle.pb_mail.specs.Passes.{IsPassOf, view_at, number_of, made_by, ow
 use crate::letter::{Letter, Sent};
 use crate::pass::PostPass;
 use crate::post::Post;
-use crate::queue::{send, take};
+use crate::queue::{is_empty, send, take};
 use crate::rule::LetterRule;
 use std::alloc::AllocError;
 use std::sync::Wait;
@@ -57,6 +57,21 @@ impl<K: LetterRule> Post<K> {
         ensures empty { IfNone result (WasEmpty K.fits (view_at pass.old (number_of pass.old))) }
     {
         self.take_from(rt, pass, pass.number)
+    }
+
+    /// Whether its owner's queue was empty at one moment of the call. Nothing is taken. While others
+    /// send, the next `take` may find a letter all the same.
+    pub fn is_empty(&self, pass: &mut PostPass) -> bool
+        requires own { IsPassOf self.now pass.old }
+        ensures own { IsPassOf self.now pass.new }
+        ensures number { number_of pass.new ≡ number_of pass.old }
+        ensures made { made_by pass.new ≡ made_by pass.old }
+        ensures same { KnowsTheSame pass.old pass.new }
+        ensures none { result ≡ true → AreWhole (view_at pass.old (number_of pass.old)) }
+        ensures empty { result ≡ true → WasEmpty K.fits (view_at pass.old (number_of pass.old)) }
+    {
+        let at = pass.number as usize;
+        is_empty(&self.queues[at], &mut pass.queue_passes[at])
     }
 
     /// Takes the next letter from any owner's queue, after that owner's pass was met. None only if

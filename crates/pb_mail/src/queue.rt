@@ -1,5 +1,5 @@
 //! The calls on one queue.
-ghost use Rattle.std.specs.Prelude.{◌≡◌, ◌^◌, IsTrue, IfOk, IfSome, IfErr, OnOk, OnErr, IfNone};
+ghost use Rattle.std.specs.Prelude.{◌≡◌, ◌^◌, IsTrue, IfOk, IfSome, IfErr, OnOk, OnErr, IfNone, true};
 ghost use Rattle.crossbeam_queue.specs.SegTies.{IsSegPassOf};
 ghost use Rattle.pb_mail.specs.Views.{first_view, sent_view, with_one_more, next_view, without_role, next_reader, met_view};
 ghost use Rattle.pb_mail.specs.Rule.{IsTaken, AreWhole, WasEmpty};
@@ -56,6 +56,18 @@ pub fn take<K: LetterRule, R: Wait>(
     ensures empty { IfNone result (WasEmpty K.fits queue_pass.old.me.view.client) }
 {
     queue.pop_as::<Takes<K>, R>(rt, queue_pass)
+}
+
+pub fn is_empty<K: LetterRule>(queue: &Queue<K>, queue_pass: &mut QueuePass) -> bool
+    requires own { IsSegPassOf queue.now queue_pass.old }
+    requires live { IsTrue queue_pass.old.me.view.client.is_live }
+    requires takes { IsTrue queue_pass.old.me.view.client.takes }
+    ensures own { IsSegPassOf queue.now queue_pass.new }
+    ensures same { queue_pass.new.me.view.client ≡ queue_pass.old.me.view.client }
+    ensures none { result ≡ true → AreWhole queue_pass.old.me.view.client }
+    ensures empty { result ≡ true → WasEmpty K.fits queue_pass.old.me.view.client }
+{
+    queue.is_empty_as::<Takes<K>>(queue_pass)
 }
 
 pub fn split<K: LetterRule>(queue: &Queue<K>, queue_pass: &mut QueuePass) -> QueuePass
