@@ -9,7 +9,7 @@ ghost use Rattle.pb_check.specs.Faults.{Gives};
 ghost use Rattle.pb_check.specs.Judging.{checked};
 ghost use Rattle.pb_check.specs.Shown.{IsAccepted, ShowsClaim, VerdictHolds};
 
-use pb_check::{CheckError, Verdict, check, check_pieces, stated_choice};
+use pb_check::{CheckError, Verdict, check, check_pieces, piece_for, stated_choice};
 use pb_estimate::{Choice, Estimator};
 use pb_outside::Gate;
 use pb_task::Task;
@@ -39,16 +39,6 @@ fn estimators_for(
     Ok(estimators)
 }
 
-// How many rows a piece has, so that each worker gets at most one piece. No certificate has more
-// rows than lines.
-fn piece_for(text: &[u8], workers: u64) -> u64
-    requires { 1 ≤ workers }
-    ensures { 1 ≤ result }
-{
-    let lines = text.iter().filter(|byte| **byte == b'\n').count() as u64;
-    lines.div_ceil(workers).max(1)
-}
-
 /// The verdict on a certificate for the task, or its first fault: the same for each number of
 /// workers. One worker judges alone. Several judge a piece of the rows each, in threads of their
 /// own, and the gate is told of each piece.
@@ -73,7 +63,7 @@ pub fn verdict_by<R: Threads + Sync, G: Gate>(
         return check(alloc, task, &mut estimator, certificate);
     }
     let mut estimators = estimators_for(alloc, task, &choice, workers)?;
-    let piece = piece_for(certificate, workers);
+    let piece = piece_for(rt, certificate, workers);
     check_pieces(
         rt,
         alloc,

@@ -12,7 +12,7 @@ use Rattle.pb_check.specs.declared.fault.CheckError.TheVariants as errors
 use Rattle.pb_check.specs.declared.fault.Verdict.{Verdict}
 use Rattle.pb_check.specs.Faults.{◌>>=◌, Fails}
 use Rattle.pb_check.specs.Reading.{Text}
-use Rattle.pb_check.specs.Judging.{passes, unless, same_kind, width_fault, stated_fault, is_weight, plan_fault_if_any, rows_order_fault, first_fault_by, state_fault, row_fault, verdict_of, judged, judged_before}
+use Rattle.pb_check.specs.Judging.{passes, unless, same_kind, width_fault, stated_fault, is_weight, plan_fault_if_any, rows_order_fault, first_fault_by, state_fault, row_fault, verdict_of, start_judged, judged, judged_head, judged_before}
 
 -- a step before both is a step before the first
 over : (step first : Result Bool CertificateFault) (then whole : Result Verdict CertificateFault) → whole ≡ (first >>= λ x. then) → (step >>= λ x. whole) ≡ ((step >>= λ x. first) >>= λ x. then)
@@ -28,17 +28,31 @@ rows_judged parts text =
 abbrev pub after_before : TaskParts → Text → Result Verdict CertificateFault
 after_before parts text = rows_judged parts text >>= λ rows. Ok (verdict_of text.certificate.weight text.certificate.plan)
 
+-- what is judged behind the plan
+abbrev after_head : TaskParts → Text → Result Verdict CertificateFault
+after_head parts text =
+    passes (rows_order_fault text.first text.certificate.lines)
+    >>= λ orders. passes (first_fault_by (state_fault (space_of parts)) text.first text.certificate.lines)
+    >>= λ states. start_judged parts text.certificate.lines
+    >>= λ starts. after_before parts text
+
+head_first : (parts : TaskParts) (text : Text) → judged parts text ≡ (judged_head parts text >>= λ head. after_head parts text)
+unfolding judged judged_head
+head_first parts text =
+    let then = after_head parts text in
+    over (passes (unless (same_kind (kind_of parts) text.spelling.kind) faults.Kind)) _ then _
+    (over (passes (width_fault parts text.spelling.version text.spelling.width)) _ then _
+    (over (passes (stated_fault parts text.spelling.stated)) _ then _
+    (over (passes (unless (is_weight text.certificate.weight) faults.Weight)) _ then _ refl)))
+
 pub judged_is : (parts : TaskParts) (text : Text) → judged parts text ≡ (judged_before parts text >>= λ before. after_before parts text)
 unfolding judged judged_before
 judged_is parts text =
     let then = after_before parts text in
-    over (passes (unless (same_kind (kind_of parts) text.spelling.kind) faults.Kind)) _ then _
-    (over (passes (width_fault parts text.spelling.version text.spelling.width)) _ then _
-    (over (passes (stated_fault parts text.spelling.stated)) _ then _
-    (over (passes (unless (is_weight text.certificate.weight) faults.Weight)) _ then _
-    (over (plan_fault_if_any (space_of parts) text.certificate.plan) _ then _
+    head_first parts text
+    ∙ over (judged_head parts text) _ then _
     (over (passes (rows_order_fault text.first text.certificate.lines)) _ then _
-    (over (passes (first_fault_by (state_fault (space_of parts)) text.first text.certificate.lines)) _ then _ refl))))))
+    (over (passes (first_fault_by (state_fault (space_of parts)) text.first text.certificate.lines)) _ then _ refl))
 
 -- what fails before the rows fails
 pub before_fails : (e : CheckError) (parts : TaskParts) (text : Text) → Fails e (judged_before parts text) → Fails e (judged parts text)

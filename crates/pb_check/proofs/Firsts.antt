@@ -3,7 +3,7 @@ use Rattle.std.proofs.Common.{◌≡◌, ℕ, zero, suc, ◌+◌, ◌<◌, ◌�
 use Rattle.std.specs.List.{slice_get}
 use Rattle.std.proofs.lemmas.Bool.{ltb-true, ltb-false}
 use Rattle.std.specs.Option.{is_some}
-use Rattle.pb_check.specs.declared.pieces.Found.{Found}
+use Rattle.pb_check.specs.declared.found.Found.{Found}
 use Rattle.pb_model.specs.Space.{Space}
 use Rattle.pb_model.specs.Certificate.{Line}
 use Rattle.pb_check.specs.declared.fault.CertificateFault.{CertificateFault}

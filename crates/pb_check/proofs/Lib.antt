@@ -18,6 +18,7 @@ mod Claims
 mod Known
 mod Before
 mod Firsts
+mod RowTests
 mod Shares
 mod FirstLines
 mod FirstUnspelled

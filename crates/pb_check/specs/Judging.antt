@@ -199,17 +199,27 @@ judged parts text = do
       (cost_of text.certificate.plan) text.certificate.lines) text.first text.certificate.lines)
   Ok (verdict_of text.certificate.weight text.certificate.plan)
 
--- all that is judged before the rows are, in the same order
-unfoldable pub judged_before : TaskParts → Text → Result Bool CertificateFault
-judged_before parts text = do
+-- all that is judged before any row is looked at, in the same order
+unfoldable pub judged_head : TaskParts → Text → Result Bool CertificateFault
+judged_head parts text = do
   kinds ← passes (unless (same_kind (kind_of parts) text.spelling.kind) faults.Kind)
   widths ← passes (width_fault parts text.spelling.version text.spelling.width)
   stated ← passes (stated_fault parts text.spelling.stated)
   weights ← passes (unless (is_weight text.certificate.weight) faults.Weight)
-  plans ← plan_fault_if_any (space_of parts) text.certificate.plan
+  plan_fault_if_any (space_of parts) text.certificate.plan
+
+-- whether the start has a row whose g is 0
+abbrev pub start_judged : TaskParts → List Line → Result Bool CertificateFault
+start_judged parts rows =
+    passes (unless (is_zero (g_of rows (space_of parts).start)) faults.NoStart)
+
+-- all that is judged before the rows themselves are, in the same order
+unfoldable pub judged_before : TaskParts → Text → Result Bool CertificateFault
+judged_before parts text = do
+  head ← judged_head parts text
   orders ← passes (rows_order_fault text.first text.certificate.lines)
   states ← passes (first_fault_by (state_fault (space_of parts)) text.first text.certificate.lines)
-  passes (unless (is_zero (g_of text.certificate.lines (space_of parts).start)) faults.NoStart)
+  start_judged parts text.certificate.lines
 
 -- the verdict on the bytes as a certificate of this task, or their first fault
 unfoldable pub checked : TaskParts → (bytes : List ℕ) → Result Verdict CertificateFault

@@ -14,5 +14,6 @@ pub mod Judging
 pub mod Fronts
 pub mod Kept
 pub mod Pieces
+pub mod PlanLines
 pub mod Shown
 pub mod Cases

@@ -1,5 +1,5 @@
 -- Rows that are judged in pieces by several workers at once.
-use Rattle.std.specs.Prelude.{◌≡◌, ℕ, ◌+◌, ◌*◌, ◌<◌, ◌≤◌, List, Option, None, Some, if◌then◌else◌, nat_lt, slice_get}
+use Rattle.std.specs.Prelude.{◌≡◌, ℕ, zero, suc, ◌+◌, ◌*◌, ◌<◌, ◌≤◌, List, Option, None, Some, if◌then◌else◌, nat_lt, slice_get}
 use Rattle.pb_model.specs.Weight.{Weight}
 use Rattle.pb_model.specs.Certificate.{Line}
 use Rattle.pb_task.specs.declared.parts.TaskParts.{TaskParts}
@@ -7,8 +7,12 @@ use Rattle.pb_task.specs.Parts.{space_of}
 use Rattle.pb_estimate.specs.declared.choice.Choice.{Choice}
 use Rattle.pb_estimate.specs.Estimates.{estimate_by}
 use Rattle.pb_check.specs.declared.fault.CertificateFault.{CertificateFault}
-use Rattle.pb_check.specs.declared.pieces.Found.{Found}
-use Rattle.pb_check.specs.Judging.{row_fault}
+use Rattle.pb_check.specs.declared.found.Found.{Found}
+use Rattle.pb_check.specs.declared.fault.CertificateFault.TheVariants as faults
+use Rattle.pb_check.specs.declared.row_tests.RowTest.{RowTest}
+use Rattle.pb_check.specs.declared.row_tests.RowTest.TheVariants.{Order, State}
+use Rattle.pb_check.specs.Rows.{rises_at}
+use Rattle.pb_check.specs.Judging.{unless, rows_order_fault, first_fault_by, state_fault, row_fault}
 
 -- a place, and the fault of the row there
 abbrev pub FaultPlace : Type 0
@@ -44,6 +48,28 @@ abbrev pub row_fault_at : TaskParts → Choice → Weight → (best : Option ℕ
     → List Line → (place : ℕ) → Option CertificateFault
 row_fault_at parts choice weight best line rows =
     fault_at (row_fault (space_of parts) (estimate_by parts choice) weight best rows) line rows
+
+-- the fault of the row in a place if its state is not above that of the row before it
+abbrev pub order_fault_at : (line : ℕ) → List Line → (place : ℕ) → Option CertificateFault
+order_fault_at line rows zero = None
+order_fault_at line rows (suc place) =
+    unless (rises_at rows place) (faults.RowOrder (line + suc place))
+
+-- the fault of the row in a place if its state is none of the task
+abbrev pub state_fault_at : TaskParts → (line : ℕ) → List Line → (place : ℕ)
+    → Option CertificateFault
+state_fault_at parts line rows = fault_at (state_fault (space_of parts)) line rows
+
+-- the fault of the row in a place by a test
+abbrev pub tested_at : RowTest → TaskParts → (line : ℕ) → List Line → (place : ℕ)
+    → Option CertificateFault
+tested_at Order parts line rows place = order_fault_at line rows place
+tested_at State parts line rows place = state_fault_at parts line rows place
+
+-- the first fault of all rows by a test
+abbrev pub first_tested : RowTest → TaskParts → (line : ℕ) → List Line → Option CertificateFault
+first_tested Order parts line rows = rows_order_fault line rows
+first_tested State parts line rows = first_fault_by (state_fault (space_of parts)) line rows
 
 abbrev pub fault_of : Option FaultPlace → Option CertificateFault
 fault_of None = None

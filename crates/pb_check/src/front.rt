@@ -95,25 +95,33 @@ fn states_of(width: u32) -> usize {
     }
 }
 
-// How many line feeds a text has.
-fn count_feeds(text: &[u8]) -> usize {
-    let mut count = 0;
-    for i in 0..text.len() {
-        if text[i] == b'\n' {
-            count += 1;
-        }
+/// How many line feeds a text has. They are counted in parts whose numbers fit a byte, since many
+/// bytes are then compared and added at once.
+pub fn count_feeds(text: &[u8]) -> usize {
+    let mut count: usize = 0;
+    for part in text.chunks(128) {
+        count = count.saturating_add(usize::from(count_few_feeds(part)));
     }
     count
 }
 
-/// Room for the rows of a text that are kept. A row's line has a line feed, and at least seven
-/// bytes besides its state's digits. Of the rows that rise each has a state of its own, and one more
-/// row is kept.
-pub fn room_for(width: u32, text: &[u8]) -> usize
+// How many line feeds a text of fewer than 256 bytes has.
+fn count_few_feeds(text: &[u8]) -> u8 {
+    let mut count: u8 = 0;
+    for byte in text {
+        count = count.wrapping_add(u8::from(*byte == b'\n'));
+    }
+    count
+}
+
+/// Room for the rows of a text that are kept, by the text's line feeds. A row's line has a line
+/// feed, and at least seven bytes besides its state's digits. Of the rows that rise each has a
+/// state of its own, and one more row is kept.
+pub fn room_by(feeds: usize, width: u32, text: &[u8]) -> usize
     requires { width ≤ most_digits }
 {
     let least = width as usize + 7;
-    count_feeds(text)
+    feeds
         .min(text.len() / least)
         .min(states_of(width).saturating_add(1))
 }

@@ -7,7 +7,7 @@ ghost use Rattle.pb_estimate.specs.Estimates.{estimate_by, suits};
 ghost use Rattle.pb_estimate.specs.Tables.{IsOfTask};
 ghost use Rattle.pb_check.specs.Faults.{Gives};
 ghost use Rattle.pb_check.specs.Reading.{suiting};
-ghost use Rattle.pb_check.specs.Judging.{passes, unless, same_kind, width_fault, stated_fault, is_weight, rows_order_fault, first_fault_by, state_fault, g_of, is_zero, row_fault, bound_of, verdict_of, judged, judged_before, Rise};
+ghost use Rattle.pb_check.specs.Judging.{passes, unless, same_kind, width_fault, stated_fault, is_weight, rows_order_fault, first_fault_by, state_fault, g_of, is_zero, row_fault, bound_of, verdict_of, start_judged, judged, judged_head, judged_before, Rise};
 
 use crate::fault::{CertificateFault, CheckError, Claim, Verdict};
 use crate::passing::{need, pass, unless};
@@ -71,7 +71,7 @@ fn bound_of(weight: &StatedWeight, cost: u64) -> u64
     least as u64
 }
 
-pub(crate) fn verdict_of(weight: &StatedWeight, plan: &Option<StatedPlan>) -> Claim
+pub(crate) fn verdict_of(weight: &StatedWeight, plan: &Option<StatedPlan<'_>>) -> Claim
     requires { is_weight (record { num = weight.now.num; den = weight.now.den }) ≡ true }
     ensures { result ≡ verdict_of (record { num = weight.now.num; den = weight.now.den }) plan.now }
 {
@@ -100,7 +100,7 @@ fn need_rows(
     estimator: &mut Estimator,
     choice: &Choice,
     weight: &StatedWeight,
-    plan: &Option<StatedPlan>,
+    plan: &Option<StatedPlan<'_>>,
     rows: &StatedRows,
     line: u64,
 ) -> Result<bool, CheckError>
@@ -131,9 +131,42 @@ fn need_rows(
     pass(fault)
 }
 
-/// All that is judged before the rows themselves, in one order.
+/// All that is judged before any row is looked at, in one order.
+#[tactic(auto, unfolding(crate::specs::Judging::judged_head))]
+pub fn judge_head(task: &Task, text: &StatedText<'_>) -> Result<bool, CheckError>
+    ensures gives { Gives (λ x. x) result (judged_head task.now text.now) }
+    ensures lawful { IsTask task.now }
+    ensures suits { IfOk result (λ x. suits task.now text.now.spelling.stated.choice ≡ true) }
+    ensures weight { IfOk result (λ x. is_weight text.now.certificate.weight ≡ true) }
+{
+    // the walk of a plan asks for a lawful task, as its parts are
+    let _ = task.parts();
+    let stated = &text.spelling.stated;
+    let weight = &text.weight;
+    need(
+        same_kind(task.kind(), text.spelling.kind),
+        CertificateFault::Kind,
+    )?;
+    pass(width_fault(task, text.spelling.version, text.spelling.width))?;
+    pass(stated_fault(task, stated))?;
+    need(is_weight(weight), CertificateFault::Weight)?;
+    judge_plan_if_any(task, &text.plan)
+}
+
+/// Goes on only if the start has a row whose g is 0.
+pub fn need_start(task: &Task, rows: &StatedRows) -> Result<bool, CheckError>
+    requires { Rise rows.now }
+    ensures { Gives (λ x. x) result (start_judged task.now rows.now) }
+{
+    need(
+        is_zero(rows.g_of(&task.initial(), &mut 0)),
+        CertificateFault::NoStart,
+    )
+}
+
+// All that is judged before the rows themselves, in one order.
 #[tactic(auto, unfolding(crate::specs::Judging::judged_before))]
-pub fn judge_before(task: &Task, text: &StatedText) -> Result<bool, CheckError>
+fn judge_before(task: &Task, text: &StatedText<'_>) -> Result<bool, CheckError>
     requires lines { text.now.first + length text.now.certificate.lines < 2 ^ 64 }
     ensures gives { Gives (λ x. x) result (judged_before task.now text.now) }
     ensures lawful { IsTask task.now }
@@ -143,25 +176,12 @@ pub fn judge_before(task: &Task, text: &StatedText) -> Result<bool, CheckError>
     ensures states { IfOk result (λ x. first_fault_by (state_fault (space_of task.now))
         text.now.first text.now.certificate.lines ≡ None) }
 {
-    let start = task.initial();
-    let stated = &text.spelling.stated;
-    let weight = &text.weight;
     let rows = &text.rows;
     let first = text.first;
-    need(
-        same_kind(task.kind(), text.spelling.kind),
-        CertificateFault::Kind,
-    )?;
-    pass(width_fault(task, text.spelling.version, text.spelling.width))?;
-    pass(stated_fault(task, stated))?;
-    need(is_weight(weight), CertificateFault::Weight)?;
-    judge_plan_if_any(task, &text.plan)?;
+    judge_head(task, text)?;
     pass(rows_order_fault(first, rows))?;
     pass(states_fault(task, first, rows))?;
-    need(
-        is_zero(rows.g_of(&start, &mut 0)),
-        CertificateFault::NoStart,
-    )
+    need_start(task, rows)
 }
 
 /// The verdict on what a text says, or its first fault. The estimator is by the choice that the
@@ -170,7 +190,7 @@ pub fn judge(
     alloc: Global,
     task: &Task,
     estimator: &mut Estimator,
-    text: &StatedText,
+    text: &StatedText<'_>,
 ) -> Result<Verdict, CheckError>
     requires task { IsOfTask estimator.old task.now
         (suiting text.now.spelling.stated.choice) }

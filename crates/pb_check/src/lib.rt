@@ -5,8 +5,10 @@
 //! closed row.
 #![tactic(auto)]
 
+mod actions;
 mod checker;
 mod fault;
+mod found;
 mod front;
 mod front_shares;
 mod heads;
@@ -21,12 +23,14 @@ mod plans;
 mod reading;
 mod row_faults;
 mod row_lines;
+mod row_tests;
 mod rows;
 mod stated;
 mod words;
 
 pub use checker::check;
 pub use fault::{CertificateFault, CheckError, Claim, Verdict};
+pub use front_shares::piece_for;
 pub use heads::stated_choice;
 pub use laws::{
     bounds_are_least, cases_are_refused, cut_certificates_are_refused, read_as_spelled,

@@ -10,16 +10,18 @@ ghost use Rattle.pb_check.specs.declared.fault.Verdict.{Verdict};
 ghost use Rattle.pb_check.specs.declared.fault.CertificateFault.TheVariants.{Syntax};
 ghost use Rattle.pb_check.specs.Faults.{Gives};
 ghost use Rattle.pb_check.specs.Reading.{stated_choice, suiting};
-ghost use Rattle.pb_check.specs.Judging.{passes, is_weight, state_fault, row_fault, first_fault_by, judged, checked, Rise};
+ghost use Rattle.pb_check.specs.Judging.{passes, is_weight, state_fault, row_fault, first_fault_by, judged, judged_before, checked, Rise};
 ghost use Rattle.pb_check.specs.Shown.{IsAccepted, IsCutOff, ShowsClaim, VerdictHolds};
-ghost use Rattle.pb_check.specs.Pieces.{IsFirstIn, earlier, row_fault_at, found_of, IsBetween, IsOfWorkers};
+ghost use Rattle.pb_check.specs.Pieces.{IsFirstIn, row_fault_at, found_of, IsBetween, IsOfWorkers};
 
 use crate::fault::{CertificateFault, CheckError, Verdict};
+use crate::found::{Found, earlier};
 use crate::front_shares::text_by_shares;
-use crate::judging::{judge_before, verdict_of};
+use crate::judging::{judge_head, need_start, verdict_of};
 use crate::passing::pass;
 use crate::plans::cost_of;
 use crate::row_faults::row_fault;
+use crate::row_tests::{order_fault_by_shares, states_fault_by_shares};
 use crate::rows::StatedRows;
 use crate::stated::{StatedPlan, StatedText, StatedWeight};
 use pb_estimate::{Choice, Estimator};
@@ -27,30 +29,6 @@ use pb_outside::Gate;
 use pb_task::Task;
 use std::alloc::{AllocError, Global};
 use std::thread::{Threads, join_mut};
-
-/// A place among the rows, and the fault of the row there.
-#[derive(Clone, Copy)]
-pub struct Found {
-    pub place: u64,
-    pub fault: CertificateFault,
-}
-
-// The earlier of two places.
-fn earlier(one: Option<Found>, other: Option<Found>) -> Option<Found>
-    ensures { found_of result ≡ earlier (found_of one) (found_of other) }
-{
-    match (one, other) {
-        (None, other) => other,
-        (Some(one), None) => Some(one),
-        (Some(one), Some(other)) => {
-            if other.place < one.place {
-                Some(other)
-            } else {
-                Some(one)
-            }
-        }
-    }
-}
 
 // The first fault of the rows from one place to another, each judged against all rows.
 fn judge_piece(
@@ -307,7 +285,7 @@ fn need_rows<R: Threads + Sync, G: Gate>(
     estimators: &mut [Estimator],
     choice: &Choice,
     weight: &StatedWeight,
-    plan: &Option<StatedPlan>,
+    plan: &Option<StatedPlan<'_>>,
     rows: &StatedRows,
     line: u64,
     piece: u64,
@@ -333,6 +311,32 @@ fn need_rows<R: Threads + Sync, G: Gate>(
     pass(fault)
 }
 
+// All that is judged before the rows themselves, in one order. The order of the rows and their
+// states are tested by so many workers.
+#[tactic(auto, unfolding(crate::specs::Judging::judged_before))]
+fn judge_before<R: Threads + Sync>(
+    rt: &R,
+    task: &Task,
+    text: &StatedText<'_>,
+    workers: u64,
+) -> Result<bool, CheckError>
+    requires lines { text.now.first + length text.now.certificate.lines < 2 ^ 64 }
+    ensures gives { Gives (λ x. x) result (judged_before task.now text.now) }
+    ensures lawful { IsTask task.now }
+    ensures suits { IfOk result (λ x. suits task.now text.now.spelling.stated.choice ≡ true) }
+    ensures weight { IfOk result (λ x. is_weight text.now.certificate.weight ≡ true) }
+    ensures rise { IfOk result (λ x. Rise text.now.certificate.lines) }
+    ensures states { IfOk result (λ x. first_fault_by (state_fault (space_of task.now))
+        text.now.first text.now.certificate.lines ≡ None) }
+{
+    let rows = &text.rows;
+    let first = text.first;
+    judge_head(task, text)?;
+    pass(order_fault_by_shares(rt, task, first, rows, workers))?;
+    pass(states_fault_by_shares(rt, task, first, rows, workers))?;
+    need_start(task, rows)
+}
+
 // The verdict on what a text says, or its first fault.
 fn judge<R: Threads + Sync, G: Gate>(
     rt: &R,
@@ -340,7 +344,7 @@ fn judge<R: Threads + Sync, G: Gate>(
     gate: &G,
     task: &Task,
     estimators: &mut [Estimator],
-    text: &StatedText,
+    text: &StatedText<'_>,
     piece: u64,
 ) -> Result<Verdict, CheckError>
     requires some { 1 ≤ length estimators.old }
@@ -353,7 +357,7 @@ fn judge<R: Threads + Sync, G: Gate>(
     ensures task { All (λ e. IsOfTask e task.now (suiting text.now.spelling.stated.choice))
         estimators.new }
 {
-    judge_before(task, text)?;
+    judge_before(rt, task, text, estimators.len() as u64)?;
     need_rows(
         rt,
         alloc,

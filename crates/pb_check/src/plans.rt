@@ -1,11 +1,14 @@
 //! The plan of a certificate: its walk, its goal and its cost.
-ghost use Rattle.std.specs.Prelude.{◌≡◌, ◌≤◌, ◌+◌, ◌<◌, IsTrue, true, None, Some, IfSome, Option};
+ghost use Rattle.std.specs.Prelude.{◌≡◌, ◌≤◌, ◌+◌, ◌<◌, ◌^◌, IsTrue, true, None, Some, IfSome, Option};
 ghost use Rattle.pb_model.specs.Certificate.{cost_of};
 ghost use Rattle.pb_task.specs.Parts.{space_of, IsTask, greatest_cost};
 ghost use Rattle.pb_check.specs.Faults.{Gives};
+ghost use Rattle.pb_check.specs.PlanLines.{actions_in, AreActions};
 ghost use Rattle.pb_check.specs.Judging.{walk, plan_fault, plan_fault_if_any};
 
+use crate::actions::StatedActions;
 use crate::fault::{CertificateFault, CheckError};
+use crate::line::number_at;
 use crate::passing::need;
 use crate::stated::StatedPlan;
 use pb_packed::Packed;
@@ -28,28 +31,42 @@ fn step(task: &Task, from: &Packed, action: u64) -> Option<(Packed, u64)>
     }
 }
 
-// Where the actions lead, and at what cost, or the first that is not applicable.
-fn walk(task: &Task, actions: &[u64]) -> Result<(Packed, u128), CheckError>
+// Where the actions of so many lines lead, and at what cost, or the first that is not applicable.
+fn walk_lines(task: &Task, count: u64, line: u64, text: &[u8]) -> Result<(Packed, u128), CheckError>
     requires lawful { IsTask task.now }
+    requires actions { AreActions count line text.now }
+    requires lines { line + count < 2 ^ 64 }
     ensures { Gives (λ x. x) result (walk (space_of task.now) (space_of task.now).start 0 0
-        actions.now) }
+        (actions_in count line text.now)) }
 {
     let mut at = task.initial();
     let mut cost: u128 = 0;
-    for i in 0..actions.len() {
-        match step(task, &at, actions[i]) {
-            None => return Err(CheckError::Fault(CertificateFault::PlanStep { i: i as u64 })),
+    let mut rest = text;
+    for i in 0..count {
+        let (action, after) = number_at(line + i, rest, b"")?;
+        match step(task, &at, action) {
+            None => return Err(CheckError::Fault(CertificateFault::PlanStep { i })),
             Some((next, first)) => {
                 at = next;
                 cost += u128::from(first);
             }
         }
+        rest = after;
     }
     Ok((at, cost))
 }
 
+// Where the actions lead, and at what cost, or the first that is not applicable.
+fn walk(task: &Task, actions: &StatedActions<'_>) -> Result<(Packed, u128), CheckError>
+    requires lawful { IsTask task.now }
+    ensures { Gives (λ x. x) result (walk (space_of task.now) (space_of task.now).start 0 0
+        actions.now) }
+{
+    walk_lines(task, actions.count, actions.line, actions.text)
+}
+
 #[tactic(auto, unfolding(crate::specs::Judging::plan_fault))]
-fn judge_plan(task: &Task, plan: &StatedPlan) -> Result<bool, CheckError>
+fn judge_plan(task: &Task, plan: &StatedPlan<'_>) -> Result<bool, CheckError>
     requires lawful { IsTask task.now }
     ensures { Gives (λ x. x) result (plan_fault (space_of task.now) plan.now) }
 {
@@ -64,7 +81,10 @@ fn judge_plan(task: &Task, plan: &StatedPlan) -> Result<bool, CheckError>
     )
 }
 
-pub(crate) fn judge_plan_if_any(task: &Task, plan: &Option<StatedPlan>) -> Result<bool, CheckError>
+pub(crate) fn judge_plan_if_any(
+    task: &Task,
+    plan: &Option<StatedPlan<'_>>,
+) -> Result<bool, CheckError>
     requires lawful { IsTask task.now }
     ensures { Gives (λ x. x) result (plan_fault_if_any (space_of task.now) plan.now) }
 {
@@ -76,7 +96,7 @@ pub(crate) fn judge_plan_if_any(task: &Task, plan: &Option<StatedPlan>) -> Resul
 
 // ---- all in order
 
-pub(crate) fn cost_of(plan: &Option<StatedPlan>) -> Option<u64>
+pub(crate) fn cost_of(plan: &Option<StatedPlan<'_>>) -> Option<u64>
     ensures { result ≡ cost_of plan.now }
 {
     match plan {

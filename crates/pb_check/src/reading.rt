@@ -8,8 +8,9 @@ ghost use Rattle.pb_check.specs.Words.{words_for};
 ghost use Rattle.pb_check.specs.Fronts.{rows_while, ending, front_at, text_by};
 ghost use Rattle.pb_check.specs.Kept.{IsSpelledAs, GivesKept};
 
+use crate::actions::actions_at;
 use crate::fault::{CertificateFault, CheckError};
-use crate::front::{Spelled, room_for, spell};
+use crate::front::{Spelled, count_feeds, room_by, spell};
 use crate::heads::head_at;
 use crate::kept::KeptRows;
 use crate::line::{fixed_at, line_at, number_at, number_behind, weight_in};
@@ -29,46 +30,19 @@ fn weight_at(line: u64, text: &[u8]) -> Result<(StatedWeight, &[u8]), CheckError
     Ok((weight, rest))
 }
 
-// That many actions, one a line. The list grows with the lines that were read.
-fn actions_at(
-    alloc: Global,
-    count: u64,
-    line: u64,
-    text: &[u8],
-) -> Result<(Vec<u64>, &[u8]), CheckError>
-    requires { line + length text.now < 2 ^ 64 }
-    ensures gives { Gives (λ x. (x.0.items, x.1.now)) result (actions_at count line text.now) }
-    ensures shorter { IfOk result (λ x. length x.1.now + length x.0.items ≤ length text.now) }
-    ensures many { IfOk result (λ x. length x.0.items ≡ count) }
-{
-    let mut actions = Vec::new(alloc);
-    let mut rest = text;
-    for i in 0..count {
-        let (action, after) = number_at(line + i, rest, b"")?;
-        actions.push(action)?;
-        rest = after;
-    }
-    Ok((actions, rest))
-}
-
 #[tactic(auto, unfolding(crate::specs::Reading::steps_at))]
-fn steps_at(
-    alloc: Global,
-    count: u64,
-    line: u64,
-    text: &[u8],
-) -> Result<(StatedPlan, &[u8]), CheckError>
+fn steps_at(count: u64, line: u64, text: &[u8]) -> Result<(StatedPlan<'_>, &[u8]), CheckError>
     requires { line + length text.now < 2 ^ 64 }
     ensures gives { Gives (λ x. (x.0, x.1.now)) result (steps_at count line text.now) }
     ensures shorter { IfOk result (λ x. length x.1.now + 1 + length x.0.actions ≤ length text.now) }
 {
-    let (actions, rest) = actions_at(alloc, count, line, text)?;
+    let (actions, rest) = actions_at(count, line, text)?;
     let (cost, rest) = number_at(line + count, rest, b"cost ")?;
     Ok((StatedPlan { actions, cost }, rest))
 }
 
 #[tactic(auto, unfolding(crate::specs::Reading::plan_at))]
-fn plan_at(alloc: Global, line: u64, text: &[u8]) -> Result<(Option<StatedPlan>, &[u8]), CheckError>
+fn plan_at(line: u64, text: &[u8]) -> Result<(Option<StatedPlan<'_>>, &[u8]), CheckError>
     requires { line + length text.now < 2 ^ 64 }
     ensures gives { Gives (λ x. (x.0, x.1.now)) result (plan_at line text.now) }
     ensures shorter { IfOk result (λ x. length x.1.now + plan_lines x.0 ≤ length text.now) }
@@ -78,7 +52,7 @@ fn plan_at(alloc: Global, line: u64, text: &[u8]) -> Result<(Option<StatedPlan>,
         return Ok((None, rest));
     }
     let count = number_behind(line, first, b"plan ")?;
-    let (plan, rest) = steps_at(alloc, count, line + 1, rest)?;
+    let (plan, rest) = steps_at(count, line + 1, rest)?;
     Ok((Some(plan), rest))
 }
 
@@ -97,19 +71,19 @@ fn end_at(line: u64, text: &[u8]) -> Result<bool, CheckError>
 }
 
 // How many lines the plan takes.
-fn plan_lines(plan: &Option<StatedPlan>) -> u64
+fn plan_lines(plan: &Option<StatedPlan<'_>>) -> u64
     requires { plan_lines plan.now < 2 ^ 64 }
     ensures { result ≡ plan_lines plan.now }
 {
     match plan {
         None => 1,
-        Some(route) => route.actions.len() as u64 + 2,
+        Some(route) => route.actions.len() + 2,
     }
 }
 
 /// What the bytes say before the rows, and the text of the rows.
 #[tactic(auto, unfolding(crate::specs::Fronts::front_at))]
-pub fn front_at(alloc: Global, bytes: &[u8]) -> Result<(StatedFront, &[u8]), CheckError>
+pub fn front_at(bytes: &[u8]) -> Result<(StatedFront<'_>, &[u8]), CheckError>
     requires { length bytes.now < 2 ^ 63 }
     ensures gives { Gives (λ x. (x.0, x.1.now)) result (front_at bytes.now) }
     ensures few { IfOk result (λ x. x.0.first + length x.1.now ≤ 2 ^ 63) }
@@ -120,7 +94,7 @@ pub fn front_at(alloc: Global, bytes: &[u8]) -> Result<(StatedFront, &[u8]), Che
     let (spelling, rest) = head_at(bytes)?;
     let line = 1 + u64::from(spelling.head_lines());
     let (weight, rest) = weight_at(line, rest)?;
-    let (plan, rest) = plan_at(alloc, line + 1, rest)?;
+    let (plan, rest) = plan_at(line + 1, rest)?;
     let lines = plan_lines(&plan);
     let (count, rest) = number_at(line + 1 + lines, rest, b"rows ")?;
     let front = StatedFront {
@@ -159,12 +133,16 @@ fn need_end(count: u64, line: u64, found: u64, rest: &[u8]) -> Result<bool, Chec
 
 /// What the bytes say, or their first line that is not spelled as it must be: by what is read
 /// before the rows, and the rows that were found behind it.
-pub fn text_by(front: StatedFront, text: &[u8], spelled: Spelled) -> Result<StatedText, CheckError>
+pub fn text_by<'a>(
+    front: StatedFront<'a>,
+    text: &[u8],
+    spelled: Spelled,
+) -> Result<StatedText<'a>, CheckError>
     requires few { front.first + length text.now ≤ 2 ^ 63 }
     requires spelled { IsSpelledAs spelled (words_for front.spelling.width)
         (rows_while front.spelling.width text.now) }
     ensures kept { GivesKept result
-        (text_by front (rows_while front.spelling.width text.now)) }
+        (text_by front.entry (rows_while front.entry.spelling.width text.now)) }
     ensures few { IfOk result (λ x. x.first + length x.certificate.lines < 2 ^ 63) }
 {
     let rest = rest_of(front.spelling.width, text, spelled.left);
@@ -190,13 +168,14 @@ pub fn text_by(front: StatedFront, text: &[u8], spelled: Spelled) -> Result<Stat
 
 /// What the bytes say, with the rows that are kept, or their first line that is not spelled as it
 /// must be.
-pub fn text_of(alloc: Global, bytes: &[u8]) -> Result<StatedText, CheckError>
+pub fn text_of(alloc: Global, bytes: &[u8]) -> Result<StatedText<'_>, CheckError>
     requires { length bytes.now < 2 ^ 63 }
     ensures kept { GivesKept result (text_of bytes.now) }
     ensures few { IfOk result (λ x. x.first + length x.certificate.lines < 2 ^ 63) }
 {
-    let (front, rest) = front_at(alloc, bytes)?;
+    let (front, rest) = front_at(bytes)?;
     let width = front.spelling.width;
-    let spelled = spell(alloc, width, rest, room_for(width, rest))?;
+    let room = room_by(count_feeds(rest), width, rest);
+    let spelled = spell(alloc, width, rest, room)?;
     text_by(front, rest, spelled)
 }

@@ -1,5 +1,6 @@
 ghost use Rattle.std.specs.Prelude.{◌≡◌};
 
+use crate::actions::StatedActions;
 use crate::rows::StatedRows;
 use pb_estimate::Spelling;
 use std::marker::Model;
@@ -21,31 +22,31 @@ pub struct RowEnd {
 
 /// The actions of a plan, and the cost that is stated. Contracts see a plan of the model.
 #[derive(Drop)]
-pub struct StatedPlan {
-    pub actions: Vec<u64>,
+pub struct StatedPlan<'a> {
+    pub actions: StatedActions<'a>,
     pub cost: u64,
 }
 
-impl Model for StatedPlan {
+impl<'a> Model for StatedPlan<'a> {
     ghost use Rattle.pb_model.specs.Plan.{Plan};
 
     ghost Value = { Plan };
 
-    ghost view = { λ r. record { actions = r.actions.items; cost = r.cost } };
+    ghost view = { λ r. record { actions = r.actions; cost = r.cost } };
 }
 
 /// All that a certificate says before its rows, with how many they are and the number of the first
 /// one's line: contracts see what a text says there.
 #[derive(Drop)]
-pub struct StatedFront {
+pub struct StatedFront<'a> {
     pub spelling: Spelling,
     pub weight: StatedWeight,
-    pub plan: Option<StatedPlan>,
+    pub plan: Option<StatedPlan<'a>>,
     pub count: u64,
     pub first: u64,
 }
 
-impl Model for StatedFront {
+impl<'a> Model for StatedFront<'a> {
     ghost use Rattle.pb_check.specs.Fronts.{Front};
 
     ghost Value = { Front };
@@ -61,15 +62,15 @@ impl Model for StatedFront {
 
 /// All that a certificate says: contracts see what a text says.
 #[derive(Drop)]
-pub struct StatedText {
+pub struct StatedText<'a> {
     pub spelling: Spelling,
     pub weight: StatedWeight,
-    pub plan: Option<StatedPlan>,
+    pub plan: Option<StatedPlan<'a>>,
     pub rows: StatedRows,
     pub first: u64,
 }
 
-impl Model for StatedText {
+impl<'a> Model for StatedText<'a> {
     ghost use Rattle.pb_check.specs.Reading.{Text};
 
     ghost Value = { Text };
