@@ -175,7 +175,7 @@ pub fn expand<K: LetterRule, R: Wait>(
     ensures tables { IsOfTask estimator.new task.now choice.now }
     ensures room { vec_capacity succs.old ≤ vec_capacity succs.new }
 {
-    task.successors(state, succs);
+    estimator.successors(task, state, succs);
     match offer_all(
         rt,
         task,

@@ -3,10 +3,12 @@ use Rattle.std.proofs.Common.{◌≡◌, ℕ, ◌<◌, ◌≤◌, List, Option, 
 use Rattle.std.specs.Option.{option_map}
 use Rattle.std.proofs.lemmas.Bool.{cases_lt}
 use Rattle.std.proofs.lemmas.Option.{slice_get_within, slice_get_past}
+use Rattle.pb_model.specs.Store.{HasOpened}
+use Rattle.pb_lists.specs.Bundle.{row_of}
 use Rattle.pb_mail.specs.declared.post.Post.{Post}
 use Rattle.pb_mail.specs.declared.pass.PostPass.{PostPass}
 use Rattle.pb_mail.specs.Passes.{owners_of, IsPassOf}
-use Rattle.pb_hashed.specs.Mailed.{Owner, least_of}
+use Rattle.pb_hashed.specs.Mailed.{Owner, Mailed, least_of}
 use Rattle.pb_hashed.specs.Laws.{sum_below}
 use Rattle.pb_hashed.proofs.Callers.{rounds_are_work}
 use Rattle.pb_owner.specs.declared.share.Share.{Share}
@@ -16,7 +18,8 @@ use Rattle.pb_owners.specs.Plans.{space_in, guide_in, weight_in, IsPlan, HasTool
 use Rattle.pb_owners.specs.Seats.{Each, EachPair, quota_in, used_in, quota_at, used_at}
 use Rattle.pb_owners.specs.Passing.{HasSeat, IsToMeet, IsWithoutPass, HasMetAll, KeepsSent, MayTakeAll}
 use Rattle.pb_owners.specs.Rounds.{IsWithin, IsReady, HasBegun, HasLeft, HasTaken, NoneFailed, IsCleared, HasIncumbent, AreLow, IsDrawn, IsToRun, HasRun, IsToRound, HasRounded}
-use Rattle.pb_owners.specs.Between.{RunsByMail}
+use Rattle.pb_owners.specs.RoundRule.{IsQuota, IsRoundWith}
+use Rattle.pb_owners.specs.Between.{IsBetween, RunsByMail}
 use Rattle.pb_owners.specs.Shares.{owner_in, share_of, seat_at}
 use Rattle.pb_owners.proofs.Pairs.{there, old_of, sum_at_most, term_at_most}
 use Rattle.pb_owners.proofs.Parting.{tools_with, ready_of, left_of, to_meet, did_part, last_used}
@@ -84,7 +87,7 @@ module _ {K : Type 0} (plan : Plan) (is_plan : IsPlan plan) (post : Post K) (own
             x4 : Seat
             at0 : slice_get s0 i ≡ Some x0
             at4 : slice_get s4 i ≡ Some x4
-            did : DidPart (space_in plan) (guide_in plan) (weight_in plan) post last i (owner_in (Some x0.share)) (owner_in (Some x4.share)) x4.used
+            did : DidPart (space_in plan) (guide_in plan) (weight_in plan) post last i (owner_in (Some x0.share)) (owner_in (Some x4.share)) x0.quota x4.used
             low : x4.used ≤ x0.quota
             tools : HasTools plan x4
 
@@ -114,11 +117,11 @@ module _ {K : Type 0} (plan : Plan) (is_plan : IsPlan plan) (post : Post K) (own
                 tools = clear.tools;
               }
 
-          did_at : (i : ℕ) → i < plan.owners → DidPart (space_in plan) (guide_in plan) (weight_in plan) post last i (seat_at s0 i) (seat_at s4 i) (used_at s4 i)
+          did_at : (i : ℕ) → i < plan.owners → DidPart (space_in plan) (guide_in plan) (weight_in plan) post last i (seat_at s0 i) (seat_at s4 i) (quota_at s0 i) (used_at s4 i)
           did_at i less =
               let w = way i less in
-              subst (λ (o : Option Seat). DidPart (space_in plan) (guide_in plan) (weight_in plan) post last i (owner_in (option_map share_of o)) (seat_at s4 i) (used_at s4 i)) (sym w.at0)
-              (subst (λ (o : Option Seat). DidPart (space_in plan) (guide_in plan) (weight_in plan) post last i (owner_in (Some w.x0.share)) (owner_in (option_map share_of o)) (used_in o)) (sym w.at4) w.did)
+              subst (λ (o : Option Seat). DidPart (space_in plan) (guide_in plan) (weight_in plan) post last i (owner_in (option_map share_of o)) (seat_at s4 i) (quota_in o) (used_at s4 i)) (sym w.at0)
+              (subst (λ (o : Option Seat). DidPart (space_in plan) (guide_in plan) (weight_in plan) post last i (owner_in (Some w.x0.share)) (owner_in (option_map share_of o)) w.x0.quota (used_in o)) (sym w.at4) w.did)
 
           module _ (s5 : List Seat) (agreed : EachPair (HasIncumbent (least_of (length s4) (seat_at s4))) s4 s5) where
             pub many_agreed : length s5 ≡ plan.owners
@@ -164,8 +167,8 @@ module _ {K : Type 0} (plan : Plan) (is_plan : IsPlan plan) (post : Post K) (own
               within =
                   let low = sum_at_most plan.owners (used_at s5) (quota_at s0) used_low in
                   let a = ap (λ n. sum_below n (used_at s5)) many_agreed in let b = ap (λ n. sum_below n (quota_at s0)) to_run.many in omega arith;
-              mail = subst (λ n. RunsByMail (space_in plan) (guide_in plan) (weight_in plan) plan.owners n (seat_at s0) (seat_at s5)) (sym (is ∙ ap (λ n. sum_below n (used_at s5)) many_agreed))
-                  (runs rounds_are_work (space_in plan) (guide_in plan) (weight_in plan) post last plan.owners (seat_at s0) (seat_at s4) (used_at s4)
+              mail = subst (λ n. RunsByMail (space_in plan) (guide_in plan) (weight_in plan) plan.owners n (IsRoundWith (space_in plan) (guide_in plan) plan.owners n (quota_at s0)) (seat_at s0) (seat_at s5)) (sym (is ∙ ap (λ n. sum_below n (used_at s5)) many_agreed))
+                  (runs rounds_are_work (space_in plan) (guide_in plan) (weight_in plan) post last plan.owners (seat_at s0) (seat_at s4) (quota_at s0) (used_at s4)
                   (λ state. homes state) owners_is own (keeps.number_is ∙ met.number_is) (keeps.made_is ∙ met.made_is ∙ owners_is) did_at
                   (seat_at s5) (used_at s5) parts
                   (λ i less. let x = last_at i less in ap (λ (o : Owner). o.incumbent) (seat_is s5 i x.0 x.1) ∙ ap (λ (s : Seat). s.share.incumbent) x.2 ∙ ap (λ n. least_of n (seat_at s4)) many_cleared)
@@ -214,10 +217,38 @@ module _ (plan : Plan) (lot left : ℕ) (seats drawn : List Seat) (ready : IsToR
           seat_is drawn i y.0 y.1 ∙ ap (λ (s : Seat). owner_in (Some s.share)) (draws.at i x.0 y.0 x.1 y.1).new_is ∙ sym (seat_is seats i x.0 x.1))
           (λ (past : length drawn ≤ i). seat_past drawn i past ∙ sym (seat_past seats i (let m = draws.many in omega arith))) (cases_lt i (length drawn))
 
-  pub rounded : (used : ℕ) (news : List Seat) → HasRun plan used drawn news → HasRounded plan left used seats news
+  -- each owner drew its quota
+  drew : (m : Mailed) → IsBetween plan.owners (weight_in plan) (seat_at seats) m → (i : ℕ) → i < plan.owners → IsQuota lot left (quota_at drawn) m.owner i
+  drew m b i less =
+      let x = there seats i (let e = ready.many in omega arith) in
+      let y = there drawn i (let e = many_drawn in omega arith) in
+      let d = draws.at i x.0 y.0 x.1 y.1 in
+      let part : (m.owner i).part ≡ row_of x.0.share.bundle = b.parts i ∙ ap (λ (o : Owner). o.part) (seat_is seats i x.0 x.1) in
+      let quota : quota_at drawn i ≡ y.0.quota = ap quota_in y.1 in
+      record {
+        opened = λ h. quota ∙ d.opened (subst HasOpened part h);
+        none = λ h. quota ∙ d.none (λ o. h (subst HasOpened (sym part) o));
+      }
+
+  pub rounded : (used : ℕ) (news : List Seat) → HasRun plan used drawn news → HasRounded plan lot left used seats news
   rounded used news h = record {
     many = h.many;
     tools = h.tools;
     within = let w = h.within in omega arith;
-    mail = subst (λ (at : ℕ → Owner). RunsByMail (space_in plan) (guide_in plan) (weight_in plan) plan.owners used at (seat_at news)) drawn_is h.mail;
+    mail = λ m b.
+        let r = h.mail m (subst (λ (at : ℕ → Owner). IsBetween plan.owners (weight_in plan) at m) (sym drawn_is) b) in (
+          r.0,
+          r.1,
+          r.2,
+          r.3,
+          r.4,
+          r.5,
+          record {
+            opened = (ready.opened.0, subst HasOpened (sym (b.parts ready.opened.0)) ready.opened.1);
+            some_left = ready.some_left;
+            quotas = quota_at drawn;
+            drawn = drew m b;
+            round = r.6;
+          },
+        );
   }

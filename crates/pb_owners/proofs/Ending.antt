@@ -28,14 +28,16 @@ use Rattle.pb_owners.proofs.Assembling.{seat_is}
 
 -- ---- rounds
 
-module _ (plan : Plan) (is_plan : IsPlan plan) (budget spent : ℕ) (few : budget ≤ 2 ^ 40) (seats : List Seat) (h : HasSearched plan budget spent seats) where
+module _ (plan : Plan) (is_plan : IsPlan plan) (lot budget spent : ℕ) (few : budget ≤ 2 ^ 40) (seats : List Seat) (h : HasSearched plan lot budget spent seats) where
   -- the next round may begin
-  pub to_round : IsToRound plan (budget - spent) seats
-  to_round =
-      let s = searched_sound (space_in plan) (guide_in plan) (weight_in plan) plan.owners mail_keeps_sound greatest_cost spent (seat_at seats) is_plan.proper is_plan.weight h.searched in
+  pub to_round : AnyOpened (seat_at seats) → spent < budget → IsToRound plan (budget - spent) seats
+  to_round opened more =
+      let s = searched_sound (space_in plan) (guide_in plan) (weight_in plan) plan.owners lot budget mail_keeps_sound greatest_cost spent (seat_at seats) is_plan.proper is_plan.weight h.searched in
       let row_is : (i : ℕ) (x : Seat) → slice_get seats i ≡ Some x → (state : ℕ) (row : Row) → row_of x.share.bundle state ≡ Some row → (h.searched.store.owner i).part state ≡ Some row
       = λ i x is state row found. (λ j. h.searched.between.parts i j state) ∙ (λ j. (seat_is seats i x is j).part state) ∙ found in
       record {
+        opened = opened;
+        some_left = omega arith;
         many = h.many;
         tools = h.tools;
         within = record {
@@ -52,9 +54,9 @@ module _ (plan : Plan) (is_plan : IsPlan plan) (budget spent : ℕ) (few : budge
         low = omega arith;
       }
 
-  pub searched_on : (used : ℕ) (news : List Seat) → HasRounded plan (budget - spent) used seats news → HasSearched plan budget (spent + used) news
+  pub searched_on : (used : ℕ) (news : List Seat) → HasRounded plan lot (budget - spent) used seats news → HasSearched plan lot budget (spent + used) news
   searched_on used news r = record {
-    searched = searched_more (space_in plan) (guide_in plan) (weight_in plan) plan.owners spent used (seat_at seats) (seat_at news) h.searched r.mail;
+    searched = searched_more (space_in plan) (guide_in plan) (weight_in plan) plan.owners lot budget spent used (seat_at seats) (seat_at news) h.searched r.mail;
     within = let w = r.within in let b = h.within in omega arith;
     many = r.many;
     tools = r.tools;
@@ -128,8 +130,8 @@ module _ (space : Space) (guide : Guide) (weight : Weight) (owners : ℕ) (share
 
 -- ---- from seats to shares
 
-pub searched_shares : (space : Space) (guide : Guide) (weight : Weight) (owners spent : ℕ) (seats : List Seat) (shares : List Share) → shares ≡ map share_of seats → IsSearched space guide weight owners spent (seat_at seats) → IsSearched space guide weight owners spent (share_at shares)
-searched_shares space guide weight owners spent seats shares is h = subst (λ (at : ℕ → Owner). IsSearched space guide weight owners spent at) (sym (ap share_at is ∙ shares_are seats)) h
+pub searched_shares : (space : Space) (guide : Guide) (weight : Weight) (owners lot budget spent : ℕ) (seats : List Seat) (shares : List Share) → shares ≡ map share_of seats → IsSearched space guide weight owners lot budget spent (seat_at seats) → IsSearched space guide weight owners lot budget spent (share_at shares)
+searched_shares space guide weight owners lot budget spent seats shares is h = subst (λ (at : ℕ → Owner). IsSearched space guide weight owners lot budget spent at) (sym (ap share_at is ∙ shares_are seats)) h
 
 pub end_shares : (budget spent : ℕ) (end : End) (seats : List Seat) (shares : List Share) → shares ≡ map share_of seats → IsEnd budget spent (seat_at seats) end → IsEnd budget spent (share_at shares) end
 end_shares budget spent end seats shares is h = subst (λ (at : ℕ → Owner). IsEnd budget spent at end) (sym (ap share_at is ∙ shares_are seats)) h

@@ -10,3 +10,9 @@ mod Loops
 mod Listing
 mod Owning
 mod Leaving
+mod Alike
+mod Turning
+mod Least
+mod Determined
+mod Halving
+mod Looking

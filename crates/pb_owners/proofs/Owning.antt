@@ -19,11 +19,11 @@ module _ (end : End) (v : OwnersValue) (is_task : IsTask v.task) (range : AreInR
   home_below : (state : ℕ) → (guide_in v).home state < v.settings.workers
   home_below state = let some = range.workers.0 in omega arith
 
-  pub owners_end : IsSearched (space_in v) (guide_in v) (weight_in v) v.settings.workers v.spent (share_at v.shares) → IsEnd v.settings.budget v.spent (share_at v.shares) end → v.spent ≤ v.settings.budget → length v.shares ≡ v.settings.workers → OwnersEnd end v
+  pub owners_end : IsSearched (space_in v) (guide_in v) (weight_in v) v.settings.workers v.settings.lot v.settings.budget v.spent (share_at v.shares) → IsEnd v.settings.budget v.spent (share_at v.shares) end → v.spent ≤ v.settings.budget → length v.shares ≡ v.settings.workers → OwnersEnd end v
   owners_end searched end_is within many =
       let proper : IsProper (space_in v) greatest_cost = (tasks_are_proper v.task is_task).0 in
       let some = range.workers.0 in
-      let plain = plain_sound (space_in v) (guide_in v) (weight_in v) v.settings.workers mail_keeps_sound agreed_is_sound greatest_cost v.spent (share_at v.shares) proper range.weight (omega arith) home_below searched in
+      let plain = plain_sound (space_in v) (guide_in v) (weight_in v) v.settings.workers v.settings.lot v.settings.budget mail_keeps_sound agreed_is_sound greatest_cost v.spent (share_at v.shares) proper range.weight (omega arith) home_below searched in
       record {
         searched = searched;
         end_is = end_is;
@@ -31,11 +31,11 @@ module _ (end : End) (v : OwnersValue) (is_task : IsTask v.task) (range : AreInR
         many = many;
         sound = plain.0;
         shown = plain.1;
-        small = plain_costs (space_in v) (guide_in v) (weight_in v) v.settings.workers mail_keeps_sound greatest_cost v.spent (2 ^ 61 - 1) (share_at v.shares) proper range.weight (let b = range.budget.1 in omega arith) searched;
+        small = plain_costs (space_in v) (guide_in v) (weight_in v) v.settings.workers v.settings.lot v.settings.budget mail_keeps_sound greatest_cost v.spent (2 ^ 61 - 1) (share_at v.shares) proper range.weight (let b = range.budget.1 in omega arith) searched;
       }
 
   -- the search was of the task, the blocks and the choice that the owners have
   pub owners_ended : (task : TaskParts) (abstraction : AbstractGraph) (choice : Choice) → v.task ≡ task → v.abstraction ≡ abstraction → v.choice ≡ choice
-      → IsSearched (space_of task) (guide_for task abstraction v.settings.workers choice) (weight_in v) v.settings.workers v.spent (share_at v.shares) → IsEnd v.settings.budget v.spent (share_at v.shares) end → v.spent ≤ v.settings.budget → length v.shares ≡ v.settings.workers → OwnersEnd end v
+      → IsSearched (space_of task) (guide_for task abstraction v.settings.workers choice) (weight_in v) v.settings.workers v.settings.lot v.settings.budget v.spent (share_at v.shares) → IsEnd v.settings.budget v.spent (share_at v.shares) end → v.spent ≤ v.settings.budget → length v.shares ≡ v.settings.workers → OwnersEnd end v
   owners_ended task abstraction choice task_is graph_is choice_is searched =
-      owners_end (subst (λ (t : TaskParts × AbstractGraph × Choice). IsSearched (space_of t.0) (guide_for t.0 t.1 v.settings.workers t.2) (weight_in v) v.settings.workers v.spent (share_at v.shares)) (λ i. (sym task_is i, sym graph_is i, sym choice_is i)) searched)
+      owners_end (subst (λ (t : TaskParts × AbstractGraph × Choice). IsSearched (space_of t.0) (guide_for t.0 t.1 v.settings.workers t.2) (weight_in v) v.settings.workers v.settings.lot v.settings.budget v.spent (share_at v.shares)) (λ i. (sym task_is i, sym graph_is i, sym choice_is i)) searched)

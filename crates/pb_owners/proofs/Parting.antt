@@ -1,20 +1,28 @@
 -- An owner's way through a round.
-use Rattle.std.proofs.Common.{◌≡◌, ℕ, ◌<◌, ◌≤◌, [], ◌++◌, Some, false, refl, sym, ap, ◌∙◌, subst, arith}
+use Rattle.std.proofs.Common.{◌≡◌, ℕ, ◌<◌, ◌≤◌, ◌⊎◌, [], ◌++◌, Some, Bool, true, false, inl, inr, refl, sym, ap, ◌∙◌, subst, arith}
 use Rattle.std.proofs.lemmas.List.{append-nil}
 use Rattle.pb_lists.specs.Bundle.{row_of}
 use Rattle.pb_mail.specs.declared.post.Post.{Post}
 use Rattle.pb_mail.specs.declared.pass.PostPass.{PostPass}
 use Rattle.pb_mail.specs.Passes.{view_at, number_of, owners_of}
 use Rattle.pb_mail.specs.Posted.{letters_to, HasPosted, KnowsOf}
+use Rattle.pb_model.specs.Work.{expansions}
 use Rattle.pb_hashed.specs.MailWork.{part_after}
 use Rattle.pb_owner.specs.declared.share.Share.{Share}
-use Rattle.pb_owner.specs.Shares.{owner_of, HasWorked}
+use Rattle.pb_owner.specs.Shares.{owner_of, HasWorked, IsNextRow}
+use Rattle.pb_model.specs.declared.row.Row.{Row}
+use Rattle.pb_model.specs.Space.{Space}
+use Rattle.pb_model.specs.Weight.{Weight}
+use Rattle.pb_model.specs.Store.{HasOpened}
+use Rattle.pb_mail.specs.declared.letter.Letter.{Letter}
+use Rattle.std.specs.Prelude.{List}
 use Rattle.pb_owners.specs.declared.plan.Plan.{Plan}
 use Rattle.pb_owners.specs.declared.seat.Seat.{Seat}
 use Rattle.pb_owners.specs.Plans.{space_in, guide_in, weight_in, HasTools}
 use Rattle.pb_owners.specs.Passing.{IsFresh, HasSeat, IsToMeet, IsWithoutPass, KnowsAllOf, KeepsSent}
 use Rattle.pb_owners.specs.Rounds.{IsWithin, IsReady, one_if, HasBegun, HasLeft, TakesIn, HasTaken, IsCleared}
 use Rattle.pb_owners.specs.Shares.{owner_in}
+use Rattle.pb_owners.specs.RoundRule.{IsNextExpansion}
 use Rattle.pb_owners.proofs.Pairs.{some_is}
 use Rattle.pb_owners.proofs.Meetings.{knows_kept}
 use Rattle.pb_owners.proofs.Rounding.{DidPart, part_after_append}
@@ -26,6 +34,14 @@ tools_with plan old new weight estimator succs h = record {
   room = rw succs h.room;
   of_weight = weight ∙ h.of_weight;
 }
+
+-- why an owner's part ended, if memory sufficed
+ends_well : (space : Space) (weight : Weight) (share : Share) (letters : (to : ℕ) → List Letter) (failed : Bool) (used quota : ℕ) → failed ≡ false
+    → (failed ≡ true) ⊎ ((HasOpened (row_of share.bundle) → ⊥) ⊎ ((used ≡ quota) × ((state : ℕ) × (row : Row) × IsNextRow space weight share state row)))
+    → (HasOpened (row_of share.bundle) → ⊥) ⊎ ((used ≡ quota) × IsNextExpansion space weight (owner_of share letters))
+ends_well space weight share letters failed used quota none (inl bad) = let e : true ≡ false = sym bad ∙ none in cc
+ends_well space weight share letters failed used quota none (inr (inl empty)) = inl empty
+ends_well space weight share letters failed used quota none (inr (inr (is, (state, row, next)))) = inr (is, record { state = state; row = row; first = next.first; kept = next.kept; no_goal = next.no_goal })
 
 module _ {K : Type 0} (plan : Plan) (post : Post K) (i : ℕ) where
   -- a pass was given out
@@ -109,7 +125,12 @@ module _ {K : Type 0} (plan : Plan) (post : Post K) (i : ℕ) where
             clear.taken_in.rows (guide_in plan).home ∙ ap (λ (s : Share). part_after (guide_in plan) clear.more (row_of s.bundle)) left_share
             ∙ ap (part_after (guide_in plan) clear.more) (takes_in.taken_in.rows (guide_in plan).home) ∙ sym (part_after_append (guide_in plan) takes_in.takes clear.more (row_of begun.share.bundle))
 
-        pub did_part : DidPart (space_in plan) (guide_in plan) (weight_in plan) post cleared i (owner_in (Some first.share)) (owner_in (Some last.share)) last.used
+        ends_quota : (HasOpened (row_of begun.share.bundle) → ⊥) ⊎ ((begun.used ≡ given.quota) × IsNextExpansion (space_in plan) (weight_in plan) (owner_of begun.share (λ to. letters_to to part.expanded.sends)))
+            → (HasOpened (row_of begun.share.bundle) → ⊥) ⊎ ((expansions worked.works ≡ first.quota) × IsNextExpansion (space_in plan) (weight_in plan) (owner_of begun.share (λ to. letters_to to part.expanded.sends)))
+        ends_quota (inl empty) = inl empty
+        ends_quota (inr h) = inr (worked.used_is ∙ h.0 ∙ ap (λ (s : Seat). s.quota) seat.new_is, h.1)
+
+        pub did_part : DidPart (space_in plan) (guide_in plan) (weight_in plan) post cleared i (owner_in (Some first.share)) (owner_in (Some last.share)) first.quota last.used
         did_part = record {
           works = worked.works;
           mid = owner_of begun.share (λ to. letters_to to part.expanded.sends);
@@ -117,6 +138,12 @@ module _ {K : Type 0} (plan : Plan) (post : Post K) (i : ℕ) where
           alone = worked.comes;
           used_is = worked.used_is ∙ sym (clear.used_is ∙ ap (λ (s : Seat). s.used) rest ∙ took.used_is);
           none_broken = worked.broken_is;
+          worked = record {
+            turns = worked.turns;
+            none_broken = worked.broken_is;
+            within = let u = worked.used_is in let w = used_within in omega arith;
+            ends = ends_quota (ends_well (space_in plan) (weight_in plan) begun.share (λ to. letters_to to part.expanded.sends) begun.failed begun.used given.quota none_failed part.ends);
+          };
           known = λ q below. knows_kept met cleared q i (letters_to q part.expanded.sends) keeps (subst (KnowsOf (view_at met q) i) (sent_is q below) (known.sent q below));
           taken = clear.taken ∙ ap (λ l. l ++ clear.more) (known.taken ∙ taken_is);
           whole = clear.whole;

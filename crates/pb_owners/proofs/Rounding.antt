@@ -16,6 +16,7 @@ use Rattle.pb_mail.specs.Posted.{KnowsOf}
 use Rattle.pb_hashed.specs.Mailed.{Owner, Mailed, least_of}
 use Rattle.pb_hashed.specs.MailWork.{ComesAlone, part_after}
 use Rattle.pb_hashed.specs.Laws.{sum_below, IsRound, RoundsAreWork}
+use Rattle.pb_owners.specs.RoundRule.{WorksByQuota, IsRoundWith}
 use Rattle.pb_owners.specs.Between.{IsBetween, RunsByMail}
 use Rattle.pb_owners.proofs.Pairs.{sum_same}
 use Rattle.pb_owners.proofs.Meetings.{whole_of}
@@ -24,7 +25,7 @@ pub part_after_append : (guide : Guide) (xs ys : List Sent) (part : Part) → pa
 part_after_append guide [] ys part = refl
 part_after_append guide (x ∷ xs) ys part = part_after_append guide xs ys _
 
-least_same : (k : ℕ) (one two : ℕ → Owner) → ((i : ℕ) → i < k → (one i).incumbent ≡ (two i).incumbent) → least_of k one ≡ least_of k two
+pub least_same : (k : ℕ) (one two : ℕ → Owner) → ((i : ℕ) → i < k → (one i).incumbent ≡ (two i).incumbent) → least_of k one ≡ least_of k two
 least_same zero one two same = refl
 least_same (suc k) one two same = λ i. lesser (least_same k one two (λ j less. same j (omega arith)) i) (same k (omega arith) i)
 
@@ -34,13 +35,14 @@ sum_none (suc k) f none = omega (arith, sum_none k f (λ i less. none i (omega a
 
 -- What an owner did in a round: its work alone, and the letters that it took. The first pass knows
 -- what it sent and took, which is all that was sent to it.
-pub record DidPart {K : Type 0} (space : Space) (guide : Guide) (weight : Weight) (post : Post K) (first : PostPass) (number : ℕ) (old new : Owner) (used : ℕ) : Type 0 where
+pub record DidPart {K : Type 0} (space : Space) (guide : Guide) (weight : Weight) (post : Post K) (first : PostPass) (number : ℕ) (old new : Owner) (quota used : ℕ) : Type 0 where
   pub works : List Work
   pub mid : Owner
   pub takes : List Sent
   pub alone : ComesAlone space guide weight number works (record old { letters = λ to. [] }) mid
   pub used_is : expansions works ≡ used
   pub none_broken : broken_expansions works ≡ 0
+  pub worked : WorksByQuota space guide weight number quota works (record old { letters = λ to. [] }) mid
   pub known : (q : ℕ) → q < owners_of post → KnowsOf (view_at first q) number (mid.letters q)
   pub taken : (view_at first number).taken ≡ takes
   pub whole : AreWhole (view_at first number)
@@ -55,13 +57,14 @@ record Chosen (P : ℕ → List Work → Owner → List Sent → Type 0) (owners
   is : number < owners → P number works mid takes
   beyond : owners ≤ number → takes ≡ []
 
-module _ {K : Type 0} (law : RoundsAreWork) (space : Space) (guide : Guide) (weight : Weight) (post : Post K) (first : PostPass) (owners : ℕ) (old new : ℕ → Owner) (used : ℕ → ℕ)
+module _ {K : Type 0} (law : RoundsAreWork) (space : Space) (guide : Guide) (weight : Weight) (post : Post K) (first : PostPass) (owners : ℕ) (old new : ℕ → Owner) (quota used : ℕ → ℕ)
     (homes : (state : ℕ) → guide.home state < owners) (owners_is : owners_of post ≡ owners) (own : IsPassOf post first) (number_is : number_of first ≡ 0) (made_is : made_by first ≡ owners)
-    (did : (i : ℕ) → i < owners → DidPart space guide weight post first i (old i) (new i) (used i)) where
+    (did : (i : ℕ) → i < owners → DidPart space guide weight post first i (old i) (new i) (quota i) (used i)) where
   record Facts (i : ℕ) (works : List Work) (mid : Owner) (takes : List Sent) : Type 0 where
     alone : ComesAlone space guide weight i works (record (old i) { letters = λ to. [] }) mid
     used_is : expansions works ≡ used i
     none_broken : broken_expansions works ≡ 0
+    worked : WorksByQuota space guide weight i (quota i) works (record (old i) { letters = λ to. [] }) mid
     known : (q : ℕ) → q < owners → KnowsOf (view_at first q) i (mid.letters q)
     taken : (view_at first i).taken ≡ takes
     whole : AreWhole (view_at first i)
@@ -78,6 +81,7 @@ module _ {K : Type 0} (law : RoundsAreWork) (space : Space) (guide : Guide) (wei
           alone = d.alone;
           used_is = d.used_is;
           none_broken = d.none_broken;
+          worked = d.worked;
           known = λ q below. d.known q (omega (arith, owners_is, below));
           taken = d.taken;
           whole = d.whole;
@@ -109,10 +113,11 @@ module _ {K : Type 0} (law : RoundsAreWork) (space : Space) (guide : Guide) (wei
   }
 
   pub runs : (last : ℕ → Owner) (spent : ℕ → ℕ) → ((i : ℕ) → (last i).part ≡ (new i).part) → ((i : ℕ) → i < owners → (last i).incumbent ≡ least_of owners new) → ((i : ℕ) → i < owners → spent i ≡ used i)
-      → ((i : ℕ) → owners ≤ i → (new i).part ≡ (old i).part) → 0 < owners → RunsByMail space guide weight owners (sum_below owners spent) old last
+      → ((i : ℕ) → owners ≤ i → (new i).part ≡ (old i).part) → 0 < owners → RunsByMail space guide weight owners (sum_below owners spent) (IsRoundWith space guide owners (sum_below owners spent) quota) old last
   runs last spent parts incumbents spent_is rest some m b =
       let r = law space guide owners m (λ i. (chosen i).works) (λ i. (chosen i).mid) (λ i. (chosen i).takes) (round m b) in
       let after = r.3 in
+      let spent_of : sum_below owners (λ i. expansions (chosen i).works) ≡ sum_below owners spent = sum_same owners (λ i. expansions (chosen i).works) spent (λ i less. (fact i less).used_is ∙ sym (spent_is i less)) in
       let least : least_of owners (λ i. (chosen i).mid) ≡ least_of owners new = least_same owners (λ i. (chosen i).mid) new (λ i less. sym (fact i less).incumbent_is) in (
         r.0,
         r.1,
@@ -126,6 +131,16 @@ module _ {K : Type 0} (law : RoundsAreWork) (space : Space) (guide : Guide) (wei
           no_letter = after.none_left;
           weight_is = after.weight ∙ b.weight_is;
         },
-        r.4 ∙ sum_same owners (λ i. expansions (chosen i).works) spent (λ i less. (fact i less).used_is ∙ sym (spent_is i less)),
+        r.4 ∙ spent_of,
         r.5 ∙ sum_none owners (λ i. broken_expansions (chosen i).works) (λ i less. (fact i less).none_broken),
+        record {
+          works = λ i. (chosen i).works;
+          shares = λ i. (chosen i).mid;
+          takes = λ i. (chosen i).takes;
+          round = round m b;
+          worked = λ i less. subst (λ (w : Weight). WorksByQuota space guide w i (quota i) (chosen i).works (m.owner i) (chosen i).mid) (sym b.weight_is)
+              (subst (λ (o : Owner). WorksByQuota space guide weight i (quota i) (chosen i).works o (chosen i).mid) (sym (owner_is m b i less)) (fact i less).worked);
+          after = after;
+          used_is = spent_of;
+        },
       )

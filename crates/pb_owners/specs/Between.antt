@@ -7,6 +7,7 @@ use Rattle.pb_model.specs.Store.{Store, HasOpened}
 use Rattle.pb_model.specs.Work.{opening_store}
 use Rattle.pb_hashed.specs.Mailed.{Owner, Mailed, HasNoLetter}
 use Rattle.pb_hashed.specs.MailWork.{MailWork, ComesByMail, mail_expansions, mail_broken}
+use Rattle.pb_owners.specs.RoundRule.{total, RunsInRounds}
 
 -- the shares at the start of a search: the row of the start alone, Opened, with its owner, and no
 -- incumbent
@@ -42,23 +43,27 @@ store_at at weight =
     record { rows = λ owner. (at owner).part; incumbent = (at 0).incumbent; weight = weight }
 
 -- From whatever shares these are, work by mail leads to those afterwards: by exactly so many
--- expansions, none of them broken off. No letter is left.
-abbrev pub RunsByMail : Space → Guide → Weight → (owners used : ℕ) → (old new : ℕ → Owner)
-    → Type 0
-RunsByMail space guide weight owners used old new =
+-- expansions, none of them broken off. No letter is left, and it is such a round.
+abbrev pub RunsByMail : Space → Guide → Weight → (owners used : ℕ)
+    → (Round : Mailed → Mailed → Type 0) → (old new : ℕ → Owner) → Type 0
+RunsByMail space guide weight owners used Round old new =
     (m : Mailed) → IsBetween owners weight old m
     → (next : Mailed) × (works : List MailWork) × ComesByMail space guide works m next
     × IsBetween owners weight new next × (mail_expansions works ≡ used)
-    × (mail_broken works ≡ 0)
+    × (mail_broken works ≡ 0) × Round m next
 
 -- Work by mail leads from the shares at the start of a search to these, by exactly so many
 -- expansions, none of them broken off. No letter is left, and all copies of the incumbent are the
--- same.
-pub record IsSearched (space : Space) (guide : Guide) (weight : Weight) (owners spent : ℕ)
-    (at : ℕ → Owner) : Type 0 where
+-- same. The work was done in rounds: the list has how many rows each of them expanded.
+pub record IsSearched (space : Space) (guide : Guide) (weight : Weight)
+    (owners lot budget spent : ℕ) (at : ℕ → Owner) : Type 0 where
   pub store : Mailed
   pub works : List MailWork
   pub comes : ComesByMail space guide works (opening_mailed space guide weight) store
   pub between : IsBetween owners weight at store
   pub expansions : mail_expansions works ≡ spent
   pub none_broken : mail_broken works ≡ 0
+  pub rounds : List ℕ
+  pub in_rounds : RunsInRounds space guide owners lot budget rounds
+      (opening_mailed space guide weight) store
+  pub spent_is : total rounds ≡ spent

@@ -72,7 +72,8 @@ pub record IsSameSearch (old new : OwnersValue) : Type 0 where
 -- and no g leaves 61 bits.
 pub record OwnersEnd (end : End) (owners : OwnersValue) : Type 0 where
   pub searched : IsSearched (space_in owners) (guide_in owners) (weight_in owners)
-      owners.settings.workers owners.spent (share_at owners.shares)
+      owners.settings.workers owners.settings.lot owners.settings.budget owners.spent
+      (share_at owners.shares)
   pub end_is : IsEnd owners.settings.budget owners.spent (share_at owners.shares) end
   pub within : owners.spent ≤ owners.settings.budget
   pub many : length owners.shares ≡ owners.settings.workers

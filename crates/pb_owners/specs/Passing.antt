@@ -3,7 +3,7 @@
 use Rattle.std.specs.Prelude.{◌≡◌, ℕ, ◌<◌, ◌==◌, false, IsTrue, List, [], Some, None, slice_get}
 use Rattle.pb_mail.specs.declared.post.Post.{Post}
 use Rattle.pb_mail.specs.declared.pass.PostPass.{PostPass}
-use Rattle.pb_mail.specs.Passes.{view_at, number_of, made_by, owners_of, IsPassOf}
+use Rattle.pb_mail.specs.Passes.{view_at, number_of, made_by, owners_of, IsPassOf, KnowsTheSame}
 use Rattle.pb_mail.specs.Posted.{KnowsOf}
 use Rattle.pb_owners.specs.declared.seat.Seat.{Seat}
 
@@ -77,3 +77,19 @@ pub record KeepsSent (old new : PostPass) : Type 0 where
   pub met : (q : ℕ) → (view_at new q).met ≡ (view_at old q).met
   pub number : (q : ℕ) → (view_at new q).number ≡ (view_at old q).number
   pub takes : (q : ℕ) → (view_at new q).takes ≡ (view_at old q).takes
+
+pub record HasPassOf {K : Type 0} (post : Post K) (seat : Seat) : Type 0 where
+  pub pass : PostPass
+  pub pass_is : seat.pass ≡ Some pass
+  pub own : IsPassOf post pass
+
+-- the owner looked at its queue: its pass knows what it knew, and nothing else changed
+pub record HasLooked {K : Type 0} (post : Post K) (old new : Seat) : Type 0 where
+  pub before : PostPass
+  pub before_is : old.pass ≡ Some before
+  pub after : PostPass
+  pub own : IsPassOf post after
+  pub number_is : number_of after ≡ number_of before
+  pub made_is : made_by after ≡ made_by before
+  pub knows : KnowsTheSame before after
+  pub new_is : new ≡ record old { pass = Some after }

@@ -20,7 +20,8 @@ use Rattle.pb_owners.specs.declared.seat.Seat.{Seat}
 use Rattle.pb_owners.specs.Plans.{space_in, guide_in, weight_in, HasTools}
 use Rattle.pb_owners.specs.Seats.{Each, quota_at}
 use Rattle.pb_owners.specs.Passing.{IsFresh}
-use Rattle.pb_owners.specs.Between.{RunsByMail, IsSearched}
+use Rattle.pb_owners.specs.RoundRule.{IsRoundWith, IsRoundOf}
+use Rattle.pb_owners.specs.Between.{RunsByMail, IsSearched, AnyOpened}
 use Rattle.pb_owners.specs.Shares.{seat_at}
 
 -- the post has a queue for each owner, and letters are of states of the task
@@ -98,7 +99,7 @@ pub record HasTaken {K : Type 0} (plan : Plan) (post : Post K) (number : ℕ) (o
   pub taken : new.failed ≡ false → TakesIn plan post before after old.share new.share
   pub tools : HasTools plan new
 
--- memory ran out in no owner's thread
+-- memory ran out in no owner's part
 abbrev pub NoneFailed : List Seat → Type 0
 NoneFailed seats = Each (λ i seat. seat.failed ≡ false) seats
 
@@ -136,26 +137,30 @@ pub record HasRun (plan : Plan) (used : ℕ) (olds news : List Seat) : Type 0 wh
   pub tools : Each (λ i. HasTools plan) news
   pub within : used ≤ sum_below (length olds) (quota_at olds)
   pub mail : RunsByMail (space_in plan) (guide_in plan) (weight_in plan) plan.owners used
+      (IsRoundWith (space_in plan) (guide_in plan) plan.owners used (quota_at olds))
       (seat_at olds) (seat_at news)
 
--- the owners may begin a round with so much of the budget left
+-- the owners may begin a round with so much of the budget left: a row is Opened, and some is left
 pub record IsToRound (plan : Plan) (left : ℕ) (seats : List Seat) : Type 0 where
+  pub opened : AnyOpened (seat_at seats)
+  pub some_left : 0 < left
   pub many : length seats ≡ plan.owners
   pub tools : Each (λ i. HasTools plan) seats
   pub within : Each (λ i seat. IsWithin plan i seat.share left) seats
   pub low : left ≤ 2 ^ 40
 
-pub record HasRounded (plan : Plan) (left used : ℕ) (olds news : List Seat) : Type 0 where
+pub record HasRounded (plan : Plan) (lot left used : ℕ) (olds news : List Seat) : Type 0 where
   pub many : length news ≡ plan.owners
   pub tools : Each (λ i. HasTools plan) news
   pub within : used ≤ left
   pub mail : RunsByMail (space_in plan) (guide_in plan) (weight_in plan) plan.owners used
+      (IsRoundOf (space_in plan) (guide_in plan) plan.owners lot left used)
       (seat_at olds) (seat_at news)
 
 -- the search has come so far, with so many expansions
-pub record HasSearched (plan : Plan) (budget spent : ℕ) (seats : List Seat) : Type 0 where
-  pub searched : IsSearched (space_in plan) (guide_in plan) (weight_in plan) plan.owners spent
-      (seat_at seats)
+pub record HasSearched (plan : Plan) (lot budget spent : ℕ) (seats : List Seat) : Type 0 where
+  pub searched : IsSearched (space_in plan) (guide_in plan) (weight_in plan) plan.owners lot
+      budget spent (seat_at seats)
   pub within : spent ≤ budget
   pub many : length seats ≡ plan.owners
   pub tools : Each (λ i. HasTools plan) seats

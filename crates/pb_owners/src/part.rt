@@ -1,4 +1,4 @@
-//! An owner's part in a round, in its own thread.
+//! An owner's part in a round.
 ghost use Rattle.std.specs.Prelude.{◌≡◌};
 ghost use Rattle.pb_owner.specs.Working.{broken_at};
 ghost use Rattle.pb_owners.specs.Plans.{IsPlan};

@@ -18,7 +18,7 @@ use std::alloc::{AllocError, Global};
 use std::sync::Wait;
 use std::thread::Threads;
 
-// Whether memory ran out in an owner's thread.
+// Whether memory ran out in an owner's part.
 fn any_failed(seats: &[Seat]) -> bool
     ensures { result ≡ false → NoneFailed seats.now }
 {
@@ -76,7 +76,7 @@ pub fn run_round<K: LetterRule + Send + Sync, R: Threads + Wait + Sync, G: Gate>
     requires plan { IsPlan plan.now }
     requires rule { (state : ℕ) → K.fits state ≡ (space_in plan.now).is_state state }
     requires ready { IsToRound plan.now left seats.old }
-    ensures { IfOk result (λ used. HasRounded plan.now left used seats.old seats.new) }
+    ensures { IfOk result (λ used. HasRounded plan.now lot left used seats.old seats.new) }
 {
     draw(seats, lot, left);
     let (post, pass) = Post::<K>::new(alloc, plan.owners)?;

@@ -58,8 +58,8 @@ fn run_rounds<K: LetterRule + Send + Sync, R: Threads + Wait + Sync, G: Gate>(
         (opening_mailed (space_in plan.now) (guide_in plan.now) (weight_in plan.now)) }
     requires many { length seats.old ≡ plan.now.owners }
     requires tools { Each (λ i. HasTools plan.now) seats.old }
-    requires budget { budget ≤ 2 ^ 40 }
-    ensures searched { IfOk result (λ r. HasSearched plan.now budget r.1 seats.new) }
+    requires budget { (0 < budget) × (budget ≤ 2 ^ 40) }
+    ensures searched { IfOk result (λ r. HasSearched plan.now lot budget r.1 seats.new) }
     ensures end { IfOk result (λ r. IsEnd budget r.1 (seat_at seats.new) r.0) }
 {
     let mut spent = 0u64;
@@ -131,9 +131,9 @@ fn search<K: LetterRule + Send + Sync, R: Threads + Wait + Sync, G: Gate>(
         (opening_mailed (space_in plan.now) (guide_in plan.now) (weight_in plan.now)) }
     requires many { vec_len shares ≡ plan.now.owners }
     requires of_weight { All (λ share. share.bundle.weight ≡ weight_in plan.now) shares.items }
-    requires budget { budget ≤ 2 ^ 40 }
+    requires budget { (0 < budget) × (budget ≤ 2 ^ 40) }
     ensures searched { IfOk result (λ r. IsSearched (space_in plan.now) (guide_in plan.now)
-        (weight_in plan.now) plan.now.owners r.1 (share_at r.2.items)) }
+        (weight_in plan.now) plan.now.owners lot budget r.1 (share_at r.2.items)) }
     ensures within { IfOk result (λ r. r.1 ≤ budget) }
     ensures many { IfOk result (λ r. vec_len r.2 ≡ plan.now.owners) }
     ensures end { IfOk result (λ r. IsEnd budget r.1 (share_at r.2.items) r.0) }

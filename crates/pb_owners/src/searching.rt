@@ -60,10 +60,10 @@ fn opening(
     )
 }
 
-/// Searches a task by owners with these settings, each owner in a thread of its own. The result is
-/// how the search ended, and the owners with their rows. The blocks are the finest that are no more
-/// than the settings wish for. A pattern database that they ask for is made once, and all owners
-/// share it. The gate is called as by `run_owners`. An error means out of memory.
+/// Searches a task by owners with these settings, in a thread for each owner that has work. The
+/// result is how the search ended, and the owners with their rows. The blocks are the finest that
+/// are no more than the settings wish for. A pattern database that they ask for is made once, and
+/// all owners share it. The gate is called as by `run_owners`. An error means out of memory.
 pub fn search_by_owners<R: Threads + Wait + Sync, G: Gate>(
     rt: &R,
     alloc: Global,
