@@ -51,7 +51,7 @@ pub fn expand(
     ensures tables { IsOfTask estimator.new task.now lease.old.choice }
     ensures room { vec_capacity succs.old ≤ vec_capacity succs.new }
 {
-    task.successors(state, succs);
+    estimator.successors(task, state, succs);
     offer_all(task, estimator, abstraction, lease, succs, state, row.g)?;
     close(lease, state);
     lease.spend();

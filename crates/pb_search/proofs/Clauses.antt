@@ -6,22 +6,25 @@ use Rattle.pb_model.specs.Work.{Comes, expansions, opening_store}
 use Rattle.pb_model.proofs.Callers.{by_cases, weights_stay}
 use Rattle.pb_machine.specs.declared.event.End.{End}
 use Rattle.pb_machine.specs.declared.event.End.TheVariants.{Quiet, Budget, Memory}
+use Rattle.pb_machine.specs.declared.event.Event.{Event}
 use Rattle.pb_machine.specs.declared.settings.Settings.{Settings}
 use Rattle.pb_machine.specs.Settings.{AreInRange, weight_of}
 use Rattle.pb_machine.specs.Counts.{Counts, opening_counts}
-use Rattle.pb_machine.specs.History.{IsHistory, AreFinished}
-use Rattle.pb_machine.specs.Room.{KeepsWithinRoom}
+use Rattle.pb_machine.specs.History.{IsHistory, AreFinished, events_of}
+use Rattle.pb_machine.specs.Room.{no_room, KeepsWithinRoom}
 use Rattle.pb_machine.specs.Machine.{Setup, IsSetup, Machine, Move, Runs, journal_of, opening_machine}
 use Rattle.pb_machine.specs.Lawful.{broken_leases, IsLawful}
-use Rattle.pb_machine.proofs.Callers.{none_counted, spent_is_used, used_fits_budget, journals_are_histories, costs_fit}
+use Rattle.pb_machine.proofs.Callers.{none_counted, opening_is_lawful, spent_is_used, used_fits_budget, journals_are_histories, costs_fit}
 use Rattle.pb_task.specs.declared.parts.TaskParts.{TaskParts}
 use Rattle.pb_abstract.specs.Projection.{IsFinest}
 use Rattle.pb_abstract.specs.Graph.{AbstractGraph, blocks_of, IsGraph, IsGraphOf}
 use Rattle.pb_lease.specs.Leased.{setup_of}
 use Rattle.pb_lease.specs.GraphValue.{GraphValue, setup_in}
 use Rattle.pb_lease.proofs.Callers.{setup_is, all_rows}
+use Rattle.pb_task.specs.Parts.{greatest_cost}
+use Rattle.pb_yard.specs.Marking.{MarksInTurn}
 use Rattle.pb_yard.specs.Order.{RunsInTime}
-use Rattle.pb_yard.proofs.Callers.{in_time_is_run, runs_are_short}
+use Rattle.pb_yard.proofs.Callers.{in_time_is_run, other_ends_have_no_report, runs_are_short}
 use Rattle.pb_workers.proofs.Callers.{store_is, best_end}
 use Rattle.pb_search.specs.Ends.{choice_of, search_of, HasSmallCosts, IsBestOf, HasEndedSo, RunEnds, EndsBy, StopsWith, EndsQuietly, MarksNothing}
 use Rattle.pb_search.specs.Searched.{HasSearched}
@@ -40,11 +43,11 @@ none_broken_at p m l ends = none_counted p.settings.workers m.broken (λ k lt. b
 
 -- ---- a run, wherever it begins
 
-module _ (setup : Setup) (range : AreInRange setup.settings) (before : ℕ) (enough : before ≤ setup.settings.budget) (begin : Machine) (begins : begin.counts ≡ opening_counts setup.settings before)
-    (moves : List Move) (machine : Machine) (run : RunsInTime setup begin moves machine) (lawful : IsLawful setup machine) (finished : AreFinished setup.settings machine.counts)
+module _ (setup : Setup) (is_setup : IsSetup setup greatest_cost) (range : AreInRange setup.settings) (before : ℕ) (enough : before ≤ setup.settings.budget) (begin : Machine) (begins : begin.counts ≡ opening_counts setup.settings before) (first : IsLawful setup begin)
+    (moves : List Move) (machine : Machine) (run : RunsInTime setup no_room begin moves machine) (lawful : IsLawful setup machine) (finished : AreFinished setup.settings machine.counts)
     (within : KeepsWithinRoom (journal_of moves)) (ended : (machine.counts.end ≡ Some Quiet) ⊎ (machine.counts.end ≡ Some Budget)) where
   plain_run : Runs setup begin moves machine
-  plain_run = in_time_is_run setup moves begin machine run
+  plain_run = in_time_is_run setup no_room moves begin machine run
 
   legal_run : IsHistory setup.blocks setup.settings before (journal_of moves) machine.counts
   legal_run = journals_are_histories setup moves begin machine before range enough begins plain_run
@@ -60,6 +63,10 @@ module _ (setup : Setup) (range : AreInRange setup.settings) (before : ℕ) (eno
       go : {A : Type 0} → (machine.counts.end ≡ Some Quiet) ⊎ (machine.counts.end ≡ Some Budget) → A
       go (inl quiet) = let bad : ◌≡◌ {A = Option End} (Some Quiet) (Some Memory) = sym quiet ∙ is in cc
       go (inr budget) = let bad : ◌≡◌ {A = Option End} (Some Budget) (Some Memory) = sym budget ∙ is in cc
+
+  not_memory : (machine.counts.end ≡ Some Quiet) ⊎ (machine.counts.end ≡ Some Budget) → machine.counts.end ≡ Some Memory → ⊥
+  not_memory (inl quiet) memory = let bad : ◌≡◌ {A = Option End} (Some Quiet) (Some Memory) = sym quiet ∙ memory in cc
+  not_memory (inr budget) memory = let bad : ◌≡◌ {A = Option End} (Some Budget) (Some Memory) = sym budget ∙ memory in cc
 
   pub run_ends : (end : End) → machine.counts.end ≡ Some end → RunEnds setup before begin end moves
   run_ends end is = record {
@@ -81,6 +88,7 @@ module _ (setup : Setup) (range : AreInRange setup.settings) (before : ℕ) (eno
         (lawful.reached.reopened ∙ first)) ∙ lawful.weight;
     ended_so = ends_so end is;
     within = within;
+    unreported = other_ends_have_no_report setup greatest_cost no_room moves begin machine is_setup first (ap (λ (c : Counts). c.end) begins) run end is (λ memory. not_memory ended (is ∙ ap (λ (e : End). Some e) memory));
   }
 
 module _ (parts : TaskParts) (abstraction : AbstractGraph) (settings : Settings) (range : AreInRange settings) (graph_of : IsGraphOf parts abstraction)
@@ -131,7 +139,7 @@ module _ (parts : TaskParts) (abstraction : AbstractGraph) (settings : Settings)
   no_memory (inr budget) memory = let bad : ◌≡◌ {A = Option End} (Some Budget) (Some Memory) = sym budget ∙ memory in cc
 
   run_ended : (end : End) → h.machine.counts.end ≡ Some end → RunEnds setup 0 (opening_machine setup) end h.moves
-  run_ended = run_ends setup range 0 (omega arith) (opening_machine setup) refl h.moves h.machine h.ordered lawful h.finished within ended
+  run_ended = run_ends setup is_setup range 0 (omega arith) (opening_machine setup) refl (opening_is_lawful setup greatest_cost is_setup refl) h.moves h.machine h.ordered lawful h.finished within ended
 
   ends_by : (end : End) → h.machine.counts.end ≡ Some end → EndsBy parts settings end h.moves
   unfolding run_ends run_ended
@@ -143,6 +151,7 @@ module _ (parts : TaskParts) (abstraction : AbstractGraph) (settings : Settings)
     run = run_ended end is;
     comes = subst (λ (w : Weight). Comes setup.space setup.guide (run_ended end is).works (opening_store setup.space setup.guide w) (run_ended end is).machine.store) ((run_ended end is).first_run refl) (run_ended end is).comes;
     short = runs_are_short setup (2 ^ 20) h.moves h.machine is_setup refl range h.ordered within h.finished (no_memory ended);
+    marks = λ worker. subst (λ (j : List Event). MarksInTurn (events_of worker j)) h.journal (h.marks worker);
   }
 
   pub quiet_run : g.table.end ≡ Some Quiet → EndsQuietly parts settings g.table.journal g

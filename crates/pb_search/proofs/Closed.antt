@@ -6,12 +6,13 @@ use Rattle.pb_machine.specs.declared.event.Event.{Event}
 use Rattle.pb_machine.specs.declared.settings.Settings.{Settings}
 use Rattle.pb_machine.specs.Counts.{Counts}
 use Rattle.pb_machine.specs.History.{AreFinished}
-use Rattle.pb_machine.specs.Room.{KeepsWithinRoom}
+use Rattle.pb_machine.specs.Room.{no_room, KeepsWithinRoom}
 use Rattle.pb_machine.specs.Machine.{Setup}
 use Rattle.pb_machine.specs.Lawful.{IsLawful}
 use Rattle.pb_lease.specs.Leased.{setup_of}
 use Rattle.pb_lease.specs.GraphValue.{GraphValue, setup_in, counts_in, IsLeaseGraph}
 use Rattle.pb_lease.specs.Begins.{begin_machine}
+use Rattle.pb_lease.proofs.Callers.{setup_is}
 use Rattle.pb_yard.specs.declared.view.View.{View}
 use Rattle.pb_yard.specs.Order.{RunsInTime}
 use Rattle.pb_yard.specs.Calls.{IsClosed}
@@ -33,15 +34,15 @@ module _ (view : View) (g : GraphValue) (end : End) (begins : IsLeaseGraph view.
   finished = subst (λ (n : Counts). AreFinished view.begin.table.settings n) (sym (c.moment (λ worker home state. None)).at.counts)
       (subst (λ (s : Settings). AreFinished s (counts_in g)) c.of_run.settings c.finished)
 
-  run : RunsInTime (setup_in view.begin) (begin_machine view.begin) c.moves c.machine
-  run = subst (λ (s : Setup). RunsInTime s (begin_machine view.begin) c.moves c.machine) setup_same c.run
+  run : RunsInTime (setup_in view.begin) no_room (begin_machine view.begin) c.moves c.machine
+  run = subst (λ (s : Setup). RunsInTime s no_room (begin_machine view.begin) c.moves c.machine) setup_same c.run
 
   ended : (end ≡ Quiet) ⊎ (end ≡ Budget) → (c.machine.counts.end ≡ Some Quiet) ⊎ (c.machine.counts.end ≡ Some Budget)
   ended (inl quiet) = inl (end_is ∙ ap (λ (e : End). Some e) quiet)
   ended (inr budget) = inr (end_is ∙ ap (λ (e : End). Some e) budget)
 
   pub ends_from : (end ≡ Quiet) ⊎ (end ≡ Budget) → EndsFrom view.begin end c.moves
-  ends_from which = run_ends (setup_in view.begin) begins.legal.range view.begin.table.past.spent begins.legal.enough (begin_machine view.begin) refl c.moves c.machine run lawful finished
+  ends_from which = run_ends (setup_in view.begin) (setup_is view.begin begins) begins.legal.range view.begin.table.past.spent begins.legal.enough (begin_machine view.begin) refl (c.begins.moment (λ worker home state. None)).at.lawful c.moves c.machine run lawful finished
       (subst (λ (j : List Event). KeepsWithinRoom j) (sym c.journal) within) (ended which) end end_is
 
 pub closed_yards_have_ended : ClosedYardsHaveEnded

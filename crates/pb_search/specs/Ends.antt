@@ -11,8 +11,8 @@ use Rattle.pb_machine.specs.declared.event.Event.{Event}
 use Rattle.pb_machine.specs.declared.event.Event.TheVariants.{Hot}
 use Rattle.pb_machine.specs.declared.settings.Settings.{Settings}
 use Rattle.pb_machine.specs.Settings.{weight_of}
-use Rattle.pb_machine.specs.History.{IsHistory, AreFinished}
-use Rattle.pb_machine.specs.Room.{KeepsWithinRoom}
+use Rattle.pb_machine.specs.History.{IsHistory, AreFinished, is_report, events_of}
+use Rattle.pb_machine.specs.Room.{no_room, KeepsWithinRoom}
 use Rattle.pb_machine.specs.Machine.{Setup, Machine, Move, Runs, journal_of, opening_machine}
 use Rattle.pb_machine.specs.Lawful.{IsLawful}
 use Rattle.pb_task.specs.declared.parts.TaskParts.{TaskParts}
@@ -26,6 +26,7 @@ use Rattle.pb_lease.specs.GraphValue.{GraphValue, setup_in}
 use Rattle.pb_lease.specs.Begins.{begin_machine}
 use Rattle.pb_lease.specs.Choices.{is_out_in}
 use Rattle.pb_yard.specs.Order.{RunsInTime}
+use Rattle.pb_yard.specs.Marking.{MarksInTurn}
 use Rattle.pb_yard.specs.Length.{most_events}
 use Rattle.pb_workers.specs.Ends.{home_store, IsBestEnd}
 
@@ -73,7 +74,7 @@ Leads setup moves machine = Runs setup (opening_machine setup) moves machine
 -- store. Its worker takes the first Opened row of its block again and again. It goes on, or comes
 -- back, with a cause.
 abbrev pub LeadsInTime : Setup → List Move → Machine → Type 0
-LeadsInTime setup moves machine = RunsInTime setup (opening_machine setup) moves machine
+LeadsInTime setup moves machine = RunsInTime setup no_room (opening_machine setup) moves machine
 
 -- this work leads from the start's row alone, at the weight of the settings, to this store
 abbrev pub ComesFromStart : TaskParts → AbstractGraph → Settings → List Work → Store → Type 0
@@ -99,12 +100,13 @@ HasEndedSo Memory settings store expanded = ⊥
 -- broken off, lead from the start's row alone to the rows of that machine, as the end says: those of
 -- this run, and those of the earlier ones. The rows were opened again before each run but the
 -- first, when no row was Opened. The journal isn't padded: each of its events is within the room of
--- its lease.
+-- its lease. No event reports out of memory: every worker signed off without a report, and each
+-- lease came back without one.
 pub record RunEnds (setup : Setup) (before : ℕ) (begin : Machine) (end : End) (moves : List Move)
     : Type 0 where
   pub machine : Machine
   pub run : Runs setup begin moves machine
-  pub ordered : RunsInTime setup begin moves machine
+  pub ordered : RunsInTime setup no_room begin moves machine
   pub lawful : IsLawful setup machine
   pub end_is : machine.counts.end ≡ Some end
   pub finished : AreFinished setup.settings machine.counts
@@ -121,6 +123,7 @@ pub record RunEnds (setup : Setup) (before : ℕ) (begin : Machine) (end : End) 
   pub first_run : setup.reopenings ≡ 0 → first_weight ≡ weight_of setup.settings
   pub ended_so : HasEndedSo end setup.settings machine.store (expansions works)
   pub within : KeepsWithinRoom (journal_of moves)
+  pub unreported : IsFalse (list_any is_report (journal_of moves))
 
 -- The run that began with this graph came to this end by these moves.
 abbrev pub EndsFrom : (begin : GraphValue) → End → List Move → Type 0
@@ -130,7 +133,8 @@ EndsFrom begin end moves =
 -- A search by leases of this task, with these settings, came to this end by these moves. They are
 -- over the finest abstract graph of the task that has no more blocks than are wished for. The run is
 -- a first one: it began with the machine that has the start's row alone, at the weight of the
--- settings. There are no more events than the expansions can have brought about.
+-- settings. There are no more events than the expansions can have brought about. Each worker marked
+-- at most once a turn, with its quota used up, and took no mark away.
 pub record EndsBy (parts : TaskParts) (settings : Settings) (end : End) (moves : List Move)
     : Type 0 where
   pub abstraction : AbstractGraph
@@ -142,6 +146,7 @@ pub record EndsBy (parts : TaskParts) (settings : Settings) (end : End) (moves :
   pub comes : ComesFromStart parts abstraction settings run.works run.machine.store
   pub short : length (journal_of moves)
       ≤ most_events (space_of parts).actions run.machine.counts.spent settings.workers
+  pub marks : (worker : ℕ) → MarksInTurn (events_of worker (journal_of moves))
 
 -- A search of this task with these settings came to the end of its budget by some moves. Their
 -- events are those of the journal.

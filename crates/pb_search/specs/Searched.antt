@@ -4,7 +4,7 @@ use Rattle.pb_model.specs.Store.{Rows}
 use Rattle.pb_machine.specs.declared.event.End.TheVariants.{Quiet, Budget}
 use Rattle.pb_machine.specs.declared.settings.Settings.{Settings}
 use Rattle.pb_machine.specs.Counts.{opening_counts}
-use Rattle.pb_machine.specs.History.{AreFinished}
+use Rattle.pb_machine.specs.History.{AreFinished, events_of}
 use Rattle.pb_machine.specs.Room.{KeepsWithinRoom}
 use Rattle.pb_machine.specs.Machine.{Machine, opening_machine, Move, journal_of}
 use Rattle.pb_task.specs.declared.parts.TaskParts.{TaskParts}
@@ -14,6 +14,7 @@ use Rattle.pb_lease.specs.GraphValue.{GraphValue, setup_in, counts_in, IsLeaseGr
 use Rattle.pb_lease.specs.Choices.{is_out_in}
 use Rattle.pb_lease.specs.Moments.{IsMoment}
 use Rattle.pb_lease.specs.Begins.{begin_machine, IsBegin}
+use Rattle.pb_yard.specs.Marking.{MarksInTurn}
 use Rattle.pb_search.specs.Ends.{choice_of, search_of, Leads, LeadsInTime}
 
 -- The graph is that of a search of this task by this abstract graph, with these settings. The
@@ -32,8 +33,8 @@ pub record Opens (parts : TaskParts) (abstraction : AbstractGraph) (settings : S
 -- The graph is what a search of this task by this abstract graph, with these settings, came to,
 -- quietly or by its budget. It is a moment of a machine at which every worker has signed off. Moves
 -- from the machine that has the start's row alone lead there, and their events are the graph's
--- journal. They are in order and in time, and the journal keeps within the room of its leases. No
--- lease is out.
+-- journal. They are in order and in time, and the journal keeps within the room of its leases. Each
+-- worker has its marks in turn. No lease is out.
 pub record HasSearched (parts : TaskParts) (abstraction : AbstractGraph) (settings : Settings)
     (graph : GraphValue) : Type 0 where
   pub task : graph.task ≡ parts
@@ -53,3 +54,4 @@ pub record HasSearched (parts : TaskParts) (abstraction : AbstractGraph) (settin
   pub moment : IsMoment graph recorded machine
   pub finished : AreFinished settings machine.counts
   pub within : KeepsWithinRoom graph.table.journal
+  pub marks : (worker : ℕ) → MarksInTurn (events_of worker graph.table.journal)

@@ -19,6 +19,8 @@ mod searches;
 #[cfg(test)]
 mod tables;
 #[cfg(test)]
+mod waiting;
+#[cfg(test)]
 mod watched;
 #[cfg(test)]
 mod workers;

@@ -86,16 +86,37 @@ pub(crate) struct Summary {
     pub(crate) leases: u64,
     pub(crate) renewals: u64,
     pub(crate) releases: u64,
-    // How often a block was marked hot.
+    // How often a block was marked hot, and how often a mark was taken away.
     pub(crate) marks: u64,
+    pub(crate) colds: u64,
+    // How often a worker gave a lease back and had another one with no event between.
+    pub(crate) switches: u64,
     // Sign-offs that report want of memory aren't counted.
     pub(crate) sign_offs: u64,
     pub(crate) expansions: u64,
 }
 
+// How often a release and a lease of the same worker stand side by side.
+fn switches_in(journal: &[Event]) -> u64 {
+    let mut switches = 0u64;
+    let mut given = None;
+    for event in journal {
+        if let Event::Lease { worker, .. } = event
+            && given == Some(*worker)
+        {
+            switches = switches.wrapping_add(1);
+        }
+        given = match event {
+            Event::Release { worker, .. } => Some(*worker),
+            _ => None,
+        };
+    }
+    switches
+}
+
 fn summary_of(graph: &LeaseGraph) -> Summary {
     let (mut leases, mut renewals, mut releases) = (0u64, 0u64, 0u64);
-    let (mut marks, mut sign_offs, mut expansions) = (0u64, 0u64, 0u64);
+    let (mut marks, mut colds, mut sign_offs, mut expansions) = (0u64, 0u64, 0u64, 0u64);
     for event in graph.journal() {
         match event {
             Event::Lease { .. } => leases = leases.wrapping_add(1),
@@ -109,7 +130,8 @@ fn summary_of(graph: &LeaseGraph) -> Summary {
                 expansions = expansions.wrapping_add(*used);
             }
             Event::Off { memory: false, .. } => sign_offs = sign_offs.wrapping_add(1),
-            Event::Off { .. } | Event::Cold { .. } | Event::Ended(_) => {}
+            Event::Cold { .. } => colds = colds.wrapping_add(1),
+            Event::Off { .. } | Event::Ended(_) => {}
         }
     }
     Summary {
@@ -119,6 +141,8 @@ fn summary_of(graph: &LeaseGraph) -> Summary {
         renewals,
         releases,
         marks,
+        colds,
+        switches: switches_in(graph.journal()),
         sign_offs,
         expansions,
     }

@@ -64,7 +64,9 @@ fn work_beside<W: Wait>(
     let after = watch.yard.glance(other);
     let waits = is_told_to_wait(rt, watch.yard, other);
     match worked {
-        Worked::Spent => watch.yard.release(rt, &mut watch.pass, lease, false),
+        // The lot is larger than the task, so the quota isn't used up. A lease whose quota is used
+        // up could come back by a report alone, or by asking to go on.
+        Worked::Spent => watch.yard.release(rt, &mut watch.pass, lease, true),
         Worked::Empty => watch.yard.release(rt, &mut watch.pass, lease, false),
         Worked::Memory => watch.yard.release(rt, &mut watch.pass, lease, true),
     }

@@ -36,4 +36,4 @@ nearer_then first now new lease held (inr same) near =
 
 -- a lease that was given now
 pub goes_from : (g : GraphValue) (lease : LeaseValue) → IsHeld g lease → GoesOnTo g lease g lease
-goes_from g lease held = record { held = held; worker = refl; same = same_self g; signed_off = refl; runs = out_none g lease; on = inr (refl, refl) }
+goes_from g lease held = record { held = held; worker = refl; same = same_self g; signed_off = refl; runs = out_none g lease; on = inr (refl, refl); turn = λ before. before }

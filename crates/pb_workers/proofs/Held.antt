@@ -1,11 +1,13 @@
 -- The turns of a worker that has a lease of a graph that it searches alone.
-use Rattle.std.proofs.Common.{◌≡◌, ℕ, ◌+◌, ◌-◌, ◌<◌, ◌≤◌, ◌⊎◌, Bool, true, false, is_some, [], ◌∷◌, ◌++◌, Option, Some, sym, ap, ◌∙◌, arith, subst, inl, inr, nat_lt}
+use Rattle.std.proofs.Common.{◌≡◌, refl, ℕ, ◌+◌, ◌-◌, ◌<◌, ◌≤◌, ◌⊎◌, Bool, true, false, is_some, [], ◌∷◌, ◌++◌, Option, Some, sym, ap, ◌∙◌, arith, subst, inl, inr, nat_lt}
 use Rattle.pb_model.specs.Store.{Rows, HasOpened}
 use Rattle.pb_model.proofs.Callers.{by_cases, below, not_below, equal_self}
 use Rattle.pb_machine.specs.declared.event.Event.TheVariants.{Renew, Release}
 use Rattle.pb_machine.specs.declared.event.Grant.{Grant}
 use Rattle.pb_machine.specs.Tables.{with_entry, one_if, count_below}
 use Rattle.pb_machine.specs.Counts.{Counts, quota_of}
+use Rattle.pb_machine.specs.Room.{room_after}
+use Rattle.pb_machine.specs.History.{events_of}
 use Rattle.pb_machine.specs.Machine.{Machine}
 use Rattle.pb_machine.proofs.Callers.{entry_here}
 use Rattle.pb_task.specs.declared.parts.TaskParts.{TaskParts}
@@ -21,12 +23,16 @@ use Rattle.pb_lease.specs.Moments.{IsMoment}
 use Rattle.pb_lease.specs.Steps.{IsReleased, ReleasesNext, IsRenewed, RenewsNext, GoesOn, renewed_quota}
 use Rattle.pb_lease.proofs.Callers.{setup_is, releases_in_order, renews_in_order}
 use Rattle.pb_expand.specs.Turned.{IsAtWork}
-use Rattle.pb_yard.specs.Order.{HasCause}
-use Rattle.pb_yard.proofs.Callers.{in_time_one, in_time_events, ending_grants_none, still_first}
+use Rattle.pb_yard.specs.Order.{HasCause, CannotGoOn}
+use Rattle.pb_yard.specs.Marking.{no_turn, turn_with}
+use Rattle.pb_yard.proofs.Callers.{in_time_one, in_time_events, ending_grants_none, still_first, cannot_go_on, MayReturn}
 use Rattle.pb_workers.specs.Runs.{IsSameSearch, RunsTo}
 use Rattle.pb_workers.specs.Holding.{Works, IsHeld, RunsOut, RunsHome, left_with, opened_blocks, IsNearer, IsMarkedAtMost, IsWorkOf, GoesOnTo, IsToReturn, IsBack}
 use Rattle.pb_workers.proofs.Going.{same_then, run_one, run_then}
 use Rattle.pb_workers.proofs.GoingOn.{out_then, home_then, on_less, nearer_then}
+use Rattle.pb_workers.specs.Turns.{HasTurn}
+use Rattle.pb_workers.proofs.Turns.{own, ending_none, one_more, journal_more}
+use Rattle.pb_workers.proofs.Turns.{renewed as turn_renewed, returned as turn_returned}
 use Rattle.pb_workers.proofs.Marked.{marked_same, marked_homes, marked_leases, marked_signed, marked_left, marked_end, marked_runs}
 use Rattle.pb_workers.proofs.Returned.{returned_same, returned_signed, returned_vacant, returned_left, returned_end, none_opened_then, fewer_opened}
 
@@ -107,14 +113,14 @@ module _ (g : GraphValue) (lease : LeaseValue) (held : IsHeld g lease) (worked :
           step.0,
           run_then g marked new machine a.0 step.0 recorded recorded (marked_same g worked.worker marked mark) a.1
               (run_one marked a.0 (Release worked.worker worked.used true ∷ ending true marked.table.end) new recorded step.0 step.1
-              (in_time_events (setup_in marked) (Release worked.worker worked.used true ∷ ending true marked.table.end) a.0 step.0 (ending_grants_none true marked.table.end) step.1.moves) r.events.journal),
+              (in_time_events (setup_in marked) (room_after marked.table.journal) (Release worked.worker worked.used true ∷ ending true marked.table.end) a.0 step.0 (ending_grants_none true marked.table.end) step.1.moves) r.events.journal),
         )
 
     nearer_memory : IsNearer g lease new
     nearer_memory = inl (ap is_some (returned_end marked worked new r (marked_end g worked.worker marked mark ∙ held.no_end)))
 
-  -- with its quota used up, or with no row of its block left Opened
-  module _ (w : IsWorkOf g lease worked 0) (marked : GraphValue) (mark : IsMarkedAtMost g worked.worker marked) (k : IsLeaseGraph marked) (cause : HasCause worked false) (new : GraphValue)
+  -- with no row of its block left Opened, or with its quota used up, where it can't go on
+  module _ (w : IsWorkOf g lease worked 0) (marked : GraphValue) (mark : IsMarkedAtMost g worked.worker marked) (k : IsLeaseGraph marked) (new : GraphValue) (cause : MayReturn marked new worked false)
       (r : IsReleased marked worked false new) where
     of_graph : IsOfGraph marked worked
     of_graph = marked_of_graph g lease held worked 0 w marked mark
@@ -123,13 +129,17 @@ module _ (g : GraphValue) (lease : LeaseValue) (held : IsHeld g lease) (worked :
     done_home next recorded machine m out =
         let a = along g lease held worked 0 w marked mark recorded machine m out in
         let step = releases_in_order marked worked new r.incumbent recorded a.0 a.1.moment false next a.2 in
-        let why : (worked.used ≡ worked.quota) ⊎ (HasOpened (step.0.store.rows worked.block) → ⊥) =
-        elim cause [ inl spent ↦ inl spent | inr none ↦ inr (none_opened_then marked k worked of_graph new r recorded a.0 a.1.moment a.2 none recorded step.0 step.1.moment) ] in (
+        let why : (HasOpened (step.0.store.rows worked.block) → ⊥)
+        ⊎ ((worked.used ≡ worked.quota) × CannotGoOn (setup_in marked) (room_after marked.table.journal) a.0 worked.worker worked.used worked.block step.0) =
+        elim cause [
+          | inl none ↦ inl (none_opened_then marked k worked of_graph new r recorded a.0 a.1.moment a.2 none recorded step.0 step.1.moment)
+          | inr spent ↦ inr (spent.0, cannot_go_on marked worked new r.noted spent.1 spent.2 recorded recorded a.0 step.0 a.1.moment.at step.1.moment.at spent.3)
+        ] in (
           recorded,
           step.0,
           run_then g marked new machine a.0 step.0 recorded recorded (marked_same g worked.worker marked mark) a.1
               (run_one marked a.0 (Release worked.worker worked.used false ∷ []) new recorded step.0 step.1
-              (in_time_one (setup_in marked) (Release worked.worker worked.used false) a.0 step.0 tt (grant_of worked, a.2.0.leased, why) step.1.moves) r.events.journal),
+              (in_time_one (setup_in marked) (room_after marked.table.journal) (Release worked.worker worked.used false) a.0 step.0 tt (grant_of worked, a.2.0.leased, why) step.1.moves) r.events.journal),
         )
 
     left : new.table.left ≡ marked.table.left + (worked.quota - worked.used)
@@ -164,10 +174,18 @@ module _ (g : GraphValue) (lease : LeaseValue) (held : IsHeld g lease) (worked :
         inr (inr (omega (arith, unused, now, before, quota), omega (arith, fewer, same))))
 
     nearer_done : IsNearer g lease new
-    nearer_done = elim cause [ inl spent ↦ nearer_spent spent | inr none ↦ nearer_empty none ]
+    nearer_done = elim cause [ inl none ↦ nearer_empty none | inr spent ↦ nearer_spent spent.0 ]
 
 -- a run from where the lease was given
 module _ (begin : GraphValue) (given : LeaseValue) (marked : GraphValue) (worked : LeaseValue) (k : IsLeaseGraph marked) (new : GraphValue) where
+  turned : (memory : Bool) (t : IsToReturn begin given marked worked (one_if memory)) (r : IsReleased marked worked memory new) → HasTurn begin given.worker (turn_with given.quota) → HasTurn new given.worker no_turn
+  turned memory t r before =
+      let was = t.turn before in
+      journal_more marked.table.journal new.table.journal given.worker (Release worked.worker worked.used memory ∷ ending memory marked.table.end) r.events.journal
+      ∙ one_more (events_of given.worker marked.table.journal) given.worker was.0 was.1 (Release worked.worker worked.used memory) (ending memory marked.table.end)
+      (own worked.worker given.worker (t.work.same.worker ∙ t.on.worker)) (ending_none given.worker memory marked.table.end)
+      ∙ turn_returned was.0 worked.worker worked.used memory was.2
+
   back_with : (memory : Bool) (t : IsToReturn begin given marked worked (one_if memory)) (r : IsReleased marked worked memory new) → RunsHome t.first t.held new → IsNearer t.first t.held new → IsBack begin given new
   back_with memory t r home nearer = record {
     home = home_then begin t.first new given t.held t.on.same t.on.runs home;
@@ -175,13 +193,14 @@ module _ (begin : GraphValue) (given : LeaseValue) (marked : GraphValue) (worked
     nearer = nearer_then begin t.first new given t.held t.on.on nearer;
     same = same_then begin t.first new t.on.same (same_then t.first marked new (marked_same t.first worked.worker marked t.mark) (returned_same marked worked memory new r));
     signed_off = returned_signed marked worked memory new r ∙ marked_signed t.first worked.worker marked t.mark ∙ t.on.signed_off;
+    turn = turned memory t r;
   }
 
-  pub back : (memory : Bool) → IsToReturn begin given marked worked (one_if memory) → HasCause worked memory → IsReleased marked worked memory new → ReleasesNext marked worked memory new → IsBack begin given new
+  pub back : (memory : Bool) → IsToReturn begin given marked worked (one_if memory) → MayReturn marked new worked memory → IsReleased marked worked memory new → ReleasesNext marked worked memory new → IsBack begin given new
   back true t cause r next =
       back_with true t r (broken_home t.first t.held t.on.held worked t.work marked t.mark new r next) (nearer_memory t.first t.held t.on.held worked t.work marked t.mark new r)
   back false t cause r next =
-      back_with false t r (done_home t.first t.held t.on.held worked t.work marked t.mark k cause new r next) (nearer_done t.first t.held t.on.held worked t.work marked t.mark k cause new r)
+      back_with false t r (done_home t.first t.held t.on.held worked t.work marked t.mark k new cause r next) (nearer_done t.first t.held t.on.held worked t.work marked t.mark k new cause r)
 
 -- ---- a lease that goes on
 
@@ -224,7 +243,7 @@ module _ (g : GraphValue) (lease : LeaseValue) (held : IsHeld g lease) (worked :
           step.0,
           run_then g marked new machine a.0 step.0 recorded after (marked_same g worked.worker marked mark) a.1
               (run_one marked a.0 (Renew worked.worker worked.used kept.quota ∷ []) new after step.0 step.1
-              (in_time_one (setup_in marked) (Renew worked.worker worked.used kept.quota) a.0 step.0 (given_whole step.0 step.1.moment.incumbent step.2)
+              (in_time_one (setup_in marked) (room_after marked.table.journal) (Renew worked.worker worked.used kept.quota) a.0 step.0 (given_whole step.0 step.1.moment.incumbent step.2)
               (grant_of worked, a.2.0.leased, spent, still_first marked worked new n.noted k.key_places recorded after a.0 step.0 a.1.moment.at step.1.moment.at goes.0) step.1.moves)
               (n.events.journal ∙ ap (λ q. marked.table.journal ++ Renew worked.worker worked.used q ∷ []) (sym kept_quota))),
           step.3,
@@ -260,4 +279,10 @@ kept_on begin given marked worked k t spent new kept n goes next = record {
   signed_off = kept_signed t.first t.held t.on.held worked t.work marked t.mark new kept n goes ∙ t.on.signed_off;
   runs = out_then begin t.first new given t.held kept t.on.same t.on.runs (kept_out t.first t.held t.on.held worked t.work marked t.mark new kept n goes k spent next);
   on = on_less begin t.first new given t.held kept t.on.on (kept_less t.first t.held t.on.held worked t.work marked t.mark new kept n goes spent);
+  turn = λ before.
+      let was = t.turn before in
+      journal_more marked.table.journal new.table.journal given.worker (Renew worked.worker worked.used (renewed_quota marked worked) ∷ []) n.events.journal
+      ∙ one_more (events_of given.worker marked.table.journal) given.worker was.0 was.1 (Renew worked.worker worked.used (renewed_quota marked worked)) [] (own worked.worker given.worker (t.work.same.worker ∙ t.on.worker)) refl
+      ∙ turn_renewed was.0 worked.worker worked.used (renewed_quota marked worked) 0 was.2
+      ∙ ap (λ q. Some (turn_with q)) (sym (kept_quota t.first t.held t.on.held worked t.work marked t.mark new kept n goes));
 }

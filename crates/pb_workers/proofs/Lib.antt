@@ -1,4 +1,6 @@
 pub mod Callers
+mod Turns
+mod SharedTurns
 mod Going
 mod Opened
 mod Marked

@@ -1,9 +1,10 @@
 -- What a mark leaves as it was.
-use Rattle.std.proofs.Common.{◌≡◌, ◌↔◌, ℕ, ◌-◌, ◌≤◌, Bool, IsTrue, IsFalse, IfSome, IfNone, [], ◌∷◌, Option, Some, None, refl, sym, ap, ◌∙◌, arith, subst, inl, inr}
+use Rattle.std.proofs.Common.{◌≡◌, ◌↔◌, ℕ, ◌-◌, ◌≤◌, Bool, true, IsTrue, IsFalse, IfSome, IfNone, [], ◌∷◌, Option, Some, None, refl, sym, ap, ◌∙◌, arith, subst, inl, inr}
 use Rattle.pb_model.specs.Store.{Rows, Store}
 use Rattle.pb_model.proofs.Callers.{by_cases, equal_self}
 use Rattle.pb_machine.specs.declared.event.Event.TheVariants.{Hot}
 use Rattle.pb_machine.specs.Counts.{Counts}
+use Rattle.pb_machine.specs.Room.{room_after}
 use Rattle.pb_machine.specs.Blocks.{interferes}
 use Rattle.pb_machine.specs.Choice.{IsRival}
 use Rattle.pb_machine.specs.Machine.{Machine}
@@ -21,6 +22,10 @@ use Rattle.pb_lease.proofs.Callers.{keeps_in_order}
 use Rattle.pb_yard.proofs.Callers.{in_time_events}
 use Rattle.pb_workers.specs.Runs.{IsSameSearch, RunsTo}
 use Rattle.pb_workers.specs.Holding.{MarksWhereMay, MarksRival, IsMarkedAtMost, IsToldRival}
+use Rattle.pb_machine.specs.History.{events_of}
+use Rattle.pb_yard.specs.Marking.{Turn, turn_with}
+use Rattle.pb_workers.specs.Turns.{HasTurn, MayEnd}
+use Rattle.pb_workers.proofs.Turns.{own, one_more, journal_more}
 use Rattle.pb_workers.proofs.Going.{run_none, run_one}
 
 module _ (old : GraphValue) (worker : ℕ) (new : GraphValue) where
@@ -76,7 +81,18 @@ module _ (old : GraphValue) (worker : ℕ) (new : GraphValue) where
       )
   marked_runs (inr mark) recorded machine m =
       let step = keeps_in_order old (Hot worker mark.0 ∷ []) new mark.2 (ap (λ (v : GraphValue). v.incumbent) mark.1.rest) recorded machine m in
-      (step.0, run_one old machine (Hot worker mark.0 ∷ []) new recorded step.0 step.1 (in_time_events (setup_in old) (Hot worker mark.0 ∷ []) machine step.0 tt step.1.moves) mark.1.events.journal, step.2)
+      (step.0, run_one old machine (Hot worker mark.0 ∷ []) new recorded step.0 step.1 (in_time_events (setup_in old) (room_after old.table.journal) (Hot worker mark.0 ∷ []) machine step.0 tt step.1.moves) mark.1.events.journal, step.2)
+
+-- the worker's turn, whose quota is used up, with the mark or without
+pub marked_turn : (old : GraphValue) (worker : ℕ) (new : GraphValue) → IsMarkedAtMost old worker new → (same : ℕ) → worker ≡ same → (quota used : ℕ) → used ≡ quota → HasTurn old same (turn_with quota)
+    → (turn : Turn) × HasTurn new same turn × MayEnd turn used 0
+marked_turn old worker new (inl e) same is quota used spent before = (turn_with quota, subst (λ (g : GraphValue). HasTurn g same (turn_with quota)) (sym e) before, inl refl)
+marked_turn old worker new (inr mark) same is quota used spent before = (
+  record { quota = quota; marked = true },
+  journal_more old.table.journal new.table.journal same (Hot worker mark.0 ∷ []) mark.1.events.journal
+      ∙ one_more (events_of same old.table.journal) same (turn_with quota) before (Hot worker mark.0) [] (own worker same is) refl,
+  inr (spent, refl),
+)
 
 -- what a mark by this worker answers
 module _ (old : GraphValue) (worker called rival : ℕ) (new : GraphValue) (result : Bool) (by : called ≡ worker) (answer : IsTrue result ↔ MayMark old called rival)

@@ -6,6 +6,7 @@ use Rattle.pb_machine.specs.declared.event.End.{End}
 use Rattle.pb_machine.specs.declared.event.Event.TheVariants.{Lease}
 use Rattle.pb_machine.specs.Tables.{with_entry, any_below, count_below, one_if}
 use Rattle.pb_machine.specs.Counts.{Counts}
+use Rattle.pb_machine.specs.Room.{room_after}
 use Rattle.pb_machine.proofs.Callers.{any_none, one_small, sum_small}
 use Rattle.pb_abstract.specs.Graph.{AbstractGraph, blocks_of}
 use Rattle.pb_bundles.specs.Parts.{away_rows}
@@ -17,9 +18,13 @@ use Rattle.pb_lease.specs.GraphValue.{GraphValue, setup_in, counts_in}
 use Rattle.pb_lease.specs.Choices.{is_out_in, IsOver}
 use Rattle.pb_lease.specs.Steps.{IsLeased, LeasesNext, IsEnded, KeepsLeases, end_events}
 use Rattle.pb_lease.proofs.Callers.{passes_from, leases_in_order}
-use Rattle.pb_yard.proofs.Callers.{in_time_one, end_grants_none}
+use Rattle.pb_yard.proofs.Callers.{in_time_one, end_grants_none, plain_timely}
 use Rattle.pb_workers.specs.Runs.{IsSameSearch, IsAnyMoment, RunsOn}
 use Rattle.pb_workers.specs.Holding.{IsHeld, RunsHome, left_with, opened_blocks, IsNearer, GoesOnTo}
+use Rattle.pb_machine.specs.History.{events_of}
+use Rattle.pb_yard.specs.Marking.{no_turn, turn_with}
+use Rattle.pb_workers.specs.Turns.{HasTurn}
+use Rattle.pb_workers.proofs.Turns.{end_none, one_more, none_more, journal_more}
 use Rattle.pb_workers.proofs.Going.{run_one, run_then, run_home, on_then, keeping_runs}
 use Rattle.pb_workers.proofs.GoingOn.{goes_from}
 
@@ -70,6 +75,13 @@ module _ (old : GraphValue) (worker : ℕ) (lease : LeaseValue) (new : GraphValu
   pub leased_on : LeasesNext old lease new → IsAnyMoment old → GoesOnTo new lease new lease
   leased_on next any = goes_from new lease (leased_held next any)
 
+-- a lease that was given begins a turn, and its return ends it
+pub leased_turn : (old mid new : GraphValue) (lease : LeaseValue) → IsLeased old 0 lease mid → (HasTurn mid lease.worker (turn_with lease.quota) → HasTurn new lease.worker no_turn) → HasTurn old 0 no_turn → HasTurn new 0 no_turn
+leased_turn old mid new lease l goes before =
+    subst (λ w. HasTurn new w no_turn) l.worker_is (goes (subst (λ w. HasTurn mid w (turn_with lease.quota)) (sym l.worker_is)
+    (journal_more old.table.journal mid.table.journal 0 (Lease 0 lease.block lease.quota ∷ []) l.events.journal
+    ∙ one_more (events_of 0 old.table.journal) 0 no_turn before (Lease 0 lease.block lease.quota) [] refl refl)))
+
 -- a lease that came back: it is the same search, and a run from before the lease
 pub leased_runs : (first old mid new : GraphValue) (worker : ℕ) (lease : LeaseValue) → IsLeased old worker lease mid → LeasesNext old lease mid → RunsHome mid lease new → IsSameSearch first old
     → is_out_in new ≡ false → RunsOn first old → RunsOn first new
@@ -79,7 +91,7 @@ leased_runs first old mid new worker lease l next back same home before recorded
     let after = with_entry recorded lease.worker (away_rows lease.parts) in
     let c = back after b.0 b.1.moment b.3 in
     let leased = run_one old a.0 (Lease lease.worker lease.block lease.quota ∷ []) mid after b.0 b.1
-    (in_time_one (setup_in old) (Lease lease.worker lease.block lease.quota) a.0 b.0 (b.2 ∙ l.lent_incumbent ∙ sym l.incumbent ∙ sym b.1.moment.incumbent) tt b.1.moves)
+    (in_time_one (setup_in old) (room_after old.table.journal) (Lease lease.worker lease.block lease.quota) a.0 b.0 (b.2 ∙ l.lent_incumbent ∙ sym l.incumbent ∙ sym b.1.moment.incumbent) tt b.1.moves)
     (subst (λ w. mid.table.journal ≡ old.table.journal ++ Lease w lease.block lease.quota ∷ []) (sym l.worker_is) l.events.journal) in (
       c.1,
       run_then first old new machine a.0 c.1 recorded recorded same a.1
@@ -143,7 +155,11 @@ module _ (old : GraphValue) (end : End) (new : GraphValue) (e : IsEnded old end 
   ended_signed = end_same (λ c. c.signed_off) (λ c. refl)
 
   pub ended_runs : (first : GraphValue) → IsSameSearch first old → RunsOn first old → KeepsLeases old (end_events old.table.end end) new → RunsOn first new
-  ended_runs first same before keeps = on_then first old new same before (keeping_runs old (end_events old.table.end end) new (end_grants_none old.table.end end) keeps (ap (λ (v : GraphValue). v.incumbent) e.rest) e.events.journal)
+  ended_runs first same before keeps = on_then first old new same before (keeping_runs old (end_events old.table.end end) new (plain_timely old (end_events old.table.end end) (end_grants_none old.table.end end)) keeps (ap (λ (v : GraphValue). v.incumbent) e.rest) e.events.journal)
+
+pub ended_turn : (old : GraphValue) (end : End) (new : GraphValue) → IsEnded old end new → HasTurn old 0 no_turn → HasTurn new 0 no_turn
+ended_turn old end new e before = journal_more old.table.journal new.table.journal 0 (end_events old.table.end end) e.events.journal
+    ∙ none_more (events_of 0 old.table.journal) 0 (end_events old.table.end end) (end_none 0 old.table.end end) ∙ before
 
 -- no end stands where the search isn't over
 pub none_stands : (g : GraphValue) → ((end : End) → IsOver g end → ⊥) → g.table.end ≡ None

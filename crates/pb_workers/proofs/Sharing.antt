@@ -1,5 +1,5 @@
 -- A worker that shares a yard: what its pass knows after each of its calls.
-use Rattle.std.proofs.Common.{◌≡◌, ℕ, ◌<◌, Bool, true, false, is_some, IfSome, IfNone, IsSome, OnSome, List, [], Option, Some, None, refl, sym, ap, ◌∙◌, arith, subst, true≢false}
+use Rattle.std.proofs.Common.{◌≡◌, ℕ, ◌<◌, Bool, true, false, is_some, IfSome, IfNone, List, [], Option, Some, None, refl, sym, ap, ◌∙◌, arith, subst}
 use Rattle.std.specs.List.{list_any}
 use Rattle.std.proofs.lemmas.Bool.{or_from}
 use Rattle.std.proofs.lemmas.List.Folds.{list_any-append}
@@ -31,6 +31,7 @@ use Rattle.pb_yard.specs.Views.{view_then}
 use Rattle.pb_yard.specs.Rule.{rows_of, was_read, grant_in, IsViewOf}
 use Rattle.pb_yard.specs.Replies.{LeasesAs, lease_events, lent_by, told_by, ReleasesAs, release_events, RenewsAs, renewal_events, RivalsAs, MarksAs, mark_events}
 use Rattle.pb_yard.specs.Returning.{IsLeaseOf, IsBrought}
+use Rattle.pb_yard.specs.Marking.{turn_with, turn_of}
 use Rattle.pb_yard.specs.Passes.{view_of, worker_of, KeepsPass}
 use Rattle.pb_yard.specs.Calls.{Holds, HasRead, ReadsAndHolds, Looks, Leases, Renews, GivesAndLeases, Releases, AsksRival, Marks, IsActive}
 use Rattle.pb_yard.proofs.Callers.{history, leased, begins, own_none_off, end_none_off, ending_none_off, ended_end}
@@ -38,6 +39,9 @@ use Rattle.pb_workers.specs.declared.yard_watch.YardWatch.{YardWatch}
 use Rattle.pb_workers.specs.Serving.{searched_by}
 use Rattle.pb_workers.specs.Shared.{IsSameHolder, IsIdle, IsLeased, MarksRivalTold}
 use Rattle.pb_workers.specs.Sharing.{IsSameWorker, HasLease, HasWork, HasNone, IsToldRivalIn}
+use Rattle.pb_workers.specs.Turns.{HasTurnIn, IsBetweenTurns}
+use Rattle.pb_workers.proofs.Turns.{end_none}
+use Rattle.pb_workers.proofs.SharedTurns.{leased_turn, unleased_turn}
 use Rattle.pb_workers.specs.Watching.{watch_view, IsWatchOf, KeepsLease, IsSameWatch}
 
 -- ---- which events sign off
@@ -383,22 +387,29 @@ module _ (begin old new : YardWatch) (since : IsSameWorker begin old) (own : IsW
   own_then : IsWatchOf new
   own_then = keeps.0.0.0 ∙ own ∙ ap (λ (y : Yard). y.lock.table.shared.table_id) (sym yard)
 
-  pub lease_since : (lease : LeaseValue) → IsLeased (view_of old.pass).task (view_of old.pass).abstraction (view_of new.pass) lease → HasLease begin new lease
-  lease_since lease l = record {
+  pub lease_since : (lease : LeaseValue) → IsLeased (view_of old.pass).task (view_of old.pass).abstraction (view_of new.pass) lease → (IsBetweenTurns (view_of begin.pass) → HasTurnIn (view_of new.pass) (turn_with lease.quota)) → HasLease begin new lease
+  lease_since lease l turn = record {
+    turn = turn;
     own = own_then;
     since = since_then;
     leased = leased_with (view_of old.pass).task (view_of new.pass).task (view_of old.pass).abstraction (view_of new.pass).abstraction same.task same.abstraction (view_of new.pass) lease l;
   }
 
-  pub none_since : IsIdle (view_of old.pass).task (view_of old.pass).abstraction (view_of new.pass) → HasNone begin new
-  none_since idle = record {
+  pub none_since : IsIdle (view_of old.pass).task (view_of old.pass).abstraction (view_of new.pass) → (IsBetweenTurns (view_of begin.pass) → IsBetweenTurns (view_of new.pass)) → HasNone begin new
+  none_since idle turn = record {
+    turn = turn;
     own = own_then;
     since = since_then;
     idle = idle_with (view_of old.pass).task (view_of new.pass).task (view_of old.pass).abstraction (view_of new.pass).abstraction same.task same.abstraction (view_of new.pass) idle;
   }
 
 -- a lease that was asked for
-module _ (begin old new : YardWatch) (none : HasNone begin old) (yard : new.yard.now ≡ old.yard.now) (keeps : KeepsPass old.pass new.pass) (worker : ℕ) where
+module _ (begin old new : YardWatch) (none_yet : HasNone begin old) (yard : new.yard.now ≡ old.yard.now) (keeps : KeepsPass old.pass new.pass) (worker : ℕ) (is_own : worker ≡ (view_of old.pass).journal.own.worker) where
+  -- without a lease the worker stays between turns
+  asked_turn : (reply : LeaseReply) → ((g : GraphValue) (w : ℕ) → events_of w (lease_events worker reply g) ≡ []) → Leases worker (view_of old.pass) reply (view_of new.pass) → IsBetweenTurns (view_of begin.pass) → IsBetweenTurns (view_of new.pass)
+  asked_turn reply none asks before = let v = view_of old.pass in
+      unleased_turn worker v (view_of new.pass) is_own (none_yet.turn before) (lease_events worker reply) (LeasesAs worker reply) (lent_by reply v.lent) (told_by reply v.told) asks (λ g. none g v.journal.own.worker)
+
   pub asked_holder : (reply : LeaseReply) → Leases worker (view_of old.pass) reply (view_of new.pass) → IsSameHolder (view_of old.pass) (view_of new.pass)
   asked_holder reply asks =
       let v = view_of old.pass in
@@ -407,23 +418,24 @@ module _ (begin old new : YardWatch) (none : HasNone begin old) (yard : new.yard
   pub lease_asked : (lease : LeaseValue) → Leases worker (view_of old.pass) (Leased lease) (view_of new.pass) → HasLease begin new lease
   lease_asked lease asks =
       let v = view_of old.pass in
-      lease_since begin old new none.since none.own yard keeps (asked_holder (Leased lease) asks) lease (leased_then v.task v.abstraction worker v (view_of new.pass) none.idle lease asks)
+      lease_since begin old new none_yet.since none_yet.own yard keeps (asked_holder (Leased lease) asks) lease (leased_then v.task v.abstraction worker v (view_of new.pass) none_yet.idle lease asks)
+      (λ before. leased_turn worker v (view_of new.pass) is_own (none_yet.turn before) lease asks)
 
   pub wait_asked : Leases worker (view_of old.pass) NotYet (view_of new.pass) → HasNone begin new
   wait_asked asks =
       let v = view_of old.pass in
-      none_since begin old new none.since none.own yard keeps (asked_holder NotYet asks) (wait_then v.task v.abstraction worker v (view_of new.pass) none.idle (lease_events worker NotYet) (LeasesAs worker NotYet) asks (λ g. refl))
+      none_since begin old new none_yet.since none_yet.own yard keeps (asked_holder NotYet asks) (wait_then v.task v.abstraction worker v (view_of new.pass) none_yet.idle (lease_events worker NotYet) (LeasesAs worker NotYet) asks (λ g. refl)) (asked_turn NotYet (λ g w. refl) asks)
 
   pub memory_asked : Leases worker (view_of old.pass) Memory (view_of new.pass) → HasNone begin new
   memory_asked asks =
       let v = view_of old.pass in
-      none_since begin old new none.since none.own yard keeps (asked_holder Memory asks) (wait_then v.task v.abstraction worker v (view_of new.pass) none.idle (lease_events worker Memory) (LeasesAs worker Memory) asks (λ g. refl))
+      none_since begin old new none_yet.since none_yet.own yard keeps (asked_holder Memory asks) (wait_then v.task v.abstraction worker v (view_of new.pass) none_yet.idle (lease_events worker Memory) (LeasesAs worker Memory) asks (λ g. refl)) (asked_turn Memory (λ g w. refl) asks)
 
   pub over_asked : (end : End) → Leases worker (view_of old.pass) (Over end) (view_of new.pass) → HasNone begin new × (is_some (end_in (view_of new.pass).journal.seen) ≡ true)
   over_asked end asks =
       let v = view_of old.pass in
-      let over = over_then v.task v.abstraction worker v (view_of new.pass) none.idle end asks in
-      (none_since begin old new none.since none.own yard keeps (asked_holder (Over end) asks) over.0, over.1)
+      let over = over_then v.task v.abstraction worker v (view_of new.pass) none_yet.idle end asks in
+      (none_since begin old new none_yet.since none_yet.own yard keeps (asked_holder (Over end) asks) over.0 (asked_turn (Over end) (λ g w. end_none w g.table.end end) asks), over.1)
 
 -- work on a lease
 module _ (begin old new : YardWatch) (lease : LeaseValue) (h : HasLease begin old lease) (task : TaskParts) (abstraction : AbstractGraph) (task_is : (view_of old.pass).task ≡ task) (graph_is : (view_of old.pass).abstraction ≡ abstraction) where
@@ -441,6 +453,11 @@ module _ (begin old new : YardWatch) (lease : LeaseValue) (h : HasLease begin ol
         lease_of = lease_of task abstraction v old.pass.is_live lease l u stays.lease worked same;
         brought = brought task abstraction v old.pass.is_live lease l u stays.lease worked same broken w scope;
       }
+
+  -- work is no event
+  pub work_turn : IsSameWatch old new → (worked : LeaseValue) → IsSameLease lease worked → IsBetweenTurns (view_of begin.pass) → HasTurnIn (view_of new.pass) (turn_with worked.quota)
+  work_turn stays worked same before =
+      ap (λ (j : of_machine.View). turn_of j.own.events) stays.lease.journal ∙ h.turn before ∙ ap (λ q. Some (turn_with q)) (sym same.quota)
 
 -- a look, or a try that found the turn held
 module _ (begin old new : YardWatch) (lease : LeaseValue) (broken : ℕ) (h : HasWork begin old lease broken) (yard : new.yard.now ≡ old.yard.now) (keeps : KeepsPass old.pass new.pass) where
@@ -480,9 +497,3 @@ told_some_in lease old new worker (Some rival) asks = record { asked = asks; kno
 pub told_none_in : (worker : ℕ) (lease : LeaseValue) (old new : View) (o : Option ℕ) → AsksRival lease old o new → IfNone o (MarksRivalTold worker lease old new)
 told_none_in worker lease old new None asks = (new, None, asks, refl)
 told_none_in worker lease old new (Some rival) asks = tt
-
--- ---- a loop that may not end
-
-pub some_so : {A : Type 0} (o : Option A) (P : Type 0) → IsSome o → OnSome o P → P
-some_so None P is so = absurd (true≢false (sym is))
-some_so (Some x) P is so = so

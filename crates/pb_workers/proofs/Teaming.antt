@@ -1,5 +1,5 @@
 -- Workers that search together: how their passes are split and meet again.
-use Rattle.std.proofs.Common.{◌≡◌, ℕ, true, [], ◌∷◌, suc, refl, sym, ap, ◌∙◌, arith, subst}
+use Rattle.std.proofs.Common.{◌≡◌, ℕ, true, is_some, [], ◌∷◌, suc, refl, sym, ap, ◌∙◌, arith, subst}
 use Rattle.std.specs.List.{list_any, AllByRecursion}
 use Rattle.pb_machine.specs.History.{is_off}
 use Rattle.pb_machine.specs.Views.{Share}
@@ -10,7 +10,12 @@ use Rattle.pb_yard.specs.declared.view.View.{View}
 use Rattle.pb_yard.specs.Views.{split_view, next_pass_view, met_pass_view}
 use Rattle.pb_yard.specs.Calls.{AllSignedOff}
 use Rattle.pb_workers.specs.Shared.{IsSameHolder, IsIdle}
+use Rattle.pb_yard.specs.Marking.{turn_of, MarksInTurn}
+use Rattle.pb_workers.specs.Turns.{IsBetweenTurns, AllMarkInTurn}
 use Rattle.pb_workers.specs.Teams.{IsToSplit, KeepsSearch}
+
+abbrev HasMarks : Share → Type 0
+HasMarks share = MarksInTurn share.events
 
 abbrev HasOff : Share → Type 0
 HasOff share = list_any is_off share.events ≡ true
@@ -65,3 +70,18 @@ module _ (v split all next other met : View) (split_is : split ≡ split_view v)
           (off, subst (λ shares. AllByRecursion HasOff shares) (sym none_taken) tt),
     );
   }
+
+  -- if the first pass's worker had its marks in turn, all have them so
+  pub met_marks : (IsBetweenTurns split → AllMarkInTurn all) → (IsBetweenTurns next → IsBetweenTurns other) → IsBetweenTurns v → AllMarkInTurn met
+  met_marks first second before =
+      let marks = first (ap (λ (w : View). turn_of w.journal.own.events) split_is ∙ before) in
+      let last : HasMarks other.journal.own = ap is_some (second (ap (λ (w : View). turn_of w.journal.own.events) next_is)) in
+      subst (λ (w : View). AllMarkInTurn w) (sym met_is) (
+        marks.0,
+        all_append HasMarks all.journal.taken_in (other.journal.own ∷ other.journal.taken_in) marks.1
+            (last, subst (λ shares. AllByRecursion HasMarks shares) (sym none_taken) tt),
+      )
+
+-- the last worker's marks are in turn
+pub one_marks : (task : TaskParts) (graph : AbstractGraph) (v u : View) → IsToSplit task graph 0 v → IsSameHolder v u → (IsBetweenTurns v → IsBetweenTurns u) → IsBetweenTurns v → AllMarkInTurn u
+one_marks task graph v u s same goes before = (ap is_some (goes before), subst (λ shares. AllByRecursion HasMarks shares) (sym (same.taken_in ∙ s.none_taken_in)) tt)

@@ -18,7 +18,9 @@ use Rattle.pb_lease.specs.GraphValue.{GraphValue, setup_in, counts_in, IsOfGraph
 use Rattle.pb_lease.specs.Choices.{MayMark}
 use Rattle.pb_lease.specs.Moments.{IsMoment}
 use Rattle.pb_lease.specs.Steps.{IsMarked, KeepsLeases}
+use Rattle.pb_yard.specs.Marking.{Turn, no_turn, turn_with}
 use Rattle.pb_workers.specs.Runs.{IsSameSearch, RunsTo}
+use Rattle.pb_workers.specs.Turns.{HasTurn, MayEnd}
 
 -- what work makes of a lease that is out
 abbrev pub Works : TaskParts → AbstractGraph → Choice → LeaseValue → LeaseValue → (broken : ℕ)
@@ -109,7 +111,8 @@ IsOn first lease now held =
     (left_with now held < left_with first lease) ⊎ ((now ≡ first) × (held ≡ lease))
 
 -- The lease that was given at the first graph went on until it is this one, which is held now. It
--- is the same search, and a run in order leads from the one lease to the other.
+-- is the same search, and a run in order leads from the one lease to the other. If the worker's
+-- marks were in turn before, they are now, and this turn has none yet.
 pub record GoesOnTo (begin : GraphValue) (given : LeaseValue) (now : GraphValue)
     (lease : LeaseValue) : Type 0 where
   pub held : IsHeld now lease
@@ -118,6 +121,8 @@ pub record GoesOnTo (begin : GraphValue) (given : LeaseValue) (now : GraphValue)
   pub signed_off : (counts_in now).signed_off ≡ (counts_in begin).signed_off
   pub runs : RunsOut begin given now lease
   pub on : IsOn begin given now lease
+  pub turn : HasTurn begin given.worker (turn_with given.quota)
+      → HasTurn now given.worker (turn_with lease.quota)
 
 -- Of the lease that was held at this graph its worker has made this one, by at most so many
 -- expansions that were broken off.
@@ -134,7 +139,8 @@ pub record HasWorkedOn (begin : GraphValue) (given : LeaseValue) (now : GraphVal
   pub on : GoesOnTo begin given now held
   pub work : IsWorkOf now held lease broken
 
--- the lease went on, then it was worked on, and then at most one block was marked
+-- The lease went on, then it was worked on, and then at most one block was marked. With a mark the
+-- quota is used up.
 pub record IsToReturn (begin : GraphValue) (given : LeaseValue) (now : GraphValue)
     (lease : LeaseValue) (broken : ℕ) : Type 0 where
   pub first : GraphValue
@@ -142,12 +148,15 @@ pub record IsToReturn (begin : GraphValue) (given : LeaseValue) (now : GraphValu
   pub on : GoesOnTo begin given first held
   pub work : IsWorkOf first held lease broken
   pub mark : IsMarkedAtMost first lease.worker now
+  pub turn : HasTurn begin given.worker (turn_with given.quota)
+      → (turn : Turn) × HasTurn now given.worker turn × MayEnd turn lease.used broken
 
 -- The lease that was given at the first graph came back, by a run in order. It is the same search,
--- which came nearer to its end.
+-- which came nearer to its end. The worker's marks are in turn if they were before.
 pub record IsBack (begin : GraphValue) (given : LeaseValue) (now : GraphValue) : Type 0 where
   pub home : RunsHome begin given now
   pub vacant : (counts_in now).leases given.worker ≡ None
   pub nearer : IsNearer begin given now
   pub same : IsSameSearch begin now
   pub signed_off : (counts_in now).signed_off ≡ (counts_in begin).signed_off
+  pub turn : HasTurn begin given.worker (turn_with given.quota) → HasTurn now given.worker no_turn

@@ -12,10 +12,12 @@ pub use Rattle.pb_machine.specs.History
 pub use Rattle.pb_model.specs.Store
 pub use Rattle.pb_task.specs.Parts
 pub use Rattle.pb_yard.specs.Calls
+pub use Rattle.pb_yard.specs.Marking
 pub use Rattle.pb_yard.specs.Passes
 pub mod Runs
 pub mod Holding
 pub mod Ends
+pub mod Turns
 pub mod Shared
 pub mod Sharing
 pub mod Teams

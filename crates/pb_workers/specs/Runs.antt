@@ -1,6 +1,7 @@
 -- A search by leases goes on, and a graph with it.
 use Rattle.std.specs.Prelude.{◌≡◌, ℕ, List, ◌++◌}
 use Rattle.pb_model.specs.Store.{Rows}
+use Rattle.pb_machine.specs.Room.{room_after}
 use Rattle.pb_machine.specs.Machine.{Machine, Move, journal_of}
 use Rattle.pb_lease.specs.GraphValue.{GraphValue, setup_in}
 use Rattle.pb_lease.specs.Moments.{IsMoment}
@@ -25,7 +26,7 @@ IsAnyMoment g = (recorded : (worker : ℕ) → Rows) × (machine : Machine) × I
 pub record RunsTo (old : GraphValue) (machine : Machine) (new : GraphValue)
     (recorded : (worker : ℕ) → Rows) (next : Machine) : Type 0 where
   pub moves : List Move
-  pub run : RunsInTime (setup_in old) machine moves next
+  pub run : RunsInTime (setup_in old) (room_after old.table.journal) machine moves next
   pub events : new.table.journal ≡ old.table.journal ++ journal_of moves
   pub moment : IsMoment new recorded next
 

@@ -6,6 +6,9 @@ ghost use Rattle.pb_lease.specs.GraphValue.{counts_in};
 ghost use Rattle.pb_lease.specs.Choices.{is_out_in};
 ghost use Rattle.pb_workers.specs.Runs.{IsSameSearch, IsAnyMoment, RunsOn};
 ghost use Rattle.pb_workers.specs.Ends.{IsBestEnd, IsSpentEnd};
+ghost use Rattle.pb_machine.specs.History.{events_of};
+ghost use Rattle.pb_yard.specs.Marking.{no_turn, MarksInTurn};
+ghost use Rattle.pb_workers.specs.Turns.{HasTurn};
 ghost use Rattle.pb_workers.specs.Serving.{Serves, searched_in};
 
 use crate::closing::sign_off;
@@ -58,6 +61,10 @@ pub fn run_alone<G: Gate>(
     ensures quiet { graph.new.table.end ≡ Some Quiet → IsBestEnd graph.new }
     ensures budget { graph.new.table.end ≡ Some Budget → IsSpentEnd graph.new }
 
+    // If the worker's marks were in turn so far, they are in turn to the end.
+    ensures marks { HasTurn graph.old 0 no_turn
+        → MarksInTurn (events_of 0 graph.new.table.journal) }
+
     ensures same { IsSameSearch graph.old graph.new }
 {
     let _ = graph.abstraction();
@@ -80,6 +87,7 @@ fn search<G: Gate>(worker: &mut Worker, graph: &mut LeaseGraph, gate: &G) -> Opt
     ensures home { IsFalse (is_out_in graph.new) }
     ensures stays { IsFalse ((counts_in graph.new).signed_off 0) }
     ensures end { graph.new.table.end ≡ result }
+    ensures turn { HasTurn graph.old 0 no_turn → HasTurn graph.new 0 no_turn }
 {
     'leases: loop {
         match graph.lease(0) {

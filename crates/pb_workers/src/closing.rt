@@ -2,7 +2,9 @@ ghost use Rattle.std.specs.Prelude.{◌≡◌, ◌<◌, ◌⊎◌, None, Some, I
 ghost use Rattle.pb_machine.specs.declared.event.End.TheVariants.{Quiet, Budget, Memory};
 ghost use Rattle.pb_lease.specs.GraphValue.{counts_in, IsLeaseGraph};
 ghost use Rattle.pb_lease.specs.Choices.{is_out_in};
+ghost use Rattle.pb_yard.specs.Marking.{no_turn};
 ghost use Rattle.pb_workers.specs.Runs.{IsSameSearch, RunsOn};
+ghost use Rattle.pb_workers.specs.Turns.{HasTurn};
 
 use pb_lease::LeaseGraph;
 use pb_machine::End;
@@ -22,6 +24,7 @@ pub fn sign_off(graph: &mut LeaseGraph, end: Option<End>) -> Result<(), AllocErr
     ensures ok { OnOk result ((graph.new.table.end ≡ Some Quiet)
         ⊎ (graph.new.table.end ≡ Some Budget)) }
     ensures err { OnErr result (graph.new.table.end ≡ Some Memory) }
+    ensures turn { HasTurn graph.old 0 no_turn → HasTurn graph.new 0 no_turn }
     ensures lawful { IsLeaseGraph graph.new }
 {
     graph.sign_off(0, end.is_none());

@@ -8,6 +8,7 @@ impl Lessor for LeaseGraph {
     ghost use Rattle.std.specs.Prelude.{refl};
     ghost use Rattle.std.proofs.Common.{inl};
     ghost use Rattle.pb_lease.specs.Tables.{rooms};
+    ghost use Rattle.pb_yard.specs.Marking.{turn_with};
     ghost use Rattle.pb_workers.specs.Serving.{searched_in};
     ghost use Rattle.pb_workers.specs.Holding.{GoesOnTo, HasWorkedOn, IsToReturn, IsBack, IsToldRival, MarksRival};
 
@@ -33,6 +34,7 @@ impl Lessor for LeaseGraph {
       on = w.on;
       work = w.work;
       mark = inl refl;
+      turn = λ before. (turn_with w.held.quota, w.on.turn before, inl refl);
     } };
 
     fn work_on(&mut self, worker: &mut Worker, lease: &mut Lease) -> Worked {

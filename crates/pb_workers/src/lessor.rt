@@ -1,12 +1,12 @@
 //! What a worker has its leases from.
-ghost use Rattle.std.specs.Prelude.{◌≡◌, ◌<◌, ◌≤◌, ℕ, false, IfSome, IfNone};
+ghost use Rattle.std.specs.Prelude.{◌≡◌, ◌<◌, ◌≤◌, ℕ, IfSome, IfNone};
 ghost use Rattle.pb_model.specs.Store.{HasOpened};
 ghost use Rattle.pb_machine.specs.Tables.{one_if};
 ghost use Rattle.pb_lease.specs.LeaseValue.{LeaseValue};
 ghost use Rattle.pb_expand.specs.Turned.{own_rows};
 ghost use Rattle.pb_expand.specs.Worked.{broken_by};
 ghost use Rattle.pb_expand.specs.declared.working.Worked.TheVariants.{Spent, Empty};
-ghost use Rattle.pb_yard.specs.Order.{HasCause};
+ghost use Rattle.pb_yard.specs.Order.{HasCause, HasStopped};
 ghost use Rattle.pb_workers.specs.Serving.{Search, Serves};
 ghost use Rattle.pb_workers.specs.Switched.{IfGoing, IfHome, IfBusy, IfKept, IfGiven};
 
@@ -89,11 +89,12 @@ pub trait Lessor {
         ensures left { turns_left self.new lease.now ≤ turns_left self.old lease.now }
         ensures searched { searched self.new ≡ searched self.old };
 
-    /// The worker asks that the rival be hot, which it was told.
+    /// The worker asks that the rival be hot, which it was told. Its lease's quota is used up.
     fn mark(&mut self, lease: &Lease, rival: u32)
         requires worked { (begin : Self) × (given : LeaseValue)
             × worked begin given self.old lease.now 0 }
         requires told { (asked : Self) × told asked lease.now rival self.old }
+        requires spent { lease.now.used ≡ lease.now.quota }
         ensures may_return { (begin : Self) (given : LeaseValue)
             → worked begin given self.old lease.now 0
             → may_return begin given self.new lease.now 0 }
@@ -107,7 +108,7 @@ pub trait Lessor {
     fn switch(&mut self, lease: Lease) -> Switched
         requires may_return { (begin : Self) × (given : LeaseValue)
             × may_return begin given self.old lease 0 }
-        requires cause { HasCause lease false }
+        requires stopped { HasStopped lease }
         ensures going { (begin : Self) (given : LeaseValue)
             → may_return begin given self.old lease 0
             → IfGoing result (holds begin given self.new) }
@@ -139,7 +140,8 @@ pub trait Lessor {
             → IfGiven result (returned begin given self.new) }
         ensures searched { searched self.new ≡ searched self.old };
 
-    /// The worker brings its lease back, with a cause.
+    /// The worker brings its lease back without asking to go on with it: no row of its block is
+    /// Opened, or the worker is out of memory.
     fn give_back(&mut self, lease: Lease, memory: bool)
         requires may_return { (begin : Self) × (given : LeaseValue)
             × may_return begin given self.old lease (one_if memory) }

@@ -5,10 +5,11 @@ use crate::lessor::Lessor;
 use pb_lease::Lease;
 
 /// Marks the rival of the lease's block hot, if there is one and it may be marked: in a plain
-/// search it never may.
+/// search it never may. The lease's quota is used up.
 pub fn mark_rival<L: Lessor>(lessor: &mut L, lease: &Lease)
     requires worked { (begin : L) × (given : LeaseValue)
         × L.worked begin given lessor.old lease.now 0 }
+    requires spent { lease.now.used ≡ lease.now.quota }
     ensures may_return { (begin : L) (given : LeaseValue)
         → L.worked begin given lessor.old lease.now 0
         → L.may_return begin given lessor.new lease.now 0 }

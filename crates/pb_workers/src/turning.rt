@@ -1,5 +1,5 @@
 //! The rule of a worker that has a lease, whatever it has it from.
-ghost use Rattle.std.specs.Prelude.{◌≡◌, ◌<◌, ◌≤◌, false, IfSome, IfNone, IsTrue};
+ghost use Rattle.std.specs.Prelude.{◌≡◌, ◌<◌, ◌≤◌, false, IfSome, IfNone, IsTrue, IsFalse};
 ghost use Rattle.pb_lease.specs.LeaseValue.{LeaseValue};
 ghost use Rattle.pb_yard.specs.Order.{HasCause};
 ghost use Rattle.pb_workers.specs.Serving.{Serves};
@@ -12,7 +12,7 @@ use pb_lease::{Lease, Renewed};
 use pb_outside::Gate;
 
 // Goes on without waiting, if that can be tried, with the lease or with another one. Else a lease
-// whose quota is used up is renewed or comes back, and any other comes back.
+// whose quota is used up is renewed or comes back, and any other comes back: it has no Opened row.
 fn settle<L: Lessor, G: Gate>(
     lessor: &mut L,
     gate: &G,
@@ -21,8 +21,8 @@ fn settle<L: Lessor, G: Gate>(
 ) -> Option<Lease>
     requires may_return { (begin : L) × (given : LeaseValue)
         × L.may_return begin given lessor.old lease 0 }
-    requires cause { HasCause lease false }
     requires spent { IsTrue is_spent → lease.used ≡ lease.quota }
+    requires empty { IsFalse is_spent → HasCause lease false }
     ensures holds { (begin : L) (given : LeaseValue) → L.may_return begin given lessor.old lease 0
         → IfSome result (L.holds begin given lessor.new) }
     ensures left { IfSome result (λ kept. L.turns_left lessor.new kept

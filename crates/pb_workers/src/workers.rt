@@ -11,6 +11,7 @@ ghost use Rattle.pb_yard.specs.Calls.{IsActive, AllSignedOff};
 ghost use Rattle.pb_workers.specs.Shared.{IsSameHolder, IsIdle};
 ghost use Rattle.pb_workers.specs.Teams.{IsToSplit, KeepsSearch};
 ghost use Rattle.pb_workers.specs.Tools.{AreFor, AllAreFor};
+ghost use Rattle.pb_workers.specs.Turns.{IsBetweenTurns, AllMarkInTurn};
 
 use crate::event_count::EventCount;
 use crate::worker::Tools;
@@ -66,6 +67,7 @@ fn run_all<R: Threads + Wait + Sync, G: Gate>(
     ensures first { worker_of result ≡ 0 }
     ensures met { parts_of result ≡ parts_of pass }
     ensures signed_off { AllSignedOff (view_of result) }
+    ensures marks { IsBetweenTurns (view_of pass) → AllMarkInTurn (view_of result) }
     ensures search { KeepsSearch (view_of pass) (view_of result) }
 {
     let Some(tools) = others.pop() else {
@@ -81,7 +83,8 @@ fn run_all<R: Threads + Wait + Sync, G: Gate>(
                 × IsToSplit task.now abstraction.now (vec_len others) (view_of pass) }
             ensures { IsOf yard.entry.now result × (worker_of result ≡ 0)
                 × (parts_of result ≡ parts_of pass) × AllSignedOff (view_of result)
-                × KeepsSearch (view_of pass) (view_of result) }
+                × KeepsSearch (view_of pass) (view_of result)
+                × (IsBetweenTurns (view_of pass) → AllMarkInTurn (view_of result)) }
         {
             run_all(
                 rt,
@@ -101,7 +104,8 @@ fn run_all<R: Threads + Wait + Sync, G: Gate>(
             ensures { IsOf yard.entry.now result × (parts_of result ≡ parts_of other)
                 × IsSameHolder (view_of other) (view_of result)
                 × ((view_of result).lent ≡ None)
-                × IsTrue (list_any is_off (view_of result).journal.own.events) }
+                × IsTrue (list_any is_off (view_of result).journal.own.events)
+                × (IsBetweenTurns (view_of other) → IsBetweenTurns (view_of result)) }
         { run_worker(rt, yard, count, gate, task, abstraction, tools, other) },
     );
     yard.meet(&mut all, other);
@@ -143,6 +147,10 @@ pub fn run_workers<R: Threads + Wait + Sync, G: Gate>(
     ensures first { IfOk result (λ p. worker_of p ≡ 0) }
     ensures met { IfOk result (λ p. parts_of p ≡ parts_of pass) }
     ensures signed_off { IfOk result (λ p. AllSignedOff (view_of p)) }
+
+    // If worker 0's marks were in turn so far, every worker's are in turn to the end.
+    ensures marks { IsBetweenTurns (view_of pass) → IfOk result (λ p. AllMarkInTurn (view_of p)) }
+
     ensures search { IfOk result (λ p. KeepsSearch (view_of pass) (view_of p)) }
 
     ensures err { IfErr result (λ e. e.1 ≡ pass) }

@@ -20,11 +20,14 @@ pub struct YardLessor<'a, W: Wait> {
 }
 
 impl<'a, W: Wait> Lessor for YardLessor<'a, W> {
+    ghost use Rattle.std.specs.Prelude.{refl};
+    ghost use Rattle.std.proofs.Common.{inl};
     ghost use Rattle.std.specs.Sync.Forever.{forever_left};
+    ghost use Rattle.pb_yard.specs.Marking.{turn_with};
     ghost use Rattle.pb_yard.specs.Passes.{view_of, worker_of};
     ghost use Rattle.pb_workers.specs.Serving.{searched_by};
     ghost use Rattle.pb_workers.specs.Shared.{MarksRivalTold};
-    ghost use Rattle.pb_workers.specs.Sharing.{HasLease, HasWork, HasNone, IsToldRivalIn};
+    ghost use Rattle.pb_workers.specs.Sharing.{HasLease, HasUnmarkedWork, HasWorkToReturn, HasNone, IsToldRivalIn};
 
     ghost searched = { λ l. searched_by (view_of l.watch.pass) };
 
@@ -32,10 +35,11 @@ impl<'a, W: Wait> Lessor for YardLessor<'a, W> {
 
     ghost holds = { λ begin given now lease. HasLease begin.watch now.watch lease };
 
-    ghost worked = { λ begin given now lease broken. HasWork begin.watch now.watch lease broken };
+    ghost worked = { λ begin given now lease broken.
+        HasUnmarkedWork begin.watch now.watch lease broken };
 
     ghost may_return = { λ begin given now lease broken.
-        HasWork begin.watch now.watch lease broken };
+        HasWorkToReturn begin.watch now.watch lease broken };
 
     ghost returned = { λ begin given now. HasNone begin.watch now.watch };
 
@@ -44,7 +48,10 @@ impl<'a, W: Wait> Lessor for YardLessor<'a, W> {
     ghost marked = { λ asked lease now. MarksRivalTold (worker_of asked.watch.pass) lease
         (view_of asked.watch.pass) (view_of now.watch.pass) };
 
-    ghost unmarked = { λ begin given now lease broken w. w };
+    ghost unmarked = { λ begin given now lease broken w. record {
+      work = w.work;
+      turn = λ before. (turn_with lease.quota, w.turn before, inl refl);
+    } };
 
     fn work_on(&mut self, worker: &mut Worker, lease: &mut Lease) -> Worked {
         worker.work_watched(lease, &mut self.watch)

@@ -7,6 +7,7 @@ ghost use Rattle.pb_workers.specs.Serving.{Serves, searched_by};
 ghost use Rattle.pb_workers.specs.Shared.{IsSameHolder, IsIdle};
 ghost use Rattle.pb_workers.specs.Sharing.{HasNone};
 ghost use Rattle.pb_workers.specs.Tools.{AreFor};
+ghost use Rattle.pb_workers.specs.Turns.{IsBetweenTurns};
 
 use crate::event_count::EventCount;
 use crate::holding::hold;
@@ -67,6 +68,7 @@ pub fn run_worker<W: Wait, G: Gate>(
     ensures holder { IsSameHolder (view_of pass) (view_of result) }
     ensures vacant { (view_of result).lent ≡ None }
     ensures signed_off { IsTrue (list_any is_off (view_of result).journal.own.events) }
+    ensures turn { IsBetweenTurns (view_of pass) → IsBetweenTurns (view_of result) }
 {
     let mut worker = Worker::new(task, abstraction, tools);
     let mut lessor = YardLessor {

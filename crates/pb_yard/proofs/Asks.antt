@@ -15,9 +15,16 @@ use Rattle.pb_lease.specs.GraphValue.{GraphValue, counts_in}
 use Rattle.pb_yard.specs.declared.view.View.{View}
 use Rattle.pb_yard.specs.Rule.{grant_in, IsViewOf, IsYard}
 use Rattle.pb_yard.specs.Returning.{IsLeaseOf}
+use Rattle.pb_yard.specs.Replies.{reported}
 use Rattle.pb_yard.specs.Calls.{IsActive}
 use Rattle.pb_yard.proofs.Parts.{at_journal, below_made}
 use Rattle.pb_yard.proofs.Meaning.{history}
+
+-- a sign-off keeps its cause without a report that comes after the end
+pub still_cause : (memory : Bool) (end : Option End) → (memory || is_some end) ≡ true → (reported memory end || is_some end) ≡ true
+still_cause true None why = refl
+still_cause true (Some end) why = refl
+still_cause false end why = why
 
 module _ (x : GraphValue) (shared : Option ℕ) (views : List View) (seat : ℕ) (v : View) (h : IsYard x shared views) (at : get_elem? views seat ≡ some v) (live : v.journal.is_live ≡ true) where
   abbrev Own : ℕ

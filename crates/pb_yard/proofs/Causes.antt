@@ -1,5 +1,5 @@
 -- Why a lease goes on or comes back: from what the graph and the lease tell to the rows of the whole store.
-use Rattle.std.proofs.Common.{◌≡◌, ℕ, ◌<◌, ◌≤◌, true, false, is_some, length, Option, Some, None, refl, sym, ap, ◌∙◌, arith, subst, true≢false}
+use Rattle.std.proofs.Common.{◌≡◌, ℕ, zero, suc, ◌<◌, ◌≤◌, ◌⊎◌, ◌↔◌, inl, inr, true, false, is_some, length, Option, Some, None, refl, sym, ap, ◌∙◌, arith, subst, true≢false}
 use Rattle.pb_model.specs.declared.key.Key.{Key}
 use Rattle.pb_model.specs.Weight.{Weight}
 use Rattle.pb_model.specs.Key.{IsBest}
@@ -14,13 +14,16 @@ use Rattle.pb_bundles.specs.Parts.{content_in, rows_in}
 use Rattle.pb_bundles.specs.Homes.{key_at}
 use Rattle.pb_bundles.specs.Moves.{NotesKeys}
 use Rattle.pb_bundles.proofs.Callers.{past, opened_is_by_key, first_choices_are_by_key}
-use Rattle.pb_lease.specs.Tables.{blocks}
+use Rattle.pb_machine.specs.Room.{room_after}
+use Rattle.pb_lease.specs.Tables.{blocks, rooms}
 use Rattle.pb_lease.specs.LeaseValue.{LeaseValue, leased_store}
 use Rattle.pb_lease.specs.Leased.{grant_of}
 use Rattle.pb_lease.specs.Leasing.{can_be_leased}
 use Rattle.pb_lease.specs.GraphValue.{GraphValue, setup_in, counts_in, IsOfGraph}
 use Rattle.pb_lease.specs.Choices.{IsChoiceWithHome}
 use Rattle.pb_lease.specs.Moments.{IsMomentAt}
+use Rattle.pb_lease.specs.Steps.{GoesOn}
+use Rattle.pb_yard.specs.Order.{CannotGoOn}
 use Rattle.pb_lease.proofs.Callers.{passes_from, passes_to}
 
 opened_best : (weight : Weight) (part : Part) (key : Option Key) → IsBest weight part key → is_some key ≡ true → HasOpened part
@@ -62,11 +65,11 @@ module _ (old : GraphValue) (lease : LeaseValue) (new : GraphValue) (noted : Not
   none_above : (block : ℕ) → (blocks old.table).count ≤ block → key_at new.homes block ≡ None
   none_above block above = past new.homes.keys block (omega (arith, above, places, noted.count))
 
-  -- with the lease home its block is the first choice, by the rows that the whole store has then
-  pub still_first : (before after : (worker : ℕ) → Rows) (machine next : Machine) → IsMomentAt old before machine → IsMomentAt new after next
+  -- with the lease home its block is the first choice by the noted keys exactly if it is so by the rows that the whole store has then
+  by_rows : (before after : (worker : ℕ) → Rows) (machine next : Machine) → IsMomentAt old before machine → IsMomentAt new after next
       → IsChoiceWithHome old lease new (Some lease.block)
-      → IsFirstChoice (blocks old.table) old.table.settings (counts_with_lease_home machine.counts lease.worker lease.used) next.store lease.block
-  still_first before after machine next m at choice =
+      ↔ IsFirstChoice (blocks old.table) old.table.settings (counts_with_lease_home machine.counts lease.worker lease.used) next.store lease.block
+  by_rows before after machine next m at =
       let home = counts_with_lease_home (counts_in old) lease.worker lease.used in
       let pass = can_be_leased (blocks old.table) old.table.settings home in
       let both = (first_choices_are_by_key (blocks old.table) old.table.settings home next.store (key_at new.homes) pass at.keys none_above
@@ -74,5 +77,19 @@ module _ (old : GraphValue) (lease : LeaseValue) (new : GraphValue) (noted : Not
         passes_from (blocks old.table) old.table.settings home block,
         λ p. passes_to (blocks old.table) old.table.settings home block p.0 p.1 p.2 p.3,
       ))).0 lease.block in
-      subst (λ (c : Counts). IsFirstChoice (blocks old.table) old.table.settings (counts_with_lease_home c lease.worker lease.used) next.store lease.block)
-      (sym m.counts) (both.0 choice)
+      subst (λ (c : Counts). IsChoiceWithHome old lease new (Some lease.block) ↔ IsFirstChoice (blocks old.table) old.table.settings (counts_with_lease_home c lease.worker lease.used) next.store lease.block)
+      (sym m.counts) both
+
+  pub still_first : (before after : (worker : ℕ) → Rows) (machine next : Machine) → IsMomentAt old before machine → IsMomentAt new after next
+      → IsChoiceWithHome old lease new (Some lease.block)
+      → IsFirstChoice (blocks old.table) old.table.settings (counts_with_lease_home machine.counts lease.worker lease.used) next.store lease.block
+  still_first before after machine next m at choice = (by_rows before after machine next m at).0 choice
+
+  -- a lease that doesn't go on can't: its block isn't the first choice, or its room is used up
+  pub cannot_go_on : rooms old.table ≡ room_after old.table.journal → (before after : (worker : ℕ) → Rows) (machine next : Machine) → IsMomentAt old before machine → IsMomentAt new after next
+      → (GoesOn old lease new → ⊥) → CannotGoOn (setup_in old) (room_after old.table.journal) machine lease.worker lease.used lease.block next
+  cannot_go_on room before after machine next m at stays_not = go (rooms old.table lease.worker) refl
+    where
+      go : (left : ℕ) → rooms old.table lease.worker ≡ left → CannotGoOn (setup_in old) (room_after old.table.journal) machine lease.worker lease.used lease.block next
+      go zero is = inr ((λ i. sym room i lease.worker) ∙ is)
+      go (suc left) is = inl (λ first. stays_not ((by_rows before after machine next m at).1 first, omega (arith, is)))

@@ -15,7 +15,8 @@ use Rattle.pb_lease.specs.declared.answer.LeaseReply.{LeaseReply}
 use Rattle.pb_lease.specs.declared.answer.LeaseReply.TheVariants.{Leased, NotYet, Over, Memory}
 use Rattle.pb_lease.specs.declared.answer.Renewed.{Renewed}
 use Rattle.pb_lease.specs.declared.answer.Renewed.TheVariants.{Kept, Given}
-use Rattle.pb_lease.specs.Tables.{blocks}
+use Rattle.pb_machine.specs.Room.{room_after}
+use Rattle.pb_lease.specs.Tables.{blocks, rooms}
 use Rattle.pb_lease.specs.Events.{Adds, ending}
 use Rattle.pb_lease.specs.LeaseValue.{LeaseValue}
 use Rattle.pb_lease.specs.GraphValue.{GraphValue}
@@ -23,14 +24,14 @@ use Rattle.pb_lease.specs.Choices.{IsOver, IsToWait}
 use Rattle.pb_lease.specs.Steps.{IsLeased, LeasesNext, IsEnded, end_events, KeepsLeases, IsMarked, GoesOn, ChoosesByRows, IsRenewed, RenewsNext, IsReleased, ReleasesNext}
 use Rattle.pb_yard.specs.declared.view.View.{View}
 use Rattle.pb_yard.specs.Views.{cost_of, view_then, view_left}
-use Rattle.pb_yard.specs.Order.{HasCause}
+use Rattle.pb_yard.specs.Order.{HasCause, HasStopped}
 use Rattle.pb_yard.specs.Rule.{rows_of, YardFact, IsYard}
-use Rattle.pb_yard.specs.Replies.{NoneMayBeLeased, LeasesAs, lease_events, lent_by, told_by, RenewsAs, renewal_events, kept_by, ReleasesAs, release_events, ChangesMarkAs, mark_events, SignsOffAs, off_events}
+use Rattle.pb_yard.specs.Replies.{NoneMayBeLeased, LeasesAs, lease_events, lent_by, told_by, RenewsAs, renewal_events, kept_by, ReleasesAs, release_events, ChangesMarkAs, mark_events, SignsOffAs, reported, off_events}
 use Rattle.pb_yard.specs.Returning.{IsBrought}
 use Rattle.pb_yard.specs.Calls.{Holds, Looks}
 use Rattle.pb_yard.proofs.InTime.{GrantsNone, ending_grants_none, end_grants_none}
 use Rattle.pb_yard.proofs.Holding.{holding_keeps}
-use Rattle.pb_yard.proofs.Steps.{Steps, keeps_step, lease_step, release_step, renew_step, brought_of_graph, same_rest, first_by, end_by, ending_by}
+use Rattle.pb_yard.proofs.Steps.{Steps, AreTimely, plain_timely, off_timely, report_free, MayReturn, may_cause, keeps_step, lease_step, release_step, renew_step, brought_of_graph, same_rest, first_by, end_by, ending_by}
 use Rattle.pb_yard.proofs.Asks.{begins}
 use Rattle.pb_yard.proofs.Causes.{none_here}
 
@@ -113,43 +114,50 @@ module _ (x y : GraphValue) (v : View) (live : v.journal.is_live ≡ true) where
 
   pub stays : y ≡ x → MayGo x y v live [] v.lent v.told
   stays is number views seat h at = subst (λ (z : GraphValue). Steps x z (cost_of number) views seat v h at live [] v.lent v.told (cost_of number)) (sym is)
-      (keeps_step x x (cost_of number) views seat v h at live [] tt (nothing x) record { task = refl; abstraction = refl; choice = refl; settings = refl; past = refl } (sym (append-nil x.table.journal)) (λ other else. refl))
+      (keeps_step x x (cost_of number) views seat v h at live [] (plain_timely x [] tt) (nothing x) record { task = refl; abstraction = refl; choice = refl; settings = refl; past = refl } (sym (append-nil x.table.journal)) (λ other else. refl))
 
   -- all but the tables stay
-  pub keeps : (events : List Event) → GrantsNone events → Adds x.table y.table events → y ≡ record x { table = y.table } → KeepsLeases x events y → AreBy Own events → MayGo x y v live events v.lent v.told
-  keeps events none adds rest k by number views seat h at = keeps_step x y (cost_of number) views seat v h at live events none k (same_rest x y events adds rest) adds.journal by
+  pub keeps : (events : List Event) → AreTimely x events → Adds x.table y.table events → y ≡ record x { table = y.table } → KeepsLeases x events y → AreBy Own events → MayGo x y v live events v.lent v.told
+  keeps events timely adds rest k by number views seat h at = keeps_step x y (cost_of number) views seat v h at live events timely k (same_rest x y events adds rest) adds.journal by
 
   pub may_lease : x.incumbent ≡ v.last → v.read_at ≡ Some (length x.table.journal) → (reply : LeaseReply) → LeasesAs Own reply x y → MayGo x y v live (lease_events Own reply x) (lent_by reply v.lent) (told_by reply v.told)
   may_lease is_last read_at (Leased lease) is = λ number views seat h at. lease_step x y (cost_of number) views seat v h at live lease is_last read_at is.0 is.1
   may_lease is_last read_at NotYet is = stays is.2
-  may_lease is_last read_at (Over end) is = keeps (end_events x.table.end end) (end_grants_none x.table.end end) is.1.events is.1.rest is.2 (end_by Own x.table.end end)
+  may_lease is_last read_at (Over end) is = keeps (end_events x.table.end end) (plain_timely x (end_events x.table.end end) (end_grants_none x.table.end end)) is.1.events is.1.rest is.2 (end_by Own x.table.end end)
   may_lease is_last read_at Memory is = stays is.2
 
-  pub may_renew : x.incumbent ≡ v.last → v.read_at ≡ Some (length x.table.journal) → (lease : LeaseValue) (reply : Renewed) → lease.used ≡ lease.quota → length x.homes.keys ≡ (blocks x.table).count → IsBrought v 0 lease → RenewsAs lease reply x y → MayGo x y v live (renewal_events lease reply) (kept_by reply) None
-  may_renew is_last read_at lease (Kept kept) spent places b is number views seat h at = renew_step x y (cost_of number) views seat v h at live lease kept spent places b is_last read_at is.1 is.0 is.3
-  may_renew is_last read_at lease Given spent places b is number views seat h at = release_step x y (cost_of number) views seat v h at live lease false (inl spent) b is_last is.1 is.3
+  pub may_renew : x.incumbent ≡ v.last → v.read_at ≡ Some (length x.table.journal) → (lease : LeaseValue) (reply : Renewed) → lease.used ≡ lease.quota → length x.homes.keys ≡ (blocks x.table).count → rooms x.table ≡ room_after x.table.journal → IsBrought v 0 lease → RenewsAs lease reply x y → MayGo x y v live (renewal_events lease reply) (kept_by reply) None
+  may_renew is_last read_at lease (Kept kept) spent places room b is number views seat h at = renew_step x y (cost_of number) views seat v h at live lease kept spent places b is_last read_at is.1 is.0 is.3
+  may_renew is_last read_at lease Given spent places room b is number views seat h at =
+      release_step x y (cost_of number) views seat v h at live lease false (inr (spent, places, room, is.0)) b is_last is.1 is.3
 
   -- a lease that goes on has a row of its block that is Opened, so its quota is used up
-  pub may_switch : x.incumbent ≡ v.last → v.read_at ≡ Some (length x.table.journal) → (lease : LeaseValue) (reply : Renewed) → HasCause lease false → length x.homes.keys ≡ (blocks x.table).count → IsBrought v 0 lease → RenewsAs lease reply x y → MayGo x y v live (renewal_events lease reply) (kept_by reply) None
-  may_switch is_last read_at lease (Kept kept) cause places b is number views seat h at =
+  pub may_switch : x.incumbent ≡ v.last → v.read_at ≡ Some (length x.table.journal) → (lease : LeaseValue) (reply : Renewed) → HasStopped lease → length x.homes.keys ≡ (blocks x.table).count → rooms x.table ≡ room_after x.table.journal → IsBrought v 0 lease → RenewsAs lease reply x y → MayGo x y v live (renewal_events lease reply) (kept_by reply) None
+  may_switch is_last read_at lease (Kept kept) cause places room b is number views seat h at =
       renew_step x y (cost_of number) views seat v h at live lease kept (spent cause) places b is_last read_at is.1 is.0 is.3
     where
-      spent : HasCause lease false → lease.used ≡ lease.quota
+      spent : HasStopped lease → lease.used ≡ lease.quota
       spent (inl used) = used
       spent (inr none) = absurd (true≢false (sym is.0.0.0.1 ∙ none_here x lease y is.1.noted h.is_setup
           (brought_of_graph x x (cost_of number) views seat v h at live 0 lease b) (λ w. rows_of (h.lent w)) h.machine h.moment none))
-  may_switch is_last read_at lease Given cause places b is number views seat h at = release_step x y (cost_of number) views seat v h at live lease false cause b is_last is.1 is.3
+  may_switch is_last read_at lease Given cause places room b is number views seat h at = release_step x y (cost_of number) views seat v h at live lease false (why cause) b is_last is.1 is.3
+    where
+      why : HasStopped lease → MayReturn x y lease false
+      why (inl used) = inr (used, places, room, is.0)
+      why (inr none) = inl none
 
   pub may_release : x.incumbent ≡ v.last → (lease : LeaseValue) (memory : Bool) → HasCause lease memory → IsBrought v (one_if memory) lease → ReleasesAs lease memory x y → MayGo x y v live (release_events lease memory x) None None
-  may_release is_last lease memory cause b is number views seat h at = release_step x y (cost_of number) views seat v h at live lease memory cause b is_last is.0 is.1
+  may_release is_last lease memory cause b is number views seat h at = release_step x y (cost_of number) views seat v h at live lease memory (may_cause x y lease memory cause) b is_last is.0 is.1
 
   pub may_mark : (may : Type 0) (event : Event) (done : Bool) → GrantsNone (event ∷ []) → AreBy Own (event ∷ []) → ChangesMarkAs may Own event done x y → MayGo x y v live (mark_events event done) v.lent v.told
-  may_mark may event true none by is = keeps (event ∷ []) none is.1.events is.1.rest is.2 by
+  may_mark may event true none by is = keeps (event ∷ []) (plain_timely x (event ∷ []) none) is.1.events is.1.rest is.2 by
   may_mark may event false none by is = stays is.1
 
   pub may_sign_off : (memory : Bool) → SignsOffAs Own memory x y → MayGo x y v live (off_events Own memory x) v.lent v.told
   may_sign_off memory is =
-      keeps (Off Own memory ∷ ending memory x.table.end) (ending_grants_none memory x.table.end) is.0.events is.0.rest is.1 (first_by Own (Off Own memory) (ending memory x.table.end) (λ other. refl) (ending_by Own memory x.table.end))
+      let report = reported memory x.table.end in
+      keeps (off_events Own memory x) (off_timely x Own report (report_free memory x.table.end)) is.0.events is.0.rest is.1
+      (first_by Own (Off Own report) (ending report x.table.end) (λ other. refl) (ending_by Own report x.table.end))
 
 -- ---- the replies of the graph, by cases
 

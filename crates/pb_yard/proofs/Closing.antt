@@ -7,12 +7,13 @@ use Rattle.std.specs.List.{list_any}
 use Rattle.pb_machine.specs.declared.event.Grant.{Grant}
 use Rattle.pb_machine.specs.declared.settings.Settings.{Settings}
 use Rattle.pb_machine.specs.Counts.{Counts}
+use Rattle.pb_machine.specs.Room.{no_room}
 use Rattle.pb_machine.specs.History.{is_off, events_of, AreFinished}
 use Rattle.pb_machine.specs.Views as of_machine
 use Rattle.pb_machine.proofs.Callers.{signed_off_is_finished, histories_are_lawful, all_off_none_out, last_views_tell_all, last_views_sign_off}
 use Rattle.pb_lease.specs.Tables.{blocks}
 use Rattle.pb_lease.specs.GraphValue.{GraphValue, setup_in, counts_in}
-use Rattle.pb_lease.specs.Begins.{begin_machine, IsOfRun}
+use Rattle.pb_lease.specs.Begins.{begin_machine, IsBegin, IsOfRun}
 use Rattle.pb_lease.specs.Choices.{is_out_in}
 use Rattle.pb_lease.proofs.Callers.{none_out_is_moment}
 use Rattle.pb_yard.specs.declared.view.View.{View}
@@ -52,14 +53,16 @@ module _ (x : GraphValue) (seat : ℕ) (v : View) (live : v.journal.is_live ≡ 
       record {
         search = (h.each seat v at live).search;
         of_run = subst (λ (g : GraphValue). IsOfRun g x) (sym (h.began seat v at live)) h.of_run;
+        begins = subst (λ (g : GraphValue). IsBegin g) (sym (h.began seat v at live)) h.begins;
         seen = (tells.2 spent).0;
         shares = tells.1;
+        every = (tells.2 spent).1;
         history = history x x.incumbent views h;
         finished = finished;
         home = home;
         moves = h.moves;
         machine = h.machine;
-        run = subst (λ (g : GraphValue). RunsInTime (setup_in x) (begin_machine g) h.moves h.machine) (sym (h.began seat v at live)) (h.settled, h.run);
+        run = subst (λ (g : GraphValue). RunsInTime (setup_in x) no_room (begin_machine g) h.moves h.machine) (sym (h.began seat v at live)) (h.settled, h.run);
         journal = h.journal;
         moment = λ recorded. none_out_is_moment x recorded h.machine
             (moment_where_leased x (λ worker. rows_of (h.lent worker)) recorded h.machine

@@ -13,11 +13,11 @@ use Rattle.pb_machine.specs.declared.event.Event.TheVariants.{Lease, Renew, Hot,
 use Rattle.pb_machine.specs.declared.event.Grant.{Grant}
 use Rattle.pb_machine.specs.Tables.{with_entry, one_if, count_below}
 use Rattle.pb_machine.specs.Counts.{Counts, with_quota, counts_after}
-use Rattle.pb_machine.specs.Room.{leases_in}
+use Rattle.pb_machine.specs.Room.{leases_in, no_room}
 use Rattle.pb_machine.specs.History.{AreFinished}
 use Rattle.pb_machine.specs.Machine.{Setup, IsSetup, Machine, opening_machine, lent_store, CameBack, Happens, Move, event_move, tell_move, Moves, journal_of}
 use Rattle.pb_machine.specs.Lawful.{broken_leases, IsLawful}
-use Rattle.pb_yard.specs.Order.{IsTimely, settled_after, RunsSettled}
+use Rattle.pb_yard.specs.Order.{IsTimely, room_moved, settled_after, RunsSettled}
 use Rattle.pb_machine.proofs.Callers.{entry_here, entry_else, sum_with_entry, none_counted, passes, none_leased, within, some_is, opening_is_lawful, moves_keep_lawful, runs_are_lawful, scopes_are_apart, journals_are_histories, journals_are_short, broken_more, works_there}
 use Rattle.pb_yard.specs.Length.{leases_out, most_leases, LeasesAreFew, RunsAreShort}
 use Rattle.pb_yard.proofs.InTime.{in_time_is_run}
@@ -164,7 +164,7 @@ module _ (p : Setup) (greatest_cost : ℕ) (is : IsSetup p greatest_cost) where
         omega (arith, sums, had, same)
 
     releases : few ≡ 0 → new.counts ≡ counts_after p.blocks p.settings old.counts (Release worker used false) → new.broken ≡ old.broken
-        → ((grant : Grant) × (old.counts.leases worker ≡ Some grant) × ((used ≡ grant.quota) ⊎ (HasOpened (new.store.rows grant.block) → ⊥))) → IsPaid new given
+        → ((grant : Grant) × (old.counts.leases worker ≡ Some grant) × ((HasOpened (new.store.rows grant.block) → ⊥) ⊎ (used ≡ grant.quota))) → IsPaid new given
     releases none counts broken timely =
         let out = home_out false counts in
         let sum = mul-add p.space.actions old.counts.spent used in
@@ -179,13 +179,13 @@ module _ (p : Setup) (greatest_cost : ℕ) (is : IsSetup p greatest_cost) where
         same : timely.0 ≡ Own
         same = some_is timely.0 Own (sym timely.1 ∙ back.leased)
 
-        closes : (used ≡ timely.0.quota) ⊎ (HasOpened (new.store.rows timely.0.block) → ⊥) → 1 ≤ closings back.work.works
-        closes (inl all) =
+        closes : (HasOpened (new.store.rows timely.0.block) → ⊥) ⊎ (used ≡ timely.0.quota) → 1 ≤ closings back.work.works
+        closes (inr all) =
             let some = (l.counts.quota worker Own back.leased).0 in
             let quota = ap (λ (g : Grant). g.quota) same in
             let each = expansions_close back.work.works in
             omega (arith, some, all, quota, each, back.work.used_is)
-        closes (inr none_left) = nonzero (closings back.work.works) (λ e. none_left (subst (λ (g : Grant). HasOpened (new.store.rows g.block)) (sym same) (still_opened e whole)))
+        closes (inl none_left) = nonzero (closings back.work.works) (λ e. none_left (subst (λ (g : Grant). HasOpened (new.store.rows g.block)) (sym same) (still_opened e whole)))
 
     -- ---- it comes back out of memory
 
@@ -203,41 +203,45 @@ module _ (p : Setup) (greatest_cost : ℕ) (is : IsSetup p greatest_cost) where
 
   -- ---- each move
 
-  moved : (move : Move) (old new : Machine) (given : ℕ) → IsLawful p old → Moves p old move new → IsTimely p old move new → IsPaid old given → IsPaid new (given + leases_in (journal_of (move ∷ [])))
-  moved (event_move (Lease worker block quota)) old new given l h timely was = subst (IsPaid new) (omega arith) (leases worker block quota old new given l h was)
-  moved (event_move (Renew worker used quota)) old new given l h timely was =
+  moved : (room : ℕ → ℕ) (move : Move) (old new : Machine) (given : ℕ) → IsLawful p old → Moves p old move new → IsTimely p room old move new → IsPaid old given → IsPaid new (given + leases_in (journal_of (move ∷ [])))
+  moved room (event_move (Lease worker block quota)) old new given l h timely was = subst (IsPaid new) (omega arith) (leases worker block quota old new given l h was)
+  moved room (event_move (Renew worker used quota)) old new given l h timely was =
       let back = h.rows.0 in
       let same : timely.0 ≡ back.grant = some_is timely.0 back.grant (sym timely.1 ∙ back.leased) in
       subst (IsPaid new) (omega arith) (renews worker used 0 old new given l back was quota refl h.counts h.rows.4
       (subst (λ (g : Grant). HasOpened (new.store.rows g.block)) same timely.3.may.opened))
-  moved (event_move (Hot worker block)) old new given l h timely was =
+  moved room (event_move (Hot worker block)) old new given l h timely was =
       subst (IsPaid new) (omega arith) (stays old new given (λ home state. ap (λ (s : Store). s.rows home state) h.rows.1.0) (ap (λ (c : Counts). c.spent) h.counts) h.rows.1.4 (ap (λ (c : Counts). c.leases) h.counts) was)
-  moved (event_move (Cold worker block)) old new given l h timely was =
+  moved room (event_move (Cold worker block)) old new given l h timely was =
       subst (IsPaid new) (omega arith) (stays old new given (λ home state. ap (λ (s : Store). s.rows home state) h.rows.0) (ap (λ (c : Counts). c.spent) h.counts) h.rows.4 (ap (λ (c : Counts). c.leases) h.counts) was)
-  moved (event_move (Release worker used false)) old new given l h timely was =
-      subst (IsPaid new) (omega arith) (releases worker used 0 old new given l h.rows.0 was refl h.counts h.rows.4 timely)
-  moved (event_move (Release worker used true)) old new given l h timely was =
+  moved room (event_move (Release worker used false)) old new given l h timely was =
+      subst (IsPaid new) (omega arith) (releases worker used 0 old new given l h.rows.0 was refl h.counts h.rows.4 (timely.0, timely.1, spent timely.2))
+    where
+      spent : {A B C : Type 0} → A ⊎ (B × C) → A ⊎ B
+      spent (inl a) = inl a
+      spent (inr both) = inr both.0
+  moved room (event_move (Release worker used true)) old new given l h timely was =
       subst (IsPaid new) (omega arith) (breaks worker used 1 old new given l h.rows.0 was refl h.counts h.rows.4)
-  moved (event_move (Off worker memory)) old new given l h timely was =
+  moved room (event_move (Off worker memory)) old new given l h timely was =
       subst (IsPaid new) (omega arith) (stays old new given (λ home state. ap (λ (s : Store). s.rows home state) h.rows.0) (ap (λ (c : Counts). c.spent) h.counts) h.rows.4 (ap (λ (c : Counts). c.leases) h.counts) was)
-  moved (event_move (Ended Quiet)) old new given l h timely was =
+  moved room (event_move (Ended Quiet)) old new given l h timely was =
       subst (IsPaid new) (omega arith) (stays old new given (λ home state. ap (λ (s : Store). s.rows home state) h.rows.1.0) (ap (λ (c : Counts). c.spent) h.counts) h.rows.1.4 (ap (λ (c : Counts). c.leases) h.counts) was)
-  moved (event_move (Ended Budget)) old new given l h timely was =
+  moved room (event_move (Ended Budget)) old new given l h timely was =
       subst (IsPaid new) (omega arith) (stays old new given (λ home state. ap (λ (s : Store). s.rows home state) h.rows.1.0) (ap (λ (c : Counts). c.spent) h.counts) h.rows.1.4 (ap (λ (c : Counts). c.leases) h.counts) was)
-  moved (event_move (Ended Memory)) old new given l h timely was =
+  moved room (event_move (Ended Memory)) old new given l h timely was =
       subst (IsPaid new) (omega arith) (stays old new given (λ home state. ap (λ (s : Store). s.rows home state) h.rows.0) (ap (λ (c : Counts). c.spent) h.counts) h.rows.4 (ap (λ (c : Counts). c.leases) h.counts) was)
-  moved (tell_move worker cost) old new given l h timely was =
+  moved room (tell_move worker cost) old new given l h timely was =
       subst (IsPaid new) (omega arith) (stays old new given (λ home state. ap (λ (s : Store). s.rows home state) h.store) (ap (λ (c : Counts). c.spent) h.counts) h.broken (ap (λ (c : Counts). c.leases) h.counts) was)
 
   one_and_more : (move : Move) (moves : List Move) → leases_in (journal_of (move ∷ moves)) ≡ leases_in (journal_of (move ∷ [])) + leases_in (journal_of moves)
   one_and_more (event_move event) moves = omega arith
   one_and_more (tell_move worker cost) moves = omega arith
 
-  runs : (moves : List Move) (old : Machine) (settled : Option ℕ) (new : Machine) (later : Option ℕ) (given : ℕ) → IsLawful p old → RunsSettled p old settled moves new later → IsPaid old given → IsPaid new (given + leases_in (journal_of moves))
-  runs [] old settled new later given l run was = subst (λ (m : Machine). IsPaid m (given + 0)) (sym run.0) (subst (IsPaid old) (omega arith) was)
-  runs (move ∷ moves) old settled new later given l run was =
-      let first = moved move old run.0 given l run.1 run.4 was in
-      let rest = runs moves run.0 (settled_after move settled run.0) new later (given + leases_in (journal_of (move ∷ []))) (moves_keep_lawful p greatest_cost move old run.0 is l run.1) run.5 first in
+  runs : (room : ℕ → ℕ) (moves : List Move) (old : Machine) (settled : Option ℕ) (new : Machine) (later : Option ℕ) (given : ℕ) → IsLawful p old → RunsSettled p room old settled moves new later → IsPaid old given → IsPaid new (given + leases_in (journal_of moves))
+  runs room [] old settled new later given l run was = subst (λ (m : Machine). IsPaid m (given + 0)) (sym run.0) (subst (IsPaid old) (omega arith) was)
+  runs room (move ∷ moves) old settled new later given l run was =
+      let first = moved room move old run.0 given l run.1 run.4 was in
+      let rest = runs (room_moved room move) moves run.0 (settled_after move settled run.0) new later (given + leases_in (journal_of (move ∷ []))) (moves_keep_lawful p greatest_cost move old run.0 is l run.1) run.5 first in
       let both = one_and_more move moves in
       subst (IsPaid new) (omega (arith, both)) rest
 
@@ -281,14 +285,14 @@ leases_are_few setup greatest_cost moves machine is first run = (
     opens = opening_is_lawful setup greatest_cost is first
 
     lawful : IsLawful setup machine
-    lawful = runs_are_lawful setup greatest_cost moves (opening_machine setup) machine is opens (in_time_is_run setup moves (opening_machine setup) machine run)
+    lawful = runs_are_lawful setup greatest_cost moves (opening_machine setup) machine is opens (in_time_is_run setup no_room moves (opening_machine setup) machine run)
 
     paid_for : IsPaid setup greatest_cost is machine (0 + leases_in (journal_of moves))
-    paid_for = runs setup greatest_cost is moves (opening_machine setup) (opening_machine setup).store.incumbent machine run.0 0 opens run.1 (opening_paid setup greatest_cost is)
+    paid_for = runs setup greatest_cost is no_room moves (opening_machine setup) (opening_machine setup).store.incumbent machine run.0 0 opens run.1 (opening_paid setup greatest_cost is)
 
 pub runs_are_short : RunsAreShort
 runs_are_short setup greatest_cost moves machine is first range run within finished other =
     let few = (leases_are_few setup greatest_cost moves machine is first run).1 finished other in
-    let history = journals_are_histories setup moves (opening_machine setup) machine 0 range (omega arith) refl (in_time_is_run setup moves (opening_machine setup) machine run) in
+    let history = journals_are_histories setup moves (opening_machine setup) machine 0 range (omega arith) refl (in_time_is_run setup no_room moves (opening_machine setup) machine run) in
     let short = journals_are_short setup.blocks setup.settings 0 (journal_of moves) machine.counts history within in
     omega (arith, few, short)

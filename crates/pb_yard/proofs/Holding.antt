@@ -12,6 +12,7 @@ use Rattle.pb_machine.specs.declared.settings.Settings.{Settings}
 use Rattle.pb_machine.specs.Settings.{AreInRange}
 use Rattle.pb_machine.specs.Tables.{with_entry}
 use Rattle.pb_machine.specs.Counts.{Counts}
+use Rattle.pb_machine.specs.Room.{no_room, room_after}
 use Rattle.pb_machine.specs.Views as of_machine
 use Rattle.pb_machine.specs.Views.{AreTrueOf, AreBy, view_after}
 use Rattle.pb_machine.specs.Machine.{Setup, IsSetup, Machine, journal_of}
@@ -34,7 +35,7 @@ pub record IsStep (x y : GraphValue) (machine next : Machine) (settled last : Op
   pub recorded : ℕ → Rows
   pub follows : Follows x machine events y recorded next
   pub later : Option ℕ
-  pub in_time : RunsSettled (setup_in x) machine settled (moves_of events) next later
+  pub in_time : RunsSettled (setup_in x) (room_after x.table.journal) machine settled (moves_of events) next later
   pub same : GoesOnAs x y
   pub added : y.table.journal ≡ x.table.journal ++ events
   pub by : AreBy worker events
@@ -66,8 +67,9 @@ module _ (x y : GraphValue) (shared later : Option ℕ) (views : List View) (sea
       → (next.counts.leases other ≡ h.machine.counts.leases other) × (next.given other ≡ h.machine.given other) × (next.told other ≡ h.machine.told other)
   left other else = others_are_left (setup_in x) (moves_of events) h.machine next other s.follows.moves (events_leave_others Own other events s.by else)
 
-  run : RunsSettled (setup_in x) (begin_machine h.begin) h.begin.incumbent (h.moves ++ moves_of events) next s.later
-  run = settled_on (setup_in x) h.moves (moves_of events) (begin_machine h.begin) h.machine next h.begin.incumbent h.settled s.later h.run s.in_time
+  run : RunsSettled (setup_in x) no_room (begin_machine h.begin) h.begin.incumbent (h.moves ++ moves_of events) next s.later
+  run = settled_on (setup_in x) no_room h.moves (moves_of events) (begin_machine h.begin) h.machine next h.begin.incumbent h.settled s.later h.run
+      (subst (λ (j : List Event). RunsSettled (setup_in x) (room_after j) h.machine h.settled (moves_of events) next s.later) (sym h.journal) s.in_time)
 
   journal : journal_of (h.moves ++ moves_of events) ≡ y.table.journal
   journal = (runs_go_on (setup_in x) h.moves (moves_of events) (begin_machine h.begin) h.machine next).2
@@ -141,7 +143,7 @@ module _ (x y : GraphValue) (shared later : Option ℕ) (views : List View) (sea
     machine = next;
     lent = Lent;
     settled = s.later;
-    run = subst (λ (t : Setup). RunsSettled t (begin_machine h.begin) h.begin.incumbent (h.moves ++ moves_of events) next s.later) (sym setup) run;
+    run = subst (λ (t : Setup). RunsSettled t no_room (begin_machine h.begin) h.begin.incumbent (h.moves ++ moves_of events) next s.later) (sym setup) run;
     journal = journal;
     moment = moment_where_leased y s.recorded (λ other. rows_of (Lent other)) next s.records s.follows.moment;
     shared_is = shared_is;
@@ -150,11 +152,11 @@ module _ (x y : GraphValue) (shared later : Option ℕ) (views : List View) (sea
     journals = journals;
     each = each_set (λ j u. u.journal.is_live ≡ true → IsViewOf y next Lent u) views seat New (λ _. mine) theirs;
     recent = each_set (λ j u. u.journal.is_live ≡ true → IsRecent y s.later u) views seat New (λ _. unread_recent y s.later New refl)
-        (λ other u apart there up. recent_stays x y events h.settled s.later u s.added (settled_same (setup_in x) events h.machine h.settled next s.later s.in_time) (h.recent other u there up));
+        (λ other u apart there up. recent_stays x y events h.settled s.later u s.added (settled_same (setup_in x) (room_after x.table.journal) events h.machine h.settled next s.later s.in_time) (h.recent other u there up));
     began = each_set (λ j u. u.journal.is_live ≡ true → u.begin ≡ h.begin) views seat New (λ _. h.began seat v at live) (λ other u apart there up. h.began other u there up);
     others = others;
   }
 
-  pub holding_keeps : (after : IsYard y later (set views seat New)) × RunsSettled (setup_in x) h.machine h.settled (moves_of events) after.machine after.settled
+  pub holding_keeps : (after : IsYard y later (set views seat New)) × RunsSettled (setup_in x) (room_after x.table.journal) h.machine h.settled (moves_of events) after.machine after.settled
   unfolding held
   holding_keeps = (held, s.in_time)

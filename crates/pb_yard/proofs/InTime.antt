@@ -6,12 +6,13 @@ use Rattle.pb_machine.specs.declared.event.End.{End}
 use Rattle.pb_machine.specs.declared.event.End.TheVariants.{Memory}
 use Rattle.pb_machine.specs.declared.event.Event.{Event}
 use Rattle.pb_machine.specs.declared.event.Event.TheVariants.{Lease, Renew, Hot, Cold, Release, Off, Ended}
+use Rattle.pb_machine.specs.Room.{room_with, room_from}
 use Rattle.pb_machine.specs.Machine.{Setup, Machine, Move, event_move, tell_move, journal_of, Runs}
 use Rattle.pb_machine.specs.Turns.{RunsInOrder}
 use Rattle.pb_lease.specs.Events.{ending}
 use Rattle.pb_lease.specs.Moments.{moves_of}
 use Rattle.pb_lease.specs.Steps.{end_events}
-use Rattle.pb_yard.specs.Order.{GivesWholeIncumbent, settled_after, IsTimely, RunsSettled, RunsInTime}
+use Rattle.pb_yard.specs.Order.{GivesWholeIncumbent, settled_after, IsTimely, room_moved, RunsSettled, RunsInTime}
 use Rattle.pb_yard.specs.Laws.{RunsInTimeAreInOrder}
 
 -- the events of moves that are events
@@ -20,26 +21,28 @@ events_of_moves [] = refl
 events_of_moves (event ∷ events) = ap (λ l. event ∷ l) (events_of_moves events)
 
 module _ (setup : Setup) where
-  settled_is_in_order : (moves : List Move) (old : Machine) (settled : Option ℕ) (new : Machine) (later : Option ℕ) → RunsSettled setup old settled moves new later → RunsInOrder setup old moves new
-  settled_is_in_order [] old settled new later runs = runs.0
-  settled_is_in_order (move ∷ moves) old settled new later runs = (runs.0, runs.1, runs.2, settled_is_in_order moves runs.0 (settled_after move settled runs.0) new later runs.5)
+  settled_is_in_order : (room : ℕ → ℕ) (moves : List Move) (old : Machine) (settled : Option ℕ) (new : Machine) (later : Option ℕ) → RunsSettled setup room old settled moves new later → RunsInOrder setup old moves new
+  settled_is_in_order room [] old settled new later runs = runs.0
+  settled_is_in_order room (move ∷ moves) old settled new later runs = (runs.0, runs.1, runs.2, settled_is_in_order (room_moved room move) moves runs.0 (settled_after move settled runs.0) new later runs.5)
 
-  pub settled_is_run : (moves : List Move) (old : Machine) (settled : Option ℕ) (new : Machine) (later : Option ℕ) → RunsSettled setup old settled moves new later → Runs setup old moves new
-  settled_is_run [] old settled new later runs = runs.0
-  settled_is_run (move ∷ moves) old settled new later runs = (runs.0, runs.1, settled_is_run moves runs.0 (settled_after move settled runs.0) new later runs.5)
+  pub settled_is_run : (room : ℕ → ℕ) (moves : List Move) (old : Machine) (settled : Option ℕ) (new : Machine) (later : Option ℕ) → RunsSettled setup room old settled moves new later → Runs setup old moves new
+  settled_is_run room [] old settled new later runs = runs.0
+  settled_is_run room (move ∷ moves) old settled new later runs = (runs.0, runs.1, settled_is_run (room_moved room move) moves runs.0 (settled_after move settled runs.0) new later runs.5)
 
-  pub settled_on : (moves more : List Move) (old between new : Machine) (first second third : Option ℕ) → RunsSettled setup old first moves between second → RunsSettled setup between second more new third
-      → RunsSettled setup old first (moves ++ more) new third
-  settled_on [] more old between new first second third run rest =
-      subst (λ (q : Machine). RunsSettled setup q first more new third) run.0 (subst (λ o. RunsSettled setup between o more new third) run.1 rest)
-  settled_on (move ∷ moves) more old between new first second third run rest =
-      (run.0, run.1, run.2, run.3, run.4, settled_on moves more run.0 between new (settled_after move first run.0) second third run.5 rest)
+  pub settled_on : (room : ℕ → ℕ) (moves more : List Move) (old between new : Machine) (first second third : Option ℕ) → RunsSettled setup room old first moves between second → RunsSettled setup (room_from room (journal_of moves)) between second more new third
+      → RunsSettled setup room old first (moves ++ more) new third
+  settled_on room [] more old between new first second third run rest =
+      subst (λ (q : Machine). RunsSettled setup room q first more new third) run.0 (subst (λ o. RunsSettled setup room between o more new third) run.1 rest)
+  settled_on room (event_move event ∷ moves) more old between new first second third run rest =
+      (run.0, run.1, run.2, run.3, run.4, settled_on (room_with room event) moves more run.0 between new run.0.store.incumbent second third run.5 rest)
+  settled_on room (tell_move worker cost ∷ moves) more old between new first second third run rest =
+      (run.0, run.1, run.2, run.3, run.4, settled_on room moves more run.0 between new first second third run.5 rest)
 
   -- a run from a lesser incumbent of the last event is one from a greater
-  raised : (moves : List Move) (old : Machine) (settled other : Option ℕ) (new : Machine) (later : Option ℕ) → AtMost settled other → RunsSettled setup old settled moves new later
-      → (then : Option ℕ) × RunsSettled setup old other moves new then
-  raised [] old settled other new later most runs = (other, (runs.0, refl))
-  raised (event_move event ∷ moves) old settled other new later most runs = (later, (runs.0, runs.1, runs.2, gives event runs.0 runs.3, runs.4, runs.5))
+  raised : (room : ℕ → ℕ) (moves : List Move) (old : Machine) (settled other : Option ℕ) (new : Machine) (later : Option ℕ) → AtMost settled other → RunsSettled setup room old settled moves new later
+      → (then : Option ℕ) × RunsSettled setup room old other moves new then
+  raised room [] old settled other new later most runs = (other, (runs.0, refl))
+  raised room (event_move event ∷ moves) old settled other new later most runs = (later, (runs.0, runs.1, runs.2, gives event runs.0 runs.3, runs.4, runs.5))
     where
       gives : (event : Event) (between : Machine) → GivesWholeIncumbent (event_move event) settled between → GivesWholeIncumbent (event_move event) other between
       gives (Lease worker block quota) between h = at_most_trans (between.given worker) settled other h most
@@ -49,36 +52,36 @@ module _ (setup : Setup) where
       gives (Release worker used memory) between h = tt
       gives (Off worker memory) between h = tt
       gives (Ended end) between h = tt
-  raised (tell_move worker cost ∷ moves) old settled other new later most runs =
-      let rest = raised moves runs.0 settled other new later most runs.5 in (rest.0, (runs.0, runs.1, runs.2, tt, runs.4, rest.1))
+  raised room (tell_move worker cost ∷ moves) old settled other new later most runs =
+      let rest = raised room moves runs.0 settled other new later most runs.5 in (rest.0, (runs.0, runs.1, runs.2, tt, runs.4, rest.1))
 
   -- the incumbent falls from that of the last event
-  pub settled_falls : (moves : List Move) (old : Machine) (settled : Option ℕ) (new : Machine) (later : Option ℕ) → AtMost old.store.incumbent settled → RunsSettled setup old settled moves new later
+  pub settled_falls : (room : ℕ → ℕ) (moves : List Move) (old : Machine) (settled : Option ℕ) (new : Machine) (later : Option ℕ) → AtMost old.store.incumbent settled → RunsSettled setup room old settled moves new later
       → AtMost new.store.incumbent later
-  settled_falls [] old settled new later most runs = subst (λ (q : Machine). AtMost q.store.incumbent later) (sym runs.0) (subst (λ o. AtMost old.store.incumbent o) (sym runs.1) most)
-  settled_falls (event_move event ∷ moves) old settled new later most runs = settled_falls moves runs.0 runs.0.store.incumbent new later (at_most_self runs.0.store.incumbent) runs.5
-  settled_falls (tell_move worker cost ∷ moves) old settled new later most runs =
-      settled_falls moves runs.0 settled new later
+  settled_falls room [] old settled new later most runs = subst (λ (q : Machine). AtMost q.store.incumbent later) (sym runs.0) (subst (λ o. AtMost old.store.incumbent o) (sym runs.1) most)
+  settled_falls room (event_move event ∷ moves) old settled new later most runs = settled_falls (room_with room event) moves runs.0 runs.0.store.incumbent new later (at_most_self runs.0.store.incumbent) runs.5
+  settled_falls room (tell_move worker cost ∷ moves) old settled new later most runs =
+      settled_falls room moves runs.0 settled new later
       (subst (λ (s : Store). AtMost s.incumbent settled) (sym runs.1.store) (at_most_trans (lesser old.store.incumbent (Some cost)) old.store.incumbent settled (lesser_at_most old.store.incumbent (Some cost)) most)) runs.5
 
-  pub in_time_is_run : (moves : List Move) (old new : Machine) → RunsInTime setup old moves new → Runs setup old moves new
-  in_time_is_run moves old new runs = settled_is_run moves old old.store.incumbent new runs.0 runs.1
+  pub in_time_is_run : (room : ℕ → ℕ) (moves : List Move) (old new : Machine) → RunsInTime setup room old moves new → Runs setup old moves new
+  in_time_is_run room moves old new runs = settled_is_run room moves old old.store.incumbent new runs.0 runs.1
 
-  pub in_time_on : (moves more : List Move) (old between new : Machine) → RunsInTime setup old moves between → RunsInTime setup between more new → RunsInTime setup old (moves ++ more) new
-  in_time_on moves more old between new first later =
-      let fall = settled_falls moves old old.store.incumbent between first.0 (at_most_self old.store.incumbent) first.1 in
-      let rest = raised more between between.store.incumbent first.0 new later.0 fall later.1 in
-      (rest.0, settled_on moves more old between new old.store.incumbent first.0 rest.0 first.1 rest.1)
+  pub in_time_on : (room : ℕ → ℕ) (moves more : List Move) (old between new : Machine) → RunsInTime setup room old moves between → RunsInTime setup (room_from room (journal_of moves)) between more new → RunsInTime setup room old (moves ++ more) new
+  in_time_on room moves more old between new first later =
+      let fall = settled_falls room moves old old.store.incumbent between first.0 (at_most_self old.store.incumbent) first.1 in
+      let rest = raised (room_from room (journal_of moves)) more between between.store.incumbent first.0 new later.0 fall later.1 in
+      (rest.0, settled_on room moves more old between new old.store.incumbent first.0 rest.0 first.1 rest.1)
 
   -- one event, from any incumbent of the last one
-  pub settled_one : (event : Event) (old : Machine) (settled : Option ℕ) (new : Machine) → GivesWholeIncumbent (event_move event) settled new → IsTimely setup old (event_move event) new
-      → RunsInOrder setup old (event_move event ∷ []) new → RunsSettled setup old settled (event_move event ∷ []) new new.store.incumbent
-  settled_one event old settled new gives timely runs = (
+  pub settled_one : (room : ℕ → ℕ) (event : Event) (old : Machine) (settled : Option ℕ) (new : Machine) → GivesWholeIncumbent (event_move event) settled new → IsTimely setup room old (event_move event) new
+      → RunsInOrder setup old (event_move event ∷ []) new → RunsSettled setup room old settled (event_move event ∷ []) new new.store.incumbent
+  settled_one room event old settled new gives timely runs = (
     runs.0,
     runs.1,
     runs.2,
     subst (λ (m : Machine). GivesWholeIncumbent (event_move event) settled m) runs.3 gives,
-    subst (λ (m : Machine). IsTimely setup old (event_move event) m) runs.3 timely,
+    subst (λ (m : Machine). IsTimely setup room old (event_move event) m) runs.3 timely,
     (runs.3, ap (λ (m : Machine). m.store.incumbent) runs.3),
   )
 
@@ -104,35 +107,48 @@ module _ (setup : Setup) where
   gives_settled (Ended end) old new runs now = tt
 
   -- one event
-  pub in_time_one : (event : Event) (old new : Machine) → GivesNow event new → IsTimely setup old (event_move event) new
-      → RunsInOrder setup old (event_move event ∷ []) new → RunsInTime setup old (event_move event ∷ []) new
-  in_time_one event old new gives timely runs = (new.store.incumbent, settled_one event old old.store.incumbent new (gives_settled event old new runs gives) timely runs)
+  pub in_time_one : (room : ℕ → ℕ) (event : Event) (old new : Machine) → GivesNow event new → IsTimely setup room old (event_move event) new
+      → RunsInOrder setup old (event_move event ∷ []) new → RunsInTime setup room old (event_move event ∷ []) new
+  in_time_one room event old new gives timely runs = (new.store.incumbent, settled_one room event old old.store.incumbent new (gives_settled event old new runs gives) timely runs)
 
 pub runs_in_time_are_in_order : RunsInTimeAreInOrder
-runs_in_time_are_in_order setup moves old new runs = (settled_is_in_order setup moves old old.store.incumbent new runs.0 runs.1, in_time_is_run setup moves old new runs)
+runs_in_time_are_in_order setup room moves old new runs = (settled_is_in_order setup room moves old old.store.incumbent new runs.0 runs.1, in_time_is_run setup room moves old new runs)
 
--- among these events no lease is given, none goes on, and none comes back but for want of memory
+-- among these events no lease is given, none goes on, none comes back but out of memory, and nobody signs off with a report
 abbrev pub GrantsNone : List Event → Type 0
 GrantsNone [] = Unit {0}
 GrantsNone (Lease worker block quota ∷ events) = ⊥
 GrantsNone (Renew worker used quota ∷ events) = ⊥
 GrantsNone (Release worker used false ∷ events) = ⊥
+GrantsNone (Off worker true ∷ events) = ⊥
 GrantsNone (event ∷ events) = GrantsNone events
 
-pub settled_events : (setup : Setup) (events : List Event) (old : Machine) (settled : Option ℕ) (new : Machine) → GrantsNone events → RunsInOrder setup old (moves_of events) new
-    → (later : Option ℕ) × RunsSettled setup old settled (moves_of events) new later
-settled_events setup [] old settled new none runs = (settled, (runs, refl))
-settled_events setup (Lease worker block quota ∷ events) old settled new none runs = absurd none
-settled_events setup (Renew worker used quota ∷ events) old settled new none runs = absurd none
-settled_events setup (Hot worker block ∷ events) old settled new none runs = let rest = settled_events setup events runs.0 runs.0.store.incumbent new none runs.3 in (rest.0, (runs.0, runs.1, runs.2, tt, tt, rest.1))
-settled_events setup (Cold worker block ∷ events) old settled new none runs = let rest = settled_events setup events runs.0 runs.0.store.incumbent new none runs.3 in (rest.0, (runs.0, runs.1, runs.2, tt, tt, rest.1))
-settled_events setup (Release worker used false ∷ events) old settled new none runs = absurd none
-settled_events setup (Release worker used true ∷ events) old settled new none runs = let rest = settled_events setup events runs.0 runs.0.store.incumbent new none runs.3 in (rest.0, (runs.0, runs.1, runs.2, tt, tt, rest.1))
-settled_events setup (Off worker memory ∷ events) old settled new none runs = let rest = settled_events setup events runs.0 runs.0.store.incumbent new none runs.3 in (rest.0, (runs.0, runs.1, runs.2, tt, tt, rest.1))
-settled_events setup (Ended end ∷ events) old settled new none runs = let rest = settled_events setup events runs.0 runs.0.store.incumbent new none runs.3 in (rest.0, (runs.0, runs.1, runs.2, tt, tt, rest.1))
+pub settled_events : (setup : Setup) (room : ℕ → ℕ) (events : List Event) (old : Machine) (settled : Option ℕ) (new : Machine) → GrantsNone events → RunsInOrder setup old (moves_of events) new
+    → (later : Option ℕ) × RunsSettled setup room old settled (moves_of events) new later
+settled_events setup room [] old settled new none runs = (settled, (runs, refl))
+settled_events setup room (Lease worker block quota ∷ events) old settled new none runs = absurd none
+settled_events setup room (Renew worker used quota ∷ events) old settled new none runs = absurd none
+settled_events setup room (Hot worker block ∷ events) old settled new none runs =
+    let rest = settled_events setup (room_with room (Hot worker block)) events runs.0 runs.0.store.incumbent new none runs.3 in (rest.0, (runs.0, runs.1, runs.2, tt, tt, rest.1))
+settled_events setup room (Cold worker block ∷ events) old settled new none runs =
+    let rest = settled_events setup (room_with room (Cold worker block)) events runs.0 runs.0.store.incumbent new none runs.3 in (rest.0, (runs.0, runs.1, runs.2, tt, tt, rest.1))
+settled_events setup room (Release worker used false ∷ events) old settled new none runs = absurd none
+settled_events setup room (Release worker used true ∷ events) old settled new none runs =
+    let rest = settled_events setup (room_with room (Release worker used true)) events runs.0 runs.0.store.incumbent new none runs.3 in (rest.0, (runs.0, runs.1, runs.2, tt, tt, rest.1))
+settled_events setup room (Off worker true ∷ events) old settled new none runs = absurd none
+settled_events setup room (Off worker false ∷ events) old settled new none runs =
+    let rest = settled_events setup room events runs.0 runs.0.store.incumbent new none runs.3 in (rest.0, (runs.0, runs.1, runs.2, tt, tt, rest.1))
+settled_events setup room (Ended end ∷ events) old settled new none runs =
+    let rest = settled_events setup room events runs.0 runs.0.store.incumbent new none runs.3 in (rest.0, (runs.0, runs.1, runs.2, tt, tt, rest.1))
 
-pub in_time_events : (setup : Setup) (events : List Event) (old new : Machine) → GrantsNone events → RunsInOrder setup old (moves_of events) new → RunsInTime setup old (moves_of events) new
-in_time_events setup events old new none runs = settled_events setup events old old.store.incumbent new none runs
+pub in_time_events : (setup : Setup) (room : ℕ → ℕ) (events : List Event) (old new : Machine) → GrantsNone events → RunsInOrder setup old (moves_of events) new → RunsInTime setup room old (moves_of events) new
+in_time_events setup room events old new none runs = settled_events setup room events old old.store.incumbent new none runs
+
+-- the same for a sign-off with a report before any end, and what follows from it
+pub settled_report : (setup : Setup) (room : ℕ → ℕ) (worker : ℕ) (events : List Event) (old : Machine) (settled : Option ℕ) (new : Machine) → old.counts.end ≡ None → GrantsNone events
+    → RunsInOrder setup old (moves_of (Off worker true ∷ events)) new → (later : Option ℕ) × RunsSettled setup room old settled (moves_of (Off worker true ∷ events)) new later
+settled_report setup room worker events old settled new free none runs =
+    let rest = settled_events setup room events runs.0 runs.0.store.incumbent new none runs.3 in (rest.0, (runs.0, runs.1, runs.2, tt, free, rest.1))
 
 pub ending_grants_none : (memory : Bool) (end : Option End) → GrantsNone (ending memory end)
 ending_grants_none memory end = go (memory && is_none end)
@@ -146,9 +162,9 @@ end_grants_none None end = tt
 end_grants_none (Some standing) end = tt
 
 -- without an event the incumbent of the last one stays
-pub settled_same : (setup : Setup) (events : List Event) (old : Machine) (settled : Option ℕ) (new : Machine) (later : Option ℕ) → RunsSettled setup old settled (moves_of events) new later → events ≡ [] → later ≡ settled
-settled_same setup [] old settled new later runs none = runs.1
-settled_same setup (event ∷ events) old settled new later runs none = absurd (cons_nil event events none)
+pub settled_same : (setup : Setup) (room : ℕ → ℕ) (events : List Event) (old : Machine) (settled : Option ℕ) (new : Machine) (later : Option ℕ) → RunsSettled setup room old settled (moves_of events) new later → events ≡ [] → later ≡ settled
+settled_same setup room [] old settled new later runs none = runs.1
+settled_same setup room (event ∷ events) old settled new later runs none = absurd (cons_nil event events none)
   where
     cons_nil : (event : Event) (events : List Event) → event ∷ events ≡ [] → ⊥
     cons_nil event events e = cc

@@ -1,6 +1,8 @@
 pub mod Callers
 mod Parts
 mod InTime
+mod Reports
+mod Marking
 mod Covered
 mod Few
 mod Causes

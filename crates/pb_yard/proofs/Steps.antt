@@ -1,5 +1,5 @@
 -- What each call of a graph does is a step of the rule.
-use Rattle.std.proofs.Common.{◌≡◌, ℕ, ◌==◌, inl, inr, length, Bool, true, false, cond, List, [], ◌∷◌, ◌++◌, Option, Some, None, refl, sym, ap, ◌∙◌, subst}
+use Rattle.std.proofs.Common.{◌≡◌, ℕ, ◌==◌, ◌⊎◌, inl, inr, length, Bool, true, false, cond, List, [], ◌∷◌, ◌++◌, Option, Some, None, refl, sym, ap, ◌∙◌, subst}
 use Rattle.std.proofs.lemmas.Option.{none-some, same_Some}
 use mathlib.Core.Option.{some}
 use lib.ListN.{get_elem?}
@@ -9,10 +9,11 @@ use Rattle.pb_task.specs.declared.parts.TaskParts.{TaskParts}
 use Rattle.pb_task.specs.Parts.{space_of}
 use Rattle.pb_machine.specs.declared.event.End.{End}
 use Rattle.pb_machine.specs.declared.event.Event.{Event}
-use Rattle.pb_machine.specs.declared.event.Event.TheVariants.{Lease, Renew, Release}
+use Rattle.pb_machine.specs.declared.event.Event.TheVariants.{Lease, Renew, Release, Off}
 use Rattle.pb_machine.specs.Tables.{with_entry, one_if}
 use Rattle.pb_machine.specs.Counts.{Counts, counts_after}
 use Rattle.pb_machine.specs.History.{is_event_of, events_of}
+use Rattle.pb_machine.specs.Room.{room_after}
 use Rattle.pb_machine.specs.Views.{AreBy}
 use Rattle.pb_machine.specs.Machine.{Machine, IsWorked, KeepsRows}
 use Rattle.pb_machine.specs.Turns.{AreLeaseTurns, RunsInOrder}
@@ -21,7 +22,7 @@ use Rattle.pb_abstract.specs.Graph.{AbstractGraph}
 use Rattle.pb_bundles.specs.Parts.{away_rows}
 use Rattle.pb_bundles.specs.Moves.{NotesKeys}
 use Rattle.pb_estimate.specs.declared.choice.Choice.{Choice}
-use Rattle.pb_lease.specs.Tables.{blocks}
+use Rattle.pb_lease.specs.Tables.{blocks, rooms}
 use Rattle.pb_lease.specs.Events.{Adds, ending}
 use Rattle.pb_lease.specs.LeaseValue.{LeaseValue, leased_store}
 use Rattle.pb_lease.specs.Leased.{guide_of, grant_of, IsOutInTurns}
@@ -31,10 +32,11 @@ use Rattle.pb_lease.specs.Steps.{IsLeased, LeasesNext, end_events, KeepsLeases, 
 use Rattle.pb_lease.proofs.Callers.{ending_leases, worked_leases_are_out, same_places}
 use Rattle.pb_yard.specs.declared.view.View.{View}
 use Rattle.pb_yard.specs.Order.{HasCause, RunsSettled}
+use Rattle.pb_yard.specs.Replies.{reported}
 use Rattle.pb_yard.specs.Rule.{rows_of, grant_in, was_read, IsLent, IsViewOf, IsYard}
 use Rattle.pb_yard.specs.Returning.{IsBrought}
-use Rattle.pb_yard.proofs.InTime.{GrantsNone, ending_grants_none, settled_one, settled_events}
-use Rattle.pb_yard.proofs.Causes.{none_left, still_first}
+use Rattle.pb_yard.proofs.InTime.{GrantsNone, ending_grants_none, settled_one, settled_events, settled_report}
+use Rattle.pb_yard.proofs.Causes.{none_left, still_first, cannot_go_on}
 use Rattle.pb_yard.proofs.Parts.{GoesOnAs, still_of_graph}
 use Rattle.pb_yard.proofs.Meaning.{known_above}
 use Rattle.pb_yard.proofs.Holding.{IsStep}
@@ -70,6 +72,35 @@ same_adds x y events adds task choice = record { task = task; abstraction = adds
 pub same_rest : (x y : GraphValue) (events : List Event) → Adds x.table y.table events → y ≡ record x { table = y.table } → GoesOnAs x y
 same_rest x y events adds rest = same_adds x y events adds (ap (λ (g : GraphValue). g.task) rest) (ap (λ (g : GraphValue). g.choice) rest)
 
+-- from any machine with the graph's counts, a run by these events is one in time
+abbrev pub AreTimely : GraphValue → List Event → Type 0
+AreTimely x events = (machine : Machine) (settled : Option ℕ) (next : Machine) → machine.counts ≡ counts_in x → RunsInOrder (setup_in x) machine (moves_of events) next
+    → (later : Option ℕ) × RunsSettled (setup_in x) (room_after x.table.journal) machine settled (moves_of events) next later
+
+pub plain_timely : (x : GraphValue) (events : List Event) → GrantsNone events → AreTimely x events
+plain_timely x events none machine settled next counts runs = settled_events (setup_in x) (room_after x.table.journal) events machine settled next none runs
+
+-- a sign-off has a report only if no end stands
+pub off_timely : (x : GraphValue) (worker : ℕ) (report : Bool) → (report ≡ true → x.table.end ≡ None) → AreTimely x (Off worker report ∷ ending report x.table.end)
+off_timely x worker false none = plain_timely x (Off worker false ∷ ending false x.table.end) (ending_grants_none false x.table.end)
+off_timely x worker true none = λ machine settled next counts runs.
+    settled_report (setup_in x) (room_after x.table.journal) worker (ending true x.table.end) machine settled next (ap (λ (c : Counts). c.end) counts ∙ none refl) (ending_grants_none true x.table.end) runs
+
+pub report_free : (memory : Bool) (end : Option End) → reported memory end ≡ true → end ≡ None
+report_free true None e = refl
+report_free true (Some end) e = absurd cc
+report_free false end e = absurd cc
+
+-- Why a lease comes back: its worker is out of memory, no row of its block is Opened, or its quota is used up and it can't go on.
+abbrev pub MayReturn : (x y : GraphValue) → LeaseValue → (memory : Bool) → Type 0
+MayReturn x y lease true = Unit {0}
+MayReturn x y lease false = HasCause lease false
+    ⊎ ((lease.used ≡ lease.quota) × (length x.homes.keys ≡ (blocks x.table).count) × (rooms x.table ≡ room_after x.table.journal) × (GoesOn x lease y → ⊥))
+
+pub may_cause : (x y : GraphValue) (lease : LeaseValue) (memory : Bool) → HasCause lease memory → MayReturn x y lease memory
+may_cause x y lease true cause = tt
+may_cause x y lease false none = inl none
+
 -- ---- a step from a yard
 
 module _ (x y : GraphValue) (shared : Option ℕ) (views : List View) (seat : ℕ) (v : View) (h : IsYard x shared views) (at : get_elem? views seat ≡ some v) (live : v.journal.is_live ≡ true) where
@@ -87,14 +118,14 @@ module _ (x y : GraphValue) (shared : Option ℕ) (views : List View) (seat : �
   Steps events lent told incumbent = (next : Machine) × IsStep x y h.machine next h.settled v.last Own events h.lent lent told × (next.store.incumbent ≡ incumbent)
 
   -- what leaves all leases as they are
-  pub keeps_step : (events : List Event) → GrantsNone events → KeepsLeases x events y → GoesOnAs x y → y.table.journal ≡ x.table.journal ++ events → AreBy Own events → Steps events v.lent v.told shared
-  keeps_step events none keeps same added by = (
+  pub keeps_step : (events : List Event) → AreTimely x events → KeepsLeases x events y → GoesOnAs x y → y.table.journal ≡ x.table.journal ++ events → AreBy Own events → Steps events v.lent v.told shared
+  keeps_step events timely keeps same added by = (
     next,
     record {
       recorded = Recorded;
       follows = k.1;
-      later = (settled_events (setup_in x) events h.machine h.settled next none k.4).0;
-      in_time = (settled_events (setup_in x) events h.machine h.settled next none k.4).1;
+      later = (timely h.machine h.settled next h.moment.counts k.4).0;
+      in_time = (timely h.machine h.settled next h.moment.counts k.4).1;
       same = same;
       added = added;
       by = by;
@@ -162,7 +193,7 @@ module _ (x y : GraphValue) (shared : Option ℕ) (views : List View) (seat : �
         recorded = with_entry Recorded Own (away_rows lease.parts);
         follows = t.1;
         later = t.0.store.incumbent;
-        in_time = settled_one (setup_in x) (Lease Own lease.block lease.quota) h.machine h.settled t.0 gives_whole tt t.6;
+        in_time = settled_one (setup_in x) (room_after x.table.journal) (Lease Own lease.block lease.quota) h.machine h.settled t.0 gives_whole tt t.6;
         same = same_adds x y (Lease Own lease.block lease.quota ∷ []) l.events l.task l.choice;
         added = l.events.journal;
         by = first_by Own (Lease Own lease.block lease.quota) [] (λ other. refl) (λ other else. refl);
@@ -234,21 +265,25 @@ module _ (x y : GraphValue) (shared : Option ℕ) (views : List View) (seat : �
       };
     }
 
-  module _ (lease : LeaseValue) (memory : Bool) (cause : HasCause lease memory) (b : IsBrought v (one_if memory) lease) (is_last : x.incumbent ≡ v.last) (r : IsReleased x lease memory y) (n : ReleasesNext x lease memory y) where
+  module _ (lease : LeaseValue) (memory : Bool) (cause : MayReturn x y lease memory) (b : IsBrought v (one_if memory) lease) (is_last : x.incumbent ≡ v.last) (r : IsReleased x lease memory y) (n : ReleasesNext x lease memory y) where
     abbrev Returns : Bool → Machine → Type 0
     Returns memory next = RunsInOrder (setup_in x) h.machine (moves_of (Release lease.worker lease.used memory ∷ ending memory x.table.end)) next
-        → (later : Option ℕ) × RunsSettled (setup_in x) h.machine h.settled (moves_of (Release lease.worker lease.used memory ∷ ending memory x.table.end)) next later
+        → (later : Option ℕ) × RunsSettled (setup_in x) (room_after x.table.journal) h.machine h.settled (moves_of (Release lease.worker lease.used memory ∷ ending memory x.table.end)) next later
 
     returns_in_time : (next : Machine) → IsMomentAt y Recorded next → Returns memory next
     returns_in_time next m = go memory cause (r.noted) (out (one_if memory) lease b).0.leased
       where
-        go : (memory : Bool) → HasCause lease memory → NotesKeys lease.parts x.homes.keys y.homes.keys → h.machine.counts.leases lease.worker ≡ Some (grant_of lease) → Returns memory next
-        go true why noted leased runs = settled_events (setup_in x) (Release lease.worker lease.used true ∷ ending true x.table.end) h.machine h.settled next (ending_grants_none true x.table.end) runs
-        go false (inl spent) noted leased runs = (next.store.incumbent, settled_one (setup_in x) (Release lease.worker lease.used false) h.machine h.settled next tt (grant_of lease, leased, inl spent) runs)
-        go false (inr none) noted leased runs = (
+        go : (memory : Bool) → MayReturn x y lease memory → NotesKeys lease.parts x.homes.keys y.homes.keys → h.machine.counts.leases lease.worker ≡ Some (grant_of lease) → Returns memory next
+        go true why noted leased runs = settled_events (setup_in x) (room_after x.table.journal) (Release lease.worker lease.used true ∷ ending true x.table.end) h.machine h.settled next (ending_grants_none true x.table.end) runs
+        go false (inr why) noted leased runs = (
           next.store.incumbent,
-          settled_one (setup_in x) (Release lease.worker lease.used false) h.machine h.settled next tt
-              (grant_of lease, leased, inr (none_left x lease y noted h.is_setup (brought_of_graph (one_if memory) lease b) Recorded h.machine h.moment none Recorded next m)) runs,
+          settled_one (setup_in x) (room_after x.table.journal) (Release lease.worker lease.used false) h.machine h.settled next tt
+              (grant_of lease, leased, inr (why.0, cannot_go_on x lease y noted why.1 why.2 Recorded Recorded h.machine next h.moment m why.3)) runs,
+        )
+        go false (inl none) noted leased runs = (
+          next.store.incumbent,
+          settled_one (setup_in x) (room_after x.table.journal) (Release lease.worker lease.used false) h.machine h.settled next tt
+              (grant_of lease, leased, inl (none_left x lease y noted h.is_setup (brought_of_graph (one_if memory) lease b) Recorded h.machine h.moment none Recorded next m)) runs,
         )
 
     pub release_step : Steps (Release lease.worker lease.used memory ∷ ending memory x.table.end) None None shared
@@ -298,7 +333,7 @@ module _ (x y : GraphValue) (shared : Option ℕ) (views : List View) (seat : �
             recorded = with_entry Recorded lease.worker (away_rows kept.parts);
             follows = t.1;
             later = t.0.store.incumbent;
-            in_time = settled_one (setup_in x) (Renew lease.worker lease.used kept.quota) h.machine h.settled t.0 whole
+            in_time = settled_one (setup_in x) (room_after x.table.journal) (Renew lease.worker lease.used kept.quota) h.machine h.settled t.0 whole
                 (grant_of lease, (out 0 lease b).0.leased, spent, still_first x lease y r.noted places Recorded after h.machine t.0 h.moment t.1.moment goes.0) (t.6 (out 0 lease b).1);
             same = record { task = r.task; abstraction = r.events.abstraction; choice = r.choice; settings = r.events.settings; past = r.events.past };
             added = same;

@@ -20,7 +20,7 @@ use Rattle.pb_lease.specs.GraphValue.{GraphValue, counts_in}
 use Rattle.pb_lease.specs.Choices.{IsOver}
 use Rattle.pb_lease.specs.Steps.{IsEnded, end_events}
 use Rattle.pb_yard.specs.declared.view.View.{View}
-use Rattle.pb_yard.specs.Replies.{lease_events, lent_by, told_by, renewal_events}
+use Rattle.pb_yard.specs.Replies.{reported, lease_events, lent_by, told_by, renewal_events}
 use Rattle.pb_yard.specs.Returning.{IsBrought}
 use Rattle.pb_yard.specs.Calls.{Holds, Leases, Releases, SignsOff, GivesAndLeases, HasRead, IsActive, IsReady, KeepsWorkers}
 use Rattle.pb_yard.specs.Laws.{LentLeasesMayComeBack, EndsAreSeen, ActiveStay, SigningOffIsSeen}
@@ -107,8 +107,8 @@ active_stay journal added lent told old new is none active =
 
 pub signing_off_is_seen : SigningOffIsSeen
 signing_off_is_seen worker memory old new is h =
-    off_then _ (λ found. Off worker memory ∷ ending memory found.table.end) old new old.lent old.told h
-    ∙ ap (λ r. list_any is_off old.journal.own.events || list_any is_off (cond r (Off worker memory ∷ events_of old.journal.own.worker (ending memory h.found.table.end)) (events_of old.journal.own.worker (ending memory h.found.table.end))))
+    off_then _ (λ found. Off worker (reported memory found.table.end) ∷ ending (reported memory found.table.end) found.table.end) old new old.lent old.told h
+    ∙ ap (λ r. list_any is_off old.journal.own.events || list_any is_off (cond r (Off worker (reported memory h.found.table.end) ∷ events_of old.journal.own.worker (ending (reported memory h.found.table.end) h.found.table.end)) (events_of old.journal.own.worker (ending (reported memory h.found.table.end) h.found.table.end))))
     (ap (λ k. worker == k) is ∙ equal_self worker)
     ∙ or-true (list_any is_off old.journal.own.events)
 

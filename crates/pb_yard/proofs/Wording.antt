@@ -23,6 +23,7 @@ use Rattle.pb_lease.specs.LeaseValue.{LeaseValue, leased_store}
 use Rattle.pb_lease.specs.Leased.{guide_of, grant_of, IsOut}
 use Rattle.pb_lease.specs.GraphValue.{GraphValue, setup_in}
 use Rattle.pb_lease.specs.Moments.{IsMomentAt}
+use Rattle.pb_machine.specs.Room.{no_room}
 use Rattle.pb_lease.specs.Begins.{begin_machine}
 use Rattle.pb_lease.proofs.Callers.{worked_leases_are_out}
 use Rattle.pb_yard.specs.declared.view.View.{View}
@@ -75,7 +76,7 @@ module _ (seat : ℕ) (v : View) (held : Option GraphValue) (live : v.journal.is
 
   number_settled : AtMost (cost_of number) h.settled
   number_settled = subst (λ o. AtMost o h.settled) h.shared_is
-      (settled_falls (setup_in x) h.moves (begin_machine h.begin) h.begin.incumbent h.machine h.settled (at_most_self h.begin.incumbent) h.run)
+      (settled_falls (setup_in x) no_room h.moves (begin_machine h.begin) h.begin.incumbent h.machine h.settled (at_most_self h.begin.incumbent) h.run)
 
   read_recent : (o : Option GraphValue) → IsHeld o x → IsRecent x h.settled (view_read o v (cost_of number))
   read_recent None is = unread_recent x h.settled (view_read None v (cost_of number)) refl
@@ -266,7 +267,7 @@ module _ (seat : ℕ) (v : View) (lease : LeaseValue) (cost : ℕ) (live : v.jou
     machine = Next;
     lent = h.lent;
     settled = h.settled;
-    run = settled_on (setup_in x) h.moves (tell_move Own cost ∷ []) (begin_machine h.begin) h.machine Next h.begin.incumbent h.settled h.settled h.run (Next, tells, tt, tt, tt, (refl, refl));
+    run = settled_on (setup_in x) no_room h.moves (tell_move Own cost ∷ []) (begin_machine h.begin) h.machine Next h.begin.incumbent h.settled h.settled h.run (Next, tells, tt, tt, tt, (refl, refl));
     journal = (runs_go_on (setup_in x) h.moves (tell_move Own cost ∷ []) (begin_machine h.begin) h.machine Next).2 ∙ append-nil (journal_of h.moves) ∙ h.journal;
     moment = moment;
     shared_is = ap (λ o. lesser o (Some cost)) h.shared_is ∙ sym (cost_of_min number cost fits);

@@ -1,13 +1,14 @@
 -- What the calls of a yard report.
-use Rattle.std.specs.Prelude.{◌≡◌, ◌≤◌, ℕ, Bool, IsTrue, IsFalse, List, [], ◌∷◌, ◌++◌, Option, Some, None}
+use Rattle.std.specs.Prelude.{◌≡◌, ◌≤◌, ◌⊎◌, ℕ, Bool, IsTrue, IsFalse, List, [], ◌∷◌, ◌++◌, Option, Some, None}
 use Rattle.std.specs.List.{list_any, AllByRecursion}
 use Rattle.pb_model.specs.Plan.{Plan, IsPlan}
-use Rattle.pb_model.specs.Store.{Rows, AtMost}
+use Rattle.pb_model.specs.Store.{Rows, AtMost, lesser}
 use Rattle.pb_task.specs.Parts.{space_of}
 use Rattle.pb_machine.specs.declared.event.Event.{Event}
 use Rattle.pb_machine.specs.declared.event.Event.TheVariants.{Hot, Cold}
-use Rattle.pb_machine.specs.History.{StartsWith, is_off, AreFinished, IsHistory}
-use Rattle.pb_machine.specs.Views.{IsShareOf}
+use Rattle.pb_machine.specs.History.{StartsWith, is_off, events_of, AreFinished, IsHistory}
+use Rattle.pb_machine.specs.Views.{IsShareOf, HasWorker}
+use Rattle.pb_machine.specs.Room.{no_room, room_after}
 use Rattle.pb_machine.specs.Machine.{Machine, Move, journal_of}
 use Rattle.pb_lease.specs.declared.answer.LeaseReply.{LeaseReply}
 use Rattle.pb_lease.specs.declared.answer.Renewed.{Renewed}
@@ -17,18 +18,25 @@ use Rattle.pb_lease.specs.LeaseValue.{LeaseValue}
 use Rattle.pb_lease.specs.GraphValue.{GraphValue, setup_in, counts_in}
 use Rattle.pb_lease.specs.Choices.{is_out_in}
 use Rattle.pb_lease.specs.Moments.{IsMoment, moves_of}
-use Rattle.pb_lease.specs.Begins.{begin_machine, IsOfRun}
+use Rattle.pb_lease.specs.Begins.{begin_machine, IsBegin, IsOfRun}
 use Rattle.pb_yard.specs.declared.view.View.{View}
-use Rattle.pb_yard.specs.Views.{view_read, view_then}
+use Rattle.pb_yard.specs.Views.{view_read, view_told, view_then}
 use Rattle.pb_yard.specs.Order.{RunsSettled, RunsInTime}
 use Rattle.pb_yard.specs.Rule.{IsAt, IsSearchOf}
 use Rattle.pb_yard.specs.Replies.{LeasesAs, lease_events, lent_by, told_by, RenewsAs, renewal_events, kept_by, ReleasesAs, release_events, RivalsAs, MarksAs, CoolsAs, mark_events, SignsOffAs, off_events}
 
--- ---- a reading
+-- ---- the shared incumbent
 
 -- some plan of what is searched costs at most this
 abbrev pub HasPlanWithin : View → (cost : ℕ) → Type 0
 HasPlanWithin view cost = (plan : Plan) × IsPlan (space_of view.task) plan × (plan.cost ≤ cost)
+
+-- The pass told this cost at one step, at which the yard had some graph: the shared incumbent became
+-- the lesser of the two, and the graph stayed.
+abbrev pub LowersIncumbent : View → (cost : ℕ) → Type 0
+LowersIncumbent old cost =
+    (g : GraphValue) × (before : IsAt g old) × (after : IsAt g (view_told old cost))
+    × (after.shared ≡ lesser before.shared (Some cost))
 
 -- ---- a call that holds the graph
 
@@ -47,8 +55,8 @@ pub record Holds (step : (found left : GraphValue) → Type 0)
   pub seen : StartsWith found.table.journal old.journal.seen
   pub step_is : step found left
   pub added : left.table.journal ≡ found.table.journal ++ events found
-  pub moves : RunsSettled (setup_in found) before.yard.machine before.yard.settled
-      (moves_of (events found)) after.yard.machine after.yard.settled
+  pub moves : RunsSettled (setup_in found) (room_after found.table.journal) before.yard.machine
+      before.yard.settled (moves_of (events found)) after.yard.machine after.yard.settled
   pub view : new ≡ view_then found.table.journal (events found) lent told old
 
 -- The pass first read the incumbent, under the turn: what it read is at most what it had read or
@@ -145,23 +153,26 @@ pub record AllSignedOff (view : View) : Type 0 where
   pub off : AllByRecursion (λ share. IsTrue (list_any is_off share.events))
       (view.journal.own ∷ view.journal.taken_in)
 
--- The graph is of the search that the yard began with. Its journal is what the pass has seen, and
+-- The graph is of the search that the yard began with, where a run begins. Its journal is what the pass has seen, and
 -- is a finished history: it has an end, and every worker has signed off. Each worker's events in it
--- are those that the pass has of it. No lease is out. Moves from the machine that a run begins with,
+-- are those that the pass has of it, and no other worker has any. No lease is out. Moves from the machine that a run begins with,
 -- at the graph that the yard began with, lead to the graph's moment of the lease machine. They are
 -- in order and in time, and their events are the journal.
 pub record IsClosed (view : View) (g : GraphValue) : Type 0 where
   pub search : IsSearchOf g view
   pub of_run : IsOfRun view.begin g
+  pub begins : IsBegin view.begin
   pub seen : view.journal.seen ≡ g.table.journal
   pub shares : AllByRecursion (IsShareOf g.table.journal view.journal.seen)
       (view.journal.own ∷ view.journal.taken_in)
+  pub every : (worker : ℕ) → HasWorker worker view.journal
+      ⊎ (events_of worker g.table.journal ≡ [])
   pub history : IsHistory (blocks g.table) g.table.settings g.table.past.spent g.table.journal
       (counts_in g)
   pub finished : AreFinished g.table.settings (counts_in g)
   pub home : IsFalse (is_out_in g)
   pub moves : List Move
   pub machine : Machine
-  pub run : RunsInTime (setup_in g) (begin_machine view.begin) moves machine
+  pub run : RunsInTime (setup_in g) no_room (begin_machine view.begin) moves machine
   pub journal : journal_of moves ≡ g.table.journal
   pub moment : (recorded : (worker : ℕ) → Rows) → IsMoment g recorded machine

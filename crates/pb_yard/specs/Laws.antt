@@ -3,11 +3,12 @@
 use Rattle.std.specs.Prelude.{◌≡◌, ℕ, ◌==◌, Bool, IsTrue, IsFalse, List, Option, Some, None}
 use Rattle.std.specs.List.{list_any}
 use Rattle.pb_machine.specs.declared.event.End.{End}
+use Rattle.pb_machine.specs.declared.event.End.TheVariants.{Memory}
 use Rattle.pb_machine.specs.declared.event.Event.{Event}
 use Rattle.pb_machine.specs.Blocks.{interferes}
-use Rattle.pb_machine.specs.History.{IsHistory, StartsWith, is_off, end_in}
+use Rattle.pb_machine.specs.History.{IsHistory, StartsWith, is_off, is_report, end_in}
 use Rattle.pb_machine.specs.Views.{IsShareOf}
-use Rattle.pb_machine.specs.Machine.{Setup, Machine, lent_store, Move, Runs}
+use Rattle.pb_machine.specs.Machine.{Setup, IsSetup, Machine, lent_store, Move, journal_of, Runs}
 use Rattle.pb_machine.specs.Turns.{RunsInOrder}
 use Rattle.pb_machine.specs.Lawful.{IsLawful}
 use Rattle.pb_lease.specs.declared.answer.LeaseReply.TheVariants.{Over}
@@ -84,5 +85,16 @@ SigningOffIsSeen =
 -- A run in order and in time is one in order, and so a run.
 abbrev pub RunsInTimeAreInOrder : Type 0
 RunsInTimeAreInOrder =
-    (setup : Setup) (moves : List Move) (old new : Machine) → RunsInTime setup old moves new
+    (setup : Setup) (room : ℕ → ℕ) (moves : List Move) (old new : Machine)
+    → RunsInTime setup room old moves new
     → RunsInOrder setup old moves new × Runs setup old moves new
+
+-- If a run in order and in time comes to an end other than by running out of memory, none of its
+-- events reports that. No end stands before it.
+abbrev pub OtherEndsHaveNoReport : Type 0
+OtherEndsHaveNoReport =
+    (setup : Setup) (greatest_cost : ℕ) (room : ℕ → ℕ) (moves : List Move) (old new : Machine)
+    → IsSetup setup greatest_cost → IsLawful setup old → old.counts.end ≡ None
+    → RunsInTime setup room old moves new
+    → (end : End) → new.counts.end ≡ Some end → (end ≡ Memory → ⊥)
+    → IsFalse (list_any is_report (journal_of moves))

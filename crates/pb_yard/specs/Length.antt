@@ -6,7 +6,7 @@ use Rattle.pb_machine.specs.Settings.{AreInRange}
 use Rattle.pb_machine.specs.Tables.{count_below}
 use Rattle.pb_machine.specs.Counts.{Counts}
 use Rattle.pb_machine.specs.History.{AreFinished}
-use Rattle.pb_machine.specs.Room.{leases_in, KeepsWithinRoom}
+use Rattle.pb_machine.specs.Room.{leases_in, no_room, KeepsWithinRoom}
 use Rattle.pb_machine.specs.Machine.{Setup, IsSetup, Machine, opening_machine, Move, journal_of}
 use Rattle.pb_machine.specs.Lawful.{broken_leases}
 use Rattle.pb_yard.specs.Order.{RunsInTime}
@@ -34,7 +34,7 @@ abbrev pub LeasesAreFew : Type 0
 LeasesAreFew =
     (setup : Setup) (greatest_cost : ℕ) (moves : List Move) (machine : Machine)
     → IsSetup setup greatest_cost → setup.reopenings ≡ 0
-    → RunsInTime setup (opening_machine setup) moves machine
+    → RunsInTime setup no_room (opening_machine setup) moves machine
     → (leases_in (journal_of moves) ≤ most_leases setup.space.actions machine.counts.spent
     (broken_leases setup machine) (leases_out setup.settings.workers machine.counts))
     × (AreFinished setup.settings machine.counts → (machine.counts.end ≡ Some Memory → ⊥)
@@ -45,7 +45,7 @@ abbrev pub RunsAreShort : Type 0
 RunsAreShort =
     (setup : Setup) (greatest_cost : ℕ) (moves : List Move) (machine : Machine)
     → IsSetup setup greatest_cost → setup.reopenings ≡ 0
-    → AreInRange setup.settings → RunsInTime setup (opening_machine setup) moves machine
+    → AreInRange setup.settings → RunsInTime setup no_room (opening_machine setup) moves machine
     → KeepsWithinRoom (journal_of moves)
     → AreFinished setup.settings machine.counts → (machine.counts.end ≡ Some Memory → ⊥)
     → length (journal_of moves) ≤ most_events setup.space.actions machine.counts.spent

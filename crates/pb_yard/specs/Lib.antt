@@ -6,6 +6,7 @@ pub use Rattle.pb_machine.specs.Tables
 pub use Rattle.pb_model.specs.Store
 pub mod Views
 pub mod Order
+pub mod Marking
 pub mod Rule
 pub mod Replies
 pub mod Returning

@@ -1,20 +1,25 @@
 -- The order of a search by leases, whatever the number of its workers.
-use Rattle.std.specs.Prelude.{◌≡◌, ◌⊎◌, ℕ, Bool, true, false, List, [], ◌∷◌, Option, Some, ⊤}
+use Rattle.std.specs.Prelude.{◌≡◌, ◌⊎◌, ℕ, Bool, true, false, List, [], ◌∷◌, Option, Some, None, ⊤}
 use Rattle.pb_model.specs.Store.{HasOpened, AtMost}
-use Rattle.pb_machine.specs.declared.event.Event.TheVariants.{Lease, Renew, Release}
+use Rattle.pb_machine.specs.declared.event.Event.TheVariants.{Lease, Renew, Release, Off}
 use Rattle.pb_machine.specs.declared.event.Grant.{Grant}
 use Rattle.pb_machine.specs.Choice.{IsFirstChoice, counts_with_lease_home}
+use Rattle.pb_machine.specs.Room.{room_with}
 use Rattle.pb_machine.specs.Machine.{Setup, Machine, Move, event_move, tell_move, Moves}
 use Rattle.pb_machine.specs.Turns.{IsInOrder}
 use Rattle.pb_lease.specs.LeaseValue.{LeaseValue, leased_store}
 
 -- ---- a lease that comes back
 
--- Why a lease comes back: its worker reports that it is out of memory, its quota is used up, or no
--- row of its block is Opened.
+-- Why a lease comes back although its worker didn't ask to go on with it: the worker reports that it
+-- is out of memory, or no row of its block is Opened.
 abbrev pub HasCause : LeaseValue → (memory : Bool) → Type 0
 HasCause lease true = ⊤
-HasCause lease false =
+HasCause lease false = HasOpened ((leased_store lease).rows lease.block) → ⊥
+
+-- The work on the lease has stopped: its quota is used up, or no row of its block is Opened.
+abbrev pub HasStopped : LeaseValue → Type 0
+HasStopped lease =
     (lease.used ≡ lease.quota) ⊎ (HasOpened ((leased_store lease).rows lease.block) → ⊥)
 
 -- ---- a run
@@ -33,33 +38,53 @@ abbrev pub settled_after : Move → (settled : Option ℕ) → (new : Machine) �
 settled_after (event_move event) settled new = new.store.incumbent
 settled_after (tell_move worker cost) settled new = settled
 
--- A lease goes on only if its quota is used up, and its block, with the lease home, is the first
--- choice at that moment. Other workers may have done anything meanwhile. A lease comes back only if
--- its quota is used up, no row of its block is Opened, or its worker is out of memory.
-abbrev pub IsTimely : Setup → (old : Machine) → Move → (new : Machine) → Type 0
-IsTimely setup old (event_move (Renew worker used quota)) new =
+-- The lease can't go on: with it home its block isn't the first choice, or it has no room in the
+-- journal any more.
+abbrev pub CannotGoOn : Setup → (room : ℕ → ℕ) → (old : Machine) → (worker used block : ℕ)
+    → (new : Machine) → Type 0
+CannotGoOn setup room old worker used block new =
+    (IsFirstChoice setup.blocks setup.settings (counts_with_lease_home old.counts worker used)
+    new.store block → ⊥)
+    ⊎ (room worker ≡ 0)
+
+-- `room` says, by worker, for how many more events its lease has room in the journal. A lease goes
+-- on only if its quota is used up, and its block, with the lease home, is the first choice at that
+-- moment. Other workers may have done anything meanwhile. A lease comes back only if no row of its
+-- block is Opened, its worker is out of memory, or its quota is used up and it can't go on. A
+-- worker signs off with a report only if no end stands: later the report would change nothing.
+abbrev pub IsTimely : Setup → (room : ℕ → ℕ) → (old : Machine) → Move → (new : Machine) → Type 0
+IsTimely setup room old (event_move (Renew worker used quota)) new =
     (grant : Grant) × (old.counts.leases worker ≡ Some grant) × (used ≡ grant.quota)
     × IsFirstChoice setup.blocks setup.settings (counts_with_lease_home old.counts worker used)
     new.store grant.block
-IsTimely setup old (event_move (Release worker used false)) new =
+IsTimely setup room old (event_move (Release worker used false)) new =
     (grant : Grant) × (old.counts.leases worker ≡ Some grant)
-    × ((used ≡ grant.quota) ⊎ (HasOpened (new.store.rows grant.block) → ⊥))
-IsTimely setup old move new = ⊤
+    × ((HasOpened (new.store.rows grant.block) → ⊥)
+    ⊎ ((used ≡ grant.quota) × CannotGoOn setup room old worker used grant.block new))
+IsTimely setup room old (event_move (Off worker true)) new = old.counts.end ≡ None
+IsTimely setup room old move new = ⊤
+
+-- the room after this move
+abbrev pub room_moved : (room : ℕ → ℕ) → Move → ℕ → ℕ
+room_moved room (event_move event) = room_with room event
+room_moved room (tell_move worker cost) = room
 
 -- A run of any number of workers, in order and in time: these moves, one after another. Each block
 -- that was leased was the first choice of those that might be leased then. Each row that was taken
 -- was the first of its block. No lease was given a greater incumbent than that of the whole store
 -- at the last event. Each lease used up its quota before it went on, and had a cause to come back.
--- The incumbent of the last event is stated at both ends.
-abbrev pub RunsSettled : Setup → (old : Machine) → (settled : Option ℕ) → List Move
-    → (new : Machine) → (later : Option ℕ) → Type 0
-RunsSettled setup old settled [] new later = (new ≡ old) × (later ≡ settled)
-RunsSettled setup old settled (move ∷ moves) new later =
+-- The room at the start is given; the incumbent of the last event is stated at both ends.
+abbrev pub RunsSettled : Setup → (room : ℕ → ℕ) → (old : Machine) → (settled : Option ℕ)
+    → List Move → (new : Machine) → (later : Option ℕ) → Type 0
+RunsSettled setup room old settled [] new later = (new ≡ old) × (later ≡ settled)
+RunsSettled setup room old settled (move ∷ moves) new later =
     (between : Machine) × Moves setup old move between × IsInOrder setup old move between
-    × GivesWholeIncumbent move settled between × IsTimely setup old move between
-    × RunsSettled setup between (settled_after move settled between) moves new later
+    × GivesWholeIncumbent move settled between × IsTimely setup room old move between
+    × RunsSettled setup (room_moved room move) between (settled_after move settled between) moves
+    new later
 
--- a run in order and in time that begins just after an event
-abbrev pub RunsInTime : Setup → (old : Machine) → List Move → (new : Machine) → Type 0
-RunsInTime setup old moves new =
-    (later : Option ℕ) × RunsSettled setup old old.store.incumbent moves new later
+-- a run in order and in time that begins just after an event, in this room
+abbrev pub RunsInTime : Setup → (room : ℕ → ℕ) → (old : Machine) → List Move → (new : Machine)
+    → Type 0
+RunsInTime setup room old moves new =
+    (later : Option ℕ) × RunsSettled setup room old old.store.incumbent moves new later

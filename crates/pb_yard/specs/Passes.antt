@@ -1,6 +1,6 @@
 -- What clauses say of a pass.
 use Rattle.std.specs.Prelude.{◌≡◌, ℕ}
-use Rattle.pb_turn.specs.Passes.{view, parts, misses, whole, IsPassOf, IsSamePlace}
+use Rattle.pb_turn.specs.Passes.{view, parts, tries, misses, whole, IsPassOf, IsSamePlace}
 use Rattle.pb_yard.specs.declared.view.View.{View}
 use Rattle.pb_yard.specs.declared.pass.Pass.{Pass}
 use Rattle.pb_yard.specs.declared.yard.Yard.{Yard}
@@ -36,6 +36,10 @@ IsSamePass old new = IsSamePlace old.turn new.turn × (new.worker ≡ old.worker
 -- the same pass of the same yard, with as many parts
 abbrev pub KeepsPass : Pass → Pass → Type 0
 KeepsPass old new = IsSamePass old new × (parts_of new ≡ parts_of old)
+
+-- how many steps of the pass itself tried for the turn
+abbrev pub tries_of : Pass → ℕ
+tries_of pass = tries pass.turn
 
 -- how often a step of the pass itself found the turn held
 abbrev pub misses_of : Pass → ℕ

@@ -1,6 +1,6 @@
 -- What each call of a graph leaves, by cases of its reply, as the graph's own contracts say; and
 -- which events it adds.
-use Rattle.std.specs.Prelude.{◌≡◌, ℕ, Bool, true, false, if◌then◌else◌, List, [], ◌∷◌, Option, Some, None}
+use Rattle.std.specs.Prelude.{◌≡◌, ℕ, Bool, true, false, ◌&&◌, is_none, if◌then◌else◌, List, [], ◌∷◌, Option, Some, None}
 use Rattle.pb_model.specs.Store.{Rows}
 use Rattle.pb_machine.specs.declared.event.End.{End}
 use Rattle.pb_machine.specs.declared.event.Event.{Event}
@@ -121,11 +121,18 @@ mark_events event done = if done then event ∷ [] else []
 
 -- ---- signing off
 
+-- whether a sign-off has the worker's report that it is out of memory: it has it only if no end
+-- stands, since later the report would change nothing
+abbrev pub reported : (memory : Bool) → Option End → Bool
+reported memory end = memory && is_none end
+
+abbrev pub off_events : (worker : ℕ) → (memory : Bool) → (old : GraphValue) → List Event
+off_events worker memory old =
+    Off worker (reported memory old.table.end)
+    ∷ ending (reported memory old.table.end) old.table.end
+
 -- A worker signed off.
 abbrev pub SignsOffAs : (worker : ℕ) → (memory : Bool) → (old new : GraphValue) → Type 0
 SignsOffAs worker memory old new =
-    IsSignedOff old worker memory new × KeepsLeases old
-    (Off worker memory ∷ ending memory old.table.end) new
-
-abbrev pub off_events : (worker : ℕ) → (memory : Bool) → (old : GraphValue) → List Event
-off_events worker memory old = Off worker memory ∷ ending memory old.table.end
+    IsSignedOff old worker (reported memory old.table.end) new
+    × KeepsLeases old (off_events worker memory old) new

@@ -10,6 +10,7 @@ use Rattle.pb_machine.specs.declared.event.Grant.{Grant}
 use Rattle.pb_machine.specs.Settings.{AreInRange}
 use Rattle.pb_machine.specs.Views as of_machine
 use Rattle.pb_machine.specs.Views.{AreTrueOf}
+use Rattle.pb_machine.specs.Room.{no_room}
 use Rattle.pb_machine.specs.Machine.{IsSetup, Machine, Move, journal_of}
 use Rattle.pb_bundles.specs.Parts.{away_rows}
 use Rattle.pb_lease.specs.LeaseValue.{LeaseValue}
@@ -106,7 +107,8 @@ pub record IsYard (g : GraphValue) (shared : Option ℕ) (views : List View) : T
   pub machine : Machine
   pub lent : (worker : ℕ) → Option LeaseValue
   pub settled : Option ℕ
-  pub run : RunsSettled (setup_in g) (begin_machine begin) begin.incumbent moves machine settled
+  pub run : RunsSettled (setup_in g) no_room (begin_machine begin) begin.incumbent moves machine
+      settled
   pub journal : journal_of moves ≡ g.table.journal
   pub moment : IsMomentAt g (λ worker. rows_of (lent worker)) machine
   pub shared_is : machine.store.incumbent ≡ shared

@@ -1,5 +1,5 @@
 //! What the rule of a yard means. Each law is the contract of a function without a body.
-ghost use Rattle.pb_yard.specs.Laws.{YardsAreLawful, LentLeasesAreOut, ViewsBeginTheHistory, LentLeasesMayComeBack, EndsAreSeen, ActiveStay, SigningOffIsSeen, RunsInTimeAreInOrder};
+ghost use Rattle.pb_yard.specs.Laws.{YardsAreLawful, LentLeasesAreOut, ViewsBeginTheHistory, LentLeasesMayComeBack, EndsAreSeen, ActiveStay, SigningOffIsSeen, RunsInTimeAreInOrder, OtherEndsHaveNoReport};
 
 /// The moment is lawful, and the journal is a legal history. No block is in the scopes of two
 /// leases that are out, and no two hot blocks interfere.
@@ -41,4 +41,10 @@ pub fn signing_off_is_seen()
 /// A run in order and in time is one in order, and so a run of the lease machine.
 pub fn runs_in_time_are_in_order()
     ensures { RunsInTimeAreInOrder }
+{}
+
+/// If a run in order and in time doesn't end by running out of memory, none of its events reports
+/// that.
+pub fn other_ends_have_no_report()
+    ensures { OtherEndsHaveNoReport }
 {}

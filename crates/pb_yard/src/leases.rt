@@ -58,9 +58,9 @@ impl Yard {
     }
 
     /// The pass's worker brings its lease back. Only its work, in turns, made this lease from the
-    /// one that it was lent. The return has a cause: the lease's quota is used up, no row of its
-    /// block is Opened, or the worker reports that it is out of memory. Only in the last case an
-    /// expansion may have been broken off.
+    /// one that it was lent. The return has a cause: no row of the lease's block is Opened, or the
+    /// worker reports that it is out of memory. Only then an expansion may have been broken off. A
+    /// worker whose quota is used up asks to go on: `renew` and `try_switch` tell it whether it may.
     pub fn release<W: Wait>(&self, rt: &W, pass: &mut Pass, lease: Lease, memory: bool)
         requires own { IsOf self.now pass.old }
         requires brought { IsBrought (view_of pass.old) (one_if memory) lease }

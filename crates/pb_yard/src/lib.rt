@@ -27,7 +27,8 @@ mod yard;
 
 pub use laws::{
     active_stay, ends_are_seen, lent_leases_are_out, lent_leases_may_come_back,
-    runs_in_time_are_in_order, signing_off_is_seen, views_begin_the_history, yards_are_lawful,
+    other_ends_have_no_report, runs_in_time_are_in_order, signing_off_is_seen,
+    views_begin_the_history, yards_are_lawful,
 };
 pub use length::{leases_are_few, runs_are_short};
 pub use pass::Pass;

@@ -4,13 +4,22 @@ ghost use Rattle.pb_machine.specs.History.{end_in};
 ghost use Rattle.pb_abstract.specs.Graph.{blocks_of};
 ghost use Rattle.pb_yard.specs.Passes.{view_of, worker_of, IsOf, KeepsPass};
 ghost use Rattle.pb_yard.specs.Returning.{IsLeaseOf};
+ghost use Rattle.pb_yard.specs.Replies.{reported};
 ghost use Rattle.pb_yard.specs.Calls.{IsActive, AsksRival, Marks, Cools, SignsOff};
 
 use crate::pass::Pass;
 use crate::rule::AfterLook;
 use crate::yard::Yard;
 use pb_lease::Lease;
+use pb_machine::End;
 use std::sync::Wait;
+
+// Whether a worker's sign-off has its report.
+fn is_reported(memory: bool, end: Option<End>) -> bool
+    ensures { result ≡ reported memory end }
+{
+    memory && end.is_none()
+}
 
 impl Yard {
     /// The rival of the block of the pass's lease, as the graph answers. Nothing changes.
@@ -62,7 +71,8 @@ impl Yard {
     }
 
     /// The pass's worker signs off, and has no lease. It saw the end of the search, or reports that
-    /// it is out of memory.
+    /// it is out of memory. The sign-off has the report only if no end stands: later the report
+    /// would change nothing.
     pub fn sign_off<W: Wait>(&self, rt: &W, pass: &mut Pass, memory: bool)
         requires own { IsOf self.now pass.old }
         requires vacant { (view_of pass.old).lent ≡ None }
@@ -73,7 +83,9 @@ impl Yard {
             (view_of pass.new) }
     {
         let mut held = self.lock.enter(rt, &mut pass.turn);
-        held.state_mut().sign_off(pass.worker, memory);
+        let graph = held.state_mut();
+        let report = is_reported(memory, graph.end());
+        graph.sign_off(pass.worker, report);
         pass.seen = held.state().journal().len() as u64;
         self.lock.leave::<AfterLook>(&mut pass.turn, held, &());
     }

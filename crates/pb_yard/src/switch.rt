@@ -7,6 +7,6 @@ pub enum Switch {
     Kept(Lease),
     /// The lease came back, and at once the pass asked for another, with this answer.
     Gave(LeaseReply),
-    /// This call's own step found the turn held by another pass. The lease is unchanged.
+    /// This call's one step found the turn held by another pass. The lease is unchanged.
     Busy(Lease),
 }

@@ -1,11 +1,11 @@
 //! Going on without waiting, with the lease or with another one.
-ghost use Rattle.std.specs.Prelude.{◌≡◌, ◌≢◌, ◌+◌, false};
+ghost use Rattle.std.specs.Prelude.{◌≡◌, ◌≢◌, ◌+◌};
 ghost use Rattle.pb_lease.specs.declared.answer.LeaseReply.{LeaseReply};
 ghost use Rattle.pb_lease.specs.declared.answer.Renewed.TheVariants as renewed;
 ghost use Rattle.pb_lease.specs.LeaseValue.{LeaseValue};
 ghost use Rattle.pb_yard.specs.declared.switch.Switch.TheVariants.{Kept, Gave, Busy};
-ghost use Rattle.pb_yard.specs.Passes.{view_of, worker_of, parts_of, misses_of, all_parts, IsOf, KeepsPass};
-ghost use Rattle.pb_yard.specs.Order.{HasCause};
+ghost use Rattle.pb_yard.specs.Passes.{view_of, worker_of, parts_of, tries_of, misses_of, all_parts, IsOf, KeepsPass};
+ghost use Rattle.pb_yard.specs.Order.{HasStopped};
 ghost use Rattle.pb_yard.specs.Returning.{IsBrought};
 ghost use Rattle.pb_yard.specs.Calls.{Renews, GivesAndLeases};
 
@@ -20,13 +20,14 @@ impl Yard {
     /// work, in turns, made its lease from the one that it was lent. The lease's quota is used up,
     /// or no row of its block is Opened. The lease goes on if a renewal would keep it. Else it
     /// comes back, and the worker asks for another one before any other pass holds the graph. The
-    /// answer is Busy only if this call's own step found the turn held; then the lease is
-    /// unchanged.
+    /// pass tries for the turn once. The answer is Busy only if that one step found the turn held;
+    /// then the lease is unchanged.
     pub fn try_switch(&self, pass: &mut Pass, lease: Lease) -> Switch
         requires own { IsOf self.now pass.old }
         requires brought { IsBrought (view_of pass.old) 0 lease }
-        requires cause { HasCause lease false }
+        requires cause { HasStopped lease }
         ensures same { KeepsPass pass.old pass.new }
+        ensures one_step { tries_of pass.new ≡ tries_of pass.old + 1 }
         ensures kept { (kept : LeaseValue) → result ≡ Kept kept
             → Renews lease (view_of pass.old) (renewed.Kept kept) (view_of pass.new) }
         ensures gave { (reply : LeaseReply) → result ≡ Gave reply

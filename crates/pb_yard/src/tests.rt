@@ -8,7 +8,7 @@ ghost use Rattle.pb_abstract.specs.Graph.{IsGraphOf};
 ghost use Rattle.pb_lease.specs.declared.answer.LeaseReply.TheVariants.{Leased};
 ghost use Rattle.pb_yard.specs.declared.switch.Switch.TheVariants.{Gave, Busy};
 ghost use Rattle.pb_yard.specs.Passes.{view_of, worker_of, parts_of, misses_of, all_parts, IsOf, IsFirstPass, KeepsPass};
-ghost use Rattle.pb_yard.specs.Order.{HasCause};
+ghost use Rattle.pb_yard.specs.Order.{HasStopped};
 ghost use Rattle.pb_yard.specs.Returning.{IsBrought};
 ghost use Rattle.pb_yard.specs.Calls.{IsReady, IsActive, IsAlone, HasSignedOff, KeepsWorkers, GivesAndLeases};
 
@@ -125,7 +125,7 @@ fn lease_and_work<R: Wait + Abort>(
     ensures workers { KeepsWorkers (view_of pass.old) (view_of pass.new) }
     ensures active { IsActive (view_of pass.new) }
     ensures brought { IsBrought (view_of pass.new) 0 result }
-    ensures cause { HasCause result false }
+    ensures cause { HasStopped result }
 {
     let reply = yard.lease(rt, pass);
     let mut lease = leased(rt, reply);
@@ -138,7 +138,7 @@ fn lease_and_work<R: Wait + Abort>(
 fn try_beside<R: Abort>(rt: &R, yard: &Yard, pass: &mut Pass, lease: Lease) -> Lease
     requires own { IsOf yard.now pass.old }
     requires brought { IsBrought (view_of pass.old) 0 lease }
-    requires cause { HasCause lease false }
+    requires cause { HasStopped lease }
     ensures same { KeepsPass pass.old pass.new }
     ensures lease { result ≡ lease }
     ensures view { view_of pass.new ≡ view_of pass.old }
@@ -152,7 +152,7 @@ fn try_beside<R: Abort>(rt: &R, yard: &Yard, pass: &mut Pass, lease: Lease) -> L
 fn go_over<R: Abort>(rt: &R, yard: &Yard, pass: &mut Pass, lease: Lease) -> Lease
     requires own { IsOf yard.now pass.old }
     requires brought { IsBrought (view_of pass.old) 0 lease }
-    requires cause { HasCause lease false }
+    requires cause { HasStopped lease }
     ensures same { KeepsPass pass.old pass.new }
     ensures gave { GivesAndLeases lease (worker_of pass.old)
         (view_of pass.old) (Leased result) (view_of pass.new) }

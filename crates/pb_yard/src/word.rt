@@ -1,7 +1,7 @@
 //! The incumbent of the whole search, which is kept in a word beside the graph.
 ghost use Rattle.std.specs.Prelude.{◌≡◌, ◌≢◌, ◌<◌, ◌+◌, ℕ, true, Some, None, IfSome, IfNone};
 ghost use Rattle.pb_turn.specs.Obligations.{Stands};
-ghost use Rattle.pb_turn.specs.Passes.{view, number, parts, misses, whole, found, state, HoldsTurn, IsResting, IsPassOf};
+ghost use Rattle.pb_turn.specs.Passes.{view, number, parts, tries, misses, whole, found, state, HoldsTurn, IsResting, IsPassOf};
 ghost use Rattle.pb_turn.specs.Passes as turns;
 ghost use Rattle.pb_model.specs.Store.{lesser, AtMost};
 ghost use Rattle.pb_lease.specs.GraphValue.{GraphValue};
@@ -9,7 +9,7 @@ ghost use Rattle.pb_yard.specs.Views.{cost_of, bounded, view_read, view_told};
 ghost use Rattle.pb_yard.specs.Rule.{IsAt, YardFact};
 ghost use Rattle.pb_yard.specs.Returning.{IsFound};
 ghost use Rattle.pb_yard.specs.Passes.{view_of, IsOf, KeepsPass};
-ghost use Rattle.pb_yard.specs.Calls.{HasPlanWithin};
+ghost use Rattle.pb_yard.specs.Calls.{HasPlanWithin, LowersIncumbent};
 
 use crate::pass::Pass;
 use crate::rule::YardRule;
@@ -67,13 +67,14 @@ impl Yard {
         incumbent
     }
 
-    /// Tells a cost at which the pass's lease reaches a goal: the incumbent becomes the lesser of
-    /// both. It never waits.
+    /// Tells a cost at which the pass's lease reaches a goal: at one step the incumbent becomes the
+    /// lesser of both. It never waits.
     pub fn lower(&self, pass: &mut Pass, lease: &Lease, cost: u64)
         requires own { IsOf self.now pass.old }
         requires fits { cost < 18446744073709551615 }
         requires found { IsFound (view_of pass.old) lease.now cost }
         ensures same { KeepsPass pass.old pass.new }
+        ensures step { LowersIncumbent (view_of pass.old) cost }
         ensures view { view_of pass.new ≡ view_told (view_of pass.old) cost }
     {
         let _ = lease;
@@ -120,6 +121,7 @@ impl Yard {
             (found r.0)) }
         ensures falls { IfSome result (λ r. AtMost r.1 (view turn.old).last
             × AtMost r.1 (found r.0).incumbent) }
+        ensures one_step { tries turn.new ≡ tries turn.old + 1 }
         ensures rests { IfNone result (IsResting turn.new × (view turn.new ≡ view turn.old)) }
         ensures lost { IfNone result ((misses turn.new ≡ misses turn.old + 1)
             × (parts turn.old ≢ whole)) }
@@ -141,6 +143,7 @@ impl Yard {
         requires fresh { state held ≡ found held }
         requires live { (view turn.old).journal.is_live ≡ true }
         ensures same { turns.IsSamePass turn.old turn.new }
+        ensures tries { tries turn.new ≡ tries turn.old }
         ensures found { found result.0 ≡ found held }
         ensures won { HoldsTurn turn.new (found result.0) }
         ensures graph { state result.0 ≡ bounded (found result.0) result.1 }

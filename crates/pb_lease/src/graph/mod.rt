@@ -12,7 +12,7 @@ ghost use Rattle.pb_estimate.specs.Estimates.{estimate_by, suits};
 ghost use Rattle.pb_abstract.specs.Graph.{IsGraphOf};
 ghost use Rattle.pb_lists.specs.Bundle.{row_of};
 ghost use Rattle.pb_bundles.specs.Homes.{content_at, home_rows};
-ghost use Rattle.pb_machine.specs.Room.{KeepsWithinRoom};
+ghost use Rattle.pb_machine.specs.Room.{room_after, KeepsWithinRoom};
 ghost use Rattle.pb_lease.specs.Tables.{no_past, blocks, rooms};
 ghost use Rattle.pb_lease.specs.GraphValue.{setup_in, counts_in, IsLeaseGraph};
 ghost use Rattle.pb_lease.specs.Choices.{is_out_in};
@@ -174,11 +174,14 @@ impl LeaseGraph {
         &self.choice
     }
 
-    /// The abstract graph: the blocks that are leased.
+    /// The abstract graph: the blocks that are leased. What is true of every graph is told besides:
+    /// each lease has the room that the journal leaves it.
     pub fn abstraction(&self) -> &AbsGraph
         ensures abstraction { result.now ≡ self.now.table.abstraction }
         ensures lawful { IsLeaseGraph self.now }
+        ensures room { rooms self.now.table ≡ room_after self.now.table.journal }
     {
+        let _ = self.tables.journal();
         self.tables.abstraction()
     }
 

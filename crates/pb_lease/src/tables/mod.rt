@@ -5,7 +5,7 @@ ghost use Rattle.pb_machine.specs.Settings.{AreInRange};
 ghost use Rattle.pb_machine.specs.Counts.{opening_counts};
 ghost use Rattle.pb_machine.specs.Counters.{busy_count, hot_count};
 ghost use Rattle.pb_machine.specs.History.{IsHistory};
-ghost use Rattle.pb_machine.specs.Room.{KeepsWithinRoom};
+ghost use Rattle.pb_machine.specs.Room.{room_after, KeepsWithinRoom};
 ghost use Rattle.pb_lease.specs.Tables.{no_past, blocks, counts_of, seat_of, rooms};
 
 pub(crate) mod counters;
@@ -131,12 +131,13 @@ impl MachineTables {
     }
 
     /// The events so far: a legal history, which leads to these counts, and which keeps within the
-    /// room of its leases.
+    /// room of its leases. The room that each lease still has is what they leave.
     pub fn journal(&self) -> &[Event]
         ensures events { result.now ≡ self.now.journal }
         ensures legal { IsHistory (blocks self.now) self.now.settings self.now.past.spent
             self.now.journal (counts_of self.now) }
         ensures within { KeepsWithinRoom self.now.journal }
+        ensures room { rooms self.now ≡ room_after self.now.journal }
     {
         &self.journal
     }

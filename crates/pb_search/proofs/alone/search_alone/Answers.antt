@@ -13,4 +13,4 @@ run_alone-requires-clause-stays g c _ _ = none_signed_off c.args.task.now c.args
 pub returns : goal.returns
 returns g c =
     alone_searched c.args.task.now c.args.abstraction.now c.args.opening.table.settings c.args.opening c.requires.opens c.run_alone.new.graph c.run_alone.ensures.same c.requires.alone
-    c.abstraction-lawful.ensures.lawful c.journal-events.ensures.within c.run_alone.ensures.run c.run_alone.ensures.home c.in_ok-run_alone.ensures.signed_off c.in_ok-run_alone.ensures.ended
+    c.abstraction-lawful.ensures.lawful c.journal-events.ensures.within c.run_alone.ensures.run c.run_alone.ensures.home c.in_ok-run_alone.ensures.signed_off c.in_ok-run_alone.ensures.ended c.run_alone.ensures.marks

@@ -1,4 +1,4 @@
-use Rattle.std.proofs.Common.{true, false, sym, ap, ◌∙◌, subst}
+use Rattle.std.proofs.Common.{true, false, sym, ap, ◌∙◌, subst, arith}
 use Rattle.pb_estimate.specs.Tables.{IsOfTask}
 use Rattle.pb_yard.specs.declared.view.View.{View}
 use Rattle.pb_yard.specs.Passes.{view_of}
@@ -42,7 +42,25 @@ pub release-requires-clause-brought : goal.release-requires-clause-brought
 release-requires-clause-brought g c =
     let w = c.args.watch.now in let t = c.args.task.now in let a = c.args.abstraction.now in let l = c.requires.leased in
     let e = c.work_watched-worked.ensures in
-    brought t a (view_of w.pass) w.pass.is_live c.args.lease l (view_of c.work_watched-worked.new.watch.pass) e.stays.lease c.work_watched-worked.new.lease e.same 0 c.in-Spent.ensures.watched e.scope
+    let b = brought t a (view_of w.pass) w.pass.is_live c.args.lease l (view_of c.work_watched-worked.new.watch.pass) e.stays.lease c.work_watched-worked.new.lease e.same 0 c.in-Spent.ensures.watched e.scope in
+    let few = b.work.few_broken in
+    record {
+      lent = b.lent;
+      lent_is = b.lent_is;
+      same = b.same;
+      weights = b.weights;
+      work = record {
+        works = b.work.works;
+        on = b.work.on;
+        comes = b.work.comes;
+        used_is = b.work.used_is;
+        few_broken = omega (arith, few);
+        stops = b.work.stops;
+      };
+      turns = b.turns;
+      copy = b.copy;
+      told = b.told;
+    }
 
 pub release-requires-in-Empty-clause-brought : goal.release-requires-in-Empty-clause-brought
 release-requires-in-Empty-clause-brought g c =
@@ -63,7 +81,7 @@ returns-clause-ready g c =
     let k = view_of c.work_watched-worked.new.watch.pass in
     let active = work_active t a (view_of w.pass) w.pass.is_live c.args.lease l k e.stays.lease c.work_watched-worked.new.lease e.same in
     let ready : IsReady (view_of c.match-worked.watch.pass) = elim c.match-worked.branch [
-      | in-Spent b ↦ subst (λ (v : View). IsReady v) (sym (ap (λ (z : YardWatch). view_of z.pass) b.watch-is)) (released_ready _ false k (view_of b.release.new.pass) b.release.ensures.released active)
+      | in-Spent b ↦ subst (λ (v : View). IsReady v) (sym (ap (λ (z : YardWatch). view_of z.pass) b.watch-is)) (released_ready _ true k (view_of b.release.new.pass) b.release.ensures.released active)
       | in-Empty b ↦ subst (λ (v : View). IsReady v) (sym (ap (λ (z : YardWatch). view_of z.pass) b.watch-is)) (released_ready _ false k (view_of b.release-in-Empty.new.pass) b.release-in-Empty.ensures.released active)
       | in-Memory b ↦ subst (λ (v : View). IsReady v) (sym (ap (λ (z : YardWatch). view_of z.pass) b.watch-is)) (released_ready _ true k (view_of b.release-in-Memory.new.pass) b.release-in-Memory.ensures.released active)
     ] in

@@ -1,4 +1,4 @@
-use Rattle.std.proofs.Common.{is_some, ap, ◌∙◌, subst}
+use Rattle.std.proofs.Common.{is_some, ap, ◌∙◌, subst, true, false}
 use Rattle.pb_lease.specs.declared.answer.LeaseReply.{LeaseReply}
 use Rattle.pb_yard.specs.Passes.{view_of, worker_of}
 use Rattle.pb_yard.specs.Calls.{Leases}
@@ -36,9 +36,9 @@ sign_off-requires-clause-cause g c =
 pub returns-in-Over-clause-off : goal.returns-in-Over-clause-off
 returns-in-Over-clause-off g c =
     let q = c.lease.new.pass in
-    signing_off_is_seen (worker_of q) _ (view_of q) (view_of c.sign_off.new.pass) q.worker_is c.sign_off.ensures.signed_off
+    signing_off_is_seen (worker_of q) false (view_of q) (view_of c.sign_off.new.pass) q.worker_is c.sign_off.ensures.signed_off
 
 pub returns-in-Memory-clause-off : goal.returns-in-Memory-clause-off
 returns-in-Memory-clause-off g c =
     let q = c.lease.new.pass in
-    signing_off_is_seen (worker_of q) _ (view_of q) (view_of c.sign_off-in-Memory.new.pass) q.worker_is c.sign_off-in-Memory.ensures.signed_off
+    signing_off_is_seen (worker_of q) true (view_of q) (view_of c.sign_off-in-Memory.new.pass) q.worker_is c.sign_off-in-Memory.ensures.signed_off

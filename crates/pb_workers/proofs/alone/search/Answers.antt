@@ -2,9 +2,11 @@ use Rattle.std.proofs.Common.{refl, sym, ap, ◌∙◌, subst, inr}
 use Rattle.pb_lease.specs.GraphValue.{GraphValue, counts_in}
 use Rattle.pb_yard.proofs.Callers.{ended_end}
 use Rattle.pb_workers.specs.Runs.{RunsOn}
+use Rattle.pb_yard.specs.Marking.{no_turn}
+use Rattle.pb_workers.specs.Turns.{HasTurn}
 use Rattle.pb_workers.specs.Serving.{Serves}
 use Rattle.pb_workers.proofs.Going.{same_then, same_searched}
-use Rattle.pb_workers.proofs.Searching.{alone_vacant, alone_home, leased_same, leased_signed, leased_on, leased_runs, comes_nearer, ended_same, ended_leases, ended_signed, ended_runs, none_stands}
+use Rattle.pb_workers.proofs.Searching.{alone_vacant, alone_home, leased_same, leased_signed, leased_on, leased_runs, comes_nearer, ended_same, ended_leases, ended_signed, ended_runs, none_stands, leased_turn, ended_turn}
 use Rattle.pb_workers.proofs.alone.search.Goals as goal
 
 pub lease-requires-clause-vacant : goal.lease-requires-clause-vacant
@@ -45,11 +47,15 @@ leases-preserved g c =
       stays = (λ i. b.signed_off i 0) ∙ (λ i. leased_signed c.leases.graph 0 c.in-Leased.lease c.lease.new.self l i 0) ∙ c.leases.invariant.stays;
       same = same_then c.args.graph.now c.leases.graph c.hold.new.lessor c.leases.invariant.same same;
       runs = runs;
+      turn = λ before. leased_turn c.leases.graph c.lease.new.self c.hold.new.lessor c.in-Leased.lease l b.turn (c.leases.invariant.turn before);
     }
 
 pub returns-in-Over-clause-run : goal.returns-in-Over-clause-run
 returns-in-Over-clause-run g c =
     ended_runs c.leases.graph c.in-Over.end c.lease.new.self (c.in-Over.ensures.ended c.in-Over.end refl) c.args.graph.now c.leases.invariant.same c.leases.invariant.runs (c.in-Over.ensures.ended_moment c.in-Over.end refl)
+
+pub returns-in-Over-clause-turn : goal.returns-in-Over-clause-turn
+returns-in-Over-clause-turn g c before = ended_turn c.leases.graph c.in-Over.end c.lease.new.self (c.in-Over.ensures.ended c.in-Over.end refl) (c.leases.invariant.turn before)
 
 pub returns-in-Over-clause-same : goal.returns-in-Over-clause-same
 returns-in-Over-clause-same g c =
@@ -71,6 +77,9 @@ returns-in-Over-clause-end g c =
 
 pub returns-in-Memory-clause-run : goal.returns-in-Memory-clause-run
 returns-in-Memory-clause-run g c = subst (λ (v : GraphValue). RunsOn c.args.graph.now v) (sym (c.in-Memory.ensures.same (inr refl))) c.leases.invariant.runs
+
+pub returns-in-Memory-clause-turn : goal.returns-in-Memory-clause-turn
+returns-in-Memory-clause-turn g c before = subst (λ (v : GraphValue). HasTurn v 0 no_turn) (sym (c.in-Memory.ensures.same (inr refl))) (c.leases.invariant.turn before)
 
 pub returns-in-Memory-clause-end : goal.returns-in-Memory-clause-end
 returns-in-Memory-clause-end g c =

@@ -7,7 +7,7 @@ use Rattle.pb_yard.specs.Passes.{view_of}
 use Rattle.pb_workers.specs.Shared.{IsIdle}
 use Rattle.pb_workers.specs.Teams.{IsToSplit}
 use Rattle.pb_workers.specs.Tools.{AreFor, AllAreFor}
-use Rattle.pb_workers.proofs.Teaming.{met_off, next_idle}
+use Rattle.pb_workers.proofs.Teaming.{met_off, met_marks, next_idle}
 use Rattle.pb_workers.proofs.workers.+fn-run_all-join+arg2+run_all.Goals as goal
 
 pub meet-requires-clause-own : goal.meet-requires-clause-own
@@ -31,6 +31,13 @@ returns-clause-signed_off g t c =
     let second = c.join-all.ensures.second in
     met_off (view_of c.args.pass) (view_of c.split-other.new.pass) (view_of c.join-all.result.0) (view_of c.split-other.result) (view_of c.join-all.result.1) (view_of c.meet.new.pass)
     c.split-other.ensures.kept first.4 first.3 c.split-other.ensures.view second.2 second.4 c.meet.ensures.met
+
+pub returns-clause-marks : goal.returns-clause-marks
+returns-clause-marks g t c before =
+    let first = c.join-all.ensures.first in
+    let second = c.join-all.ensures.second in
+    met_marks (view_of c.args.pass) (view_of c.split-other.new.pass) (view_of c.join-all.result.0) (view_of c.split-other.result) (view_of c.join-all.result.1) (view_of c.meet.new.pass)
+    c.split-other.ensures.kept first.4 first.3 c.split-other.ensures.view second.2 second.4 c.meet.ensures.met first.5 second.5 before
 
 pub join-all-requires-after_bounds : goal.join-all-requires-after_bounds
 join-all-requires-after_bounds g t c κs within =

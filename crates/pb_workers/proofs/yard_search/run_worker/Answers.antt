@@ -1,7 +1,8 @@
 use Rattle.std.proofs.Common.{sym, ◌∙◌}
-use Rattle.pb_yard.specs.Passes.{view_of}
+use Rattle.pb_yard.specs.Passes.{view_of, worker_of}
 use Rattle.pb_workers.specs.declared.yard_watch.YardWatch.{YardWatch}
 use Rattle.pb_workers.proofs.Sharing.{worker_self, idle_with}
+use Rattle.pb_workers.proofs.SharedTurns.{off_turn}
 use Rattle.pb_workers.proofs.yard_search.run_worker.Goals as goal
 
 pub take_leases-memory-requires-clause-serves : goal.take_leases-memory-requires-clause-serves
@@ -17,4 +18,9 @@ take_leases-memory-requires-clause-idle g c _ _ =
     let w : YardWatch = record { yard = c.args.yard; pass = c.args.pass } in
     let v = view_of c.args.pass in
     let i = c.requires.idle in
-    record { own = c.requires.own; since = worker_self w; idle = idle_with c.args.task.now v.task c.args.abstraction.now v.abstraction i.task_is i.graph_is v i }
+    record { own = c.requires.own; since = worker_self w; idle = idle_with c.args.task.now v.task c.args.abstraction.now v.abstraction i.task_is i.graph_is v i; turn = λ before. before }
+
+pub returns-clause-turn : goal.returns-clause-turn
+returns-clause-turn g c before =
+    off_turn (worker_of c.take_leases-memory.new.lessor.watch.pass) c.take_leases-memory.result (view_of c.take_leases-memory.new.lessor.watch.pass) (view_of c.sign_off.new.pass)
+    (sym c.take_leases-memory.new.lessor.watch.pass.worker_is) c.sign_off.ensures.signed_off (c.take_leases-memory.ensures.idle.turn before)

@@ -10,12 +10,12 @@ pub hold-requires-clause-serves : goal.hold-requires-clause-serves
 hold-requires-clause-serves g c _ _ =
     let w = c.loop.lessor.watch in let n : YardWatch = record w { pass = c.lease.new.pass } in let l = c.in-Leased.lease in
     subst (Serves c.loop.worker)
-    (sym (holder_searched (view_of w.pass) (view_of n.pass) (asked_holder c.args.lessor.now.watch w n c.loop.invariant.none refl c.lease.ensures.same (worker_of w.pass) (Leased l) c.in-Leased.ensures.leased))) c.loop.invariant.serves
+    (sym (holder_searched (view_of w.pass) (view_of n.pass) (asked_holder c.args.lessor.now.watch w n c.loop.invariant.none refl c.lease.ensures.same (worker_of w.pass) (sym w.pass.worker_is) (Leased l) c.in-Leased.ensures.leased))) c.loop.invariant.serves
 
 pub hold-requires-clause-holds : goal.hold-requires-clause-holds
 hold-requires-clause-holds g c _ _ =
     let w = c.loop.lessor.watch in let n : YardWatch = record w { pass = c.lease.new.pass } in let l = c.in-Leased.lease in
-    (c.args.lessor.now, l, lease_asked c.args.lessor.now.watch w n c.loop.invariant.none refl c.lease.ensures.same (worker_of w.pass) l c.in-Leased.ensures.leased)
+    (c.args.lessor.now, l, lease_asked c.args.lessor.now.watch w n c.loop.invariant.none refl c.lease.ensures.same (worker_of w.pass) (sym w.pass.worker_is) l c.in-Leased.ensures.leased)
 
 pub loop-preserved-in-Leased : goal.loop-preserved-in-Leased
 loop-preserved-in-Leased g c =
@@ -23,7 +23,7 @@ loop-preserved-in-Leased g c =
     record {
       can = search rules;
       finite = search rules;
-      none = c.hold.ensures.home c.args.lessor.now l (lease_asked c.args.lessor.now.watch w n c.loop.invariant.none refl c.lease.ensures.same (worker_of w.pass) l c.in-Leased.ensures.leased);
+      none = c.hold.ensures.home c.args.lessor.now l (lease_asked c.args.lessor.now.watch w n c.loop.invariant.none refl c.lease.ensures.same (worker_of w.pass) (sym w.pass.worker_is) l c.in-Leased.ensures.leased);
       serves = c.hold.ensures.serves;
     }
 
@@ -33,22 +33,22 @@ loop-preserved g c =
     record {
       can = search rules;
       finite = search rules;
-      none = wait_asked c.args.lessor.now.watch w n none refl c.lease.ensures.same (worker_of w.pass) c.in-NotYet.ensures.leased;
+      none = wait_asked c.args.lessor.now.watch w n none refl c.lease.ensures.same (worker_of w.pass) (sym w.pass.worker_is) c.in-NotYet.ensures.leased;
       serves = subst (Serves c.loop.worker)
-          (sym (holder_searched (view_of w.pass) (view_of n.pass) (asked_holder c.args.lessor.now.watch w n none refl c.lease.ensures.same (worker_of w.pass) NotYet c.in-NotYet.ensures.leased))) c.loop.invariant.serves;
+          (sym (holder_searched (view_of w.pass) (view_of n.pass) (asked_holder c.args.lessor.now.watch w n none refl c.lease.ensures.same (worker_of w.pass) (sym w.pass.worker_is) NotYet c.in-NotYet.ensures.leased))) c.loop.invariant.serves;
     }
 
 pub returns-in-Over-clause-idle : goal.returns-in-Over-clause-idle
 returns-in-Over-clause-idle g c =
     let w = c.loop.lessor.watch in let n : YardWatch = record w { pass = c.lease.new.pass } in
-    (over_asked c.args.lessor.now.watch w n c.loop.invariant.none refl c.lease.ensures.same (worker_of w.pass) c.in-Over.field-0 c.in-Over.ensures.leased).0
+    (over_asked c.args.lessor.now.watch w n c.loop.invariant.none refl c.lease.ensures.same (worker_of w.pass) (sym w.pass.worker_is) c.in-Over.field-0 c.in-Over.ensures.leased).0
 
 pub returns-in-Over-clause-cause : goal.returns-in-Over-clause-cause
 returns-in-Over-clause-cause g c =
     let w = c.loop.lessor.watch in let n : YardWatch = record w { pass = c.lease.new.pass } in
-    (over_asked c.args.lessor.now.watch w n c.loop.invariant.none refl c.lease.ensures.same (worker_of w.pass) c.in-Over.field-0 c.in-Over.ensures.leased).1
+    (over_asked c.args.lessor.now.watch w n c.loop.invariant.none refl c.lease.ensures.same (worker_of w.pass) (sym w.pass.worker_is) c.in-Over.field-0 c.in-Over.ensures.leased).1
 
 pub returns-in-Memory-clause-idle : goal.returns-in-Memory-clause-idle
 returns-in-Memory-clause-idle g c =
     let w = c.loop.lessor.watch in let n : YardWatch = record w { pass = c.lease.new.pass } in
-    memory_asked c.args.lessor.now.watch w n c.loop.invariant.none refl c.lease.ensures.same (worker_of w.pass) c.in-Memory.ensures.leased
+    memory_asked c.args.lessor.now.watch w n c.loop.invariant.none refl c.lease.ensures.same (worker_of w.pass) (sym w.pass.worker_is) c.in-Memory.ensures.leased

@@ -3,7 +3,7 @@ use Rattle.pb_lease.specs.declared.answer.LeaseReply.TheVariants.{Leased}
 use Rattle.pb_lease.specs.LeaseValue.{LeaseValue}
 use Rattle.pb_yard.specs.declared.view.View.{View}
 use Rattle.pb_yard.specs.Passes.{view_of, worker_of}
-use Rattle.pb_yard.specs.Order.{HasCause}
+use Rattle.pb_yard.specs.Order.{HasStopped}
 use Rattle.pb_yard.specs.Returning.{IsBrought}
 use Rattle.pb_yard.specs.Calls.{IsActive, KeepsWorkers}
 use Rattle.pb_yard.proofs.Told.{may_bring, released_ready, released_keeps, keeps_on, gave_active, gave_keeps}
@@ -16,7 +16,7 @@ go_over-next-requires-clause-brought g c =
     subst (λ (u : View). IsBrought u 0 t.result) (sym t.ensures.view) (subst (λ (l : LeaseValue). IsBrought (view_of a.new.pass) 0 l) (sym t.ensures.lease) a.ensures.brought)
 
 pub go_over-next-requires-clause-cause : goal.go_over-next-requires-clause-cause
-go_over-next-requires-clause-cause g c = subst (λ (l : LeaseValue). HasCause l false) (sym c.try_beside-lease.ensures.lease) c.lease_and_work-lease.ensures.cause
+go_over-next-requires-clause-cause g c = subst (λ (l : LeaseValue). HasStopped l) (sym c.try_beside-lease.ensures.lease) c.lease_and_work-lease.ensures.cause
 
 pub release-requires-clause-brought : goal.release-requires-clause-brought
 release-requires-clause-brought g c =

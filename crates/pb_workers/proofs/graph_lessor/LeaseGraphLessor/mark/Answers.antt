@@ -3,7 +3,7 @@ use Rattle.pb_lease.specs.GraphValue.{GraphValue, counts_in}
 use Rattle.pb_workers.specs.Holding.{MarksRival}
 use Rattle.pb_workers.proofs.Going.{same_searched}
 use Rattle.pb_workers.proofs.Held.{worked_of_graph}
-use Rattle.pb_workers.proofs.Marked.{marks_where_may, marked_at_most, marked_room, marked_same}
+use Rattle.pb_workers.proofs.Marked.{marks_where_may, marked_at_most, marked_room, marked_same, marked_turn}
 use Rattle.pb_workers.proofs.graph_lessor.LeaseGraphLessor.mark.Goals as goal
 
 pub mark_hot-requires-clause-leased : goal.mark_hot-requires-clause-leased
@@ -21,6 +21,8 @@ returns-clause-may_return c = λ begin given w. record {
   on = w.on;
   work = w.work;
   mark = marked_at_most c.args.self.now c.args.lease.now.worker c.worker.result c.args.rival c.mark_hot.new.self c.mark_hot.result c.worker.ensures c.mark_hot.ensures.answer c.mark_hot.ensures.marked c.mark_hot.ensures.refused c.mark_hot.ensures.moment;
+  turn = λ before. marked_turn c.args.self.now c.args.lease.now.worker c.mark_hot.new.self (marked_at_most c.args.self.now c.args.lease.now.worker c.worker.result c.args.rival c.mark_hot.new.self c.mark_hot.result c.worker.ensures c.mark_hot.ensures.answer c.mark_hot.ensures.marked c.mark_hot.ensures.refused c.mark_hot.ensures.moment) given.worker (w.work.same.worker ∙ w.on.worker) w.held.quota c.args.lease.now.used
+      (c.requires.spent ∙ w.work.same.quota) (w.on.turn before);
 }
 
 pub returns-clause-marked : goal.returns-clause-marked

@@ -3,7 +3,7 @@ use Rattle.pb_estimate.specs.Tables.{IsOfTask}
 use Rattle.pb_expand.specs.Worked.{broken_by}
 use Rattle.pb_yard.specs.Passes.{view_of}
 use Rattle.pb_workers.specs.Shared.{IsLeased}
-use Rattle.pb_workers.proofs.Sharing.{choice_is, at_work, of_search, watched, leased_for, work_since, kept_searched}
+use Rattle.pb_workers.proofs.Sharing.{choice_is, at_work, of_search, watched, leased_for, work_since, work_turn, kept_searched}
 use Rattle.pb_workers.proofs.yard_lessor.YardLessorLessor.work_on.Goals as goal
 
 pub work_watched-requires-clause-of_task : goal.work_watched-requires-clause-of_task
@@ -37,9 +37,11 @@ work_watched-requires-clause-watched g c =
 
 pub returns-clause-worked : goal.returns-clause-worked
 returns-clause-worked g c = λ begin given h.
-    let e = c.work_watched.ensures in
-    work_since begin.watch c.args.self.now.watch c.work_watched.new.watch c.args.lease.now h c.args.worker.now.task.now c.args.worker.now.abstraction.now c.requires.serves.task c.requires.serves.abstraction e.can e.stays c.work_watched.new.lease e.same
-    (broken_by c.work_watched.result) e.watched e.scope
+    let e = c.work_watched.ensures in record {
+      work = work_since begin.watch c.args.self.now.watch c.work_watched.new.watch c.args.lease.now h c.args.worker.now.task.now c.args.worker.now.abstraction.now c.requires.serves.task c.requires.serves.abstraction e.can e.stays c.work_watched.new.lease e.same
+          (broken_by c.work_watched.result) e.watched e.scope;
+      turn = work_turn begin.watch c.args.self.now.watch c.work_watched.new.watch c.args.lease.now h c.args.worker.now.task.now c.args.worker.now.abstraction.now c.requires.serves.task c.requires.serves.abstraction e.stays c.work_watched.new.lease e.same;
+    }
 
 pub returns-clause-searched : goal.returns-clause-searched
 returns-clause-searched g c = kept_searched (view_of c.args.self.now.watch.pass) (view_of c.work_watched.new.watch.pass) c.work_watched.ensures.stays.lease

@@ -1,5 +1,6 @@
 use Rattle.std.proofs.Common.{◌≡◌, ℕ, ◌<◌, List, Option, Some, None, length, false, refl, sym, ap, ◌∙◌, subst}
 use Rattle.pb_machine.specs.declared.event.Event.{Event}
+use Rattle.pb_machine.specs.Room.{room_after}
 use Rattle.pb_turn.specs.Obligations.{Stands}
 use Rattle.pb_turn.specs.Passes.{view, number, found}
 use Rattle.pb_model.specs.Store.{AtMost}
@@ -7,7 +8,7 @@ use Rattle.pb_lease.specs.declared.answer.LeaseReply.{LeaseReply}
 use Rattle.pb_lease.specs.declared.answer.Renewed.{Renewed}
 use Rattle.pb_lease.specs.declared.answer.Renewed.TheVariants.{Kept, Given}
 use Rattle.pb_lease.specs.LeaseValue.{LeaseValue}
-use Rattle.pb_lease.specs.Tables.{Table, blocks, counts_of}
+use Rattle.pb_lease.specs.Tables.{Table, blocks, rooms, counts_of}
 use Rattle.pb_lease.specs.GraphValue.{GraphValue, IsLeaseGraph, IsOfGraph}
 use Rattle.pb_lease.proofs.Callers.{worker_known, worker_vacant, worker_stays}
 use Rattle.pb_yard.specs.declared.switch.Switch.{Switch}
@@ -59,12 +60,13 @@ leave-requires-clause-rule c =
     let read_at : w.read_at ≡ Some (length x.table.journal) = ap (λ (l : List Event). Some (length l)) (sym (bounded_journal f o)) in
     let found_is : c.state_mut-graph.result.now ≡ x = c.state_mut-graph.ensures.value ∙ e.graph in
     let places : length x.homes.keys ≡ (blocks x.table).count = (subst IsLeaseGraph found_is c.abstraction.ensures.lawful).key_places in
+    let room : rooms x.table ≡ room_after x.table.journal = subst (λ (z : GraphValue). rooms z.table ≡ room_after z.table.journal) found_is c.abstraction.ensures.room in
     let k = c.in-Kept.kept in
     let q : Renewed = Kept k in
     let s = c.in-Kept.ensures in
     let r : RenewsAs l q x y = subst (λ (z : GraphValue). RenewsAs l q z y) found_is
     (renews_as c.state_mut-graph.result.now y l q s.kept s.given s.first s.kept_moment s.given_moment) in
-    let may = may_switch x y w p.is_live is_last read_at l q c.requires.cause places b r in
+    let may = may_switch x y w p.is_live is_last read_at l q c.requires.cause places room b r in
     read_keeps f y v o p.is_live (λ _. renewal_events l q) (λ _. kept_by q) (λ _. None) may _ e.view (number c.try_enter_reading.new.turn)
 
 pub invariant_of-pass-in-Kept-clause-seen_is : goal.invariant_of-pass-in-Kept-clause-seen_is
@@ -83,12 +85,13 @@ invariant_of-pass-in-Kept-clause-seen_is c =
     let read_at : w.read_at ≡ Some (length x.table.journal) = ap (λ (l : List Event). Some (length l)) (sym (bounded_journal f o)) in
     let found_is : c.state_mut-graph.result.now ≡ x = c.state_mut-graph.ensures.value ∙ e.graph in
     let places : length x.homes.keys ≡ (blocks x.table).count = (subst IsLeaseGraph found_is c.abstraction.ensures.lawful).key_places in
+    let room : rooms x.table ≡ room_after x.table.journal = subst (λ (z : GraphValue). rooms z.table ≡ room_after z.table.journal) found_is c.abstraction.ensures.room in
     let k = c.in-Kept.kept in
     let q : Renewed = Kept k in
     let s = c.in-Kept.ensures in
     let r : RenewsAs l q x y = subst (λ (z : GraphValue). RenewsAs l q z y) found_is
     (renews_as c.state_mut-graph.result.now y l q s.kept s.given s.first s.kept_moment s.given_moment) in
-    let may = may_switch x y w p.is_live is_last read_at l q c.requires.cause places b r in
+    let may = may_switch x y w p.is_live is_last read_at l q c.requires.cause places room b r in
     read_seen f y v o p.is_live (λ _. renewal_events l q) (λ _. kept_by q) (λ _. None) may _ e.view (view c.leave.new.pass) c.leave.ensures.view (number p.turn) e.rule
     ∙ ap length (ap (λ (z : GraphValue). z.table.journal) (sym c.state.ensures) ∙ sym c.journal.ensures.events)
 
@@ -108,12 +111,13 @@ returns-in-Kept-clause-kept c kept same =
     let read_at : w.read_at ≡ Some (length x.table.journal) = ap (λ (l : List Event). Some (length l)) (sym (bounded_journal f o)) in
     let found_is : c.state_mut-graph.result.now ≡ x = c.state_mut-graph.ensures.value ∙ e.graph in
     let places : length x.homes.keys ≡ (blocks x.table).count = (subst IsLeaseGraph found_is c.abstraction.ensures.lawful).key_places in
+    let room : rooms x.table ≡ room_after x.table.journal = subst (λ (z : GraphValue). rooms z.table ≡ room_after z.table.journal) found_is c.abstraction.ensures.room in
     let k = c.in-Kept.kept in
     let q : Renewed = Kept k in
     let s = c.in-Kept.ensures in
     let r : RenewsAs l q x y = subst (λ (z : GraphValue). RenewsAs l q z y) found_is
     (renews_as c.state_mut-graph.result.now y l q s.kept s.given s.first s.kept_moment s.given_moment) in
-    let may = may_switch x y w p.is_live is_last read_at l q c.requires.cause places b r in
+    let may = may_switch x y w p.is_live is_last read_at l q c.requires.cause places room b r in
     subst (λ (h : LeaseValue). Renews l v (Kept h) (view c.leave.new.pass)) (kept_same k kept same)
     (read_holds f y v o p.is_live (λ _. renewal_events l q) (λ _. kept_by q) (λ _. None) may _ e.view (view c.leave.new.pass) c.leave.ensures.view (number p.turn) e.rule e.falls.0 (RenewsAs l q) r)
 
@@ -133,10 +137,11 @@ commit-held-requires-clause-rule c =
     let read_at : w.read_at ≡ Some (length x.table.journal) = ap (λ (l : List Event). Some (length l)) (sym (bounded_journal f o)) in
     let found_is : c.state_mut-graph.result.now ≡ x = c.state_mut-graph.ensures.value ∙ e.graph in
     let places : length x.homes.keys ≡ (blocks x.table).count = (subst IsLeaseGraph found_is c.abstraction.ensures.lawful).key_places in
+    let room : rooms x.table ≡ room_after x.table.journal = subst (λ (z : GraphValue). rooms z.table ≡ room_after z.table.journal) found_is c.abstraction.ensures.room in
     let s = c.in-Given.ensures in
     let r : RenewsAs l Given x y = subst (λ (z : GraphValue). RenewsAs l Given z y) found_is
     (renews_as c.state_mut-graph.result.now y l Given s.kept s.given s.first s.kept_moment s.given_moment) in
-    let may = may_switch x y w p.is_live is_last read_at l Given c.requires.cause places b r in
+    let may = may_switch x y w p.is_live is_last read_at l Given c.requires.cause places room b r in
     read_keeps f y v o p.is_live (λ _. renewal_events l Given) (λ _. None) (λ _. None) may _ e.view (number c.try_enter_reading.new.turn)
 
 pub lease-reply-requires-clause-worker : goal.lease-reply-requires-clause-worker
@@ -301,11 +306,12 @@ returns-in-Given-clause-gave c reply same =
     let read_at : w.read_at ≡ Some (length x.table.journal) = ap (λ (l : List Event). Some (length l)) (sym (bounded_journal f o)) in
     let found_is : c.state_mut-graph.result.now ≡ x = c.state_mut-graph.ensures.value ∙ e.graph in
     let places : length x.homes.keys ≡ (blocks x.table).count = (subst IsLeaseGraph found_is c.abstraction.ensures.lawful).key_places in
+    let room : rooms x.table ≡ room_after x.table.journal = subst (λ (z : GraphValue). rooms z.table ≡ room_after z.table.journal) found_is c.abstraction.ensures.room in
     let stands : Stands Fact (number p.turn) w f = subst (λ (u : View). Stands Fact (number p.turn) u f) e.view e.rule in
     let s = c.in-Given.ensures in
     let r : RenewsAs l Given x y = subst (λ (z : GraphValue). RenewsAs l Given z y) found_is
     (renews_as c.state_mut-graph.result.now y l Given s.kept s.given s.first s.kept_moment s.given_moment) in
-    let may = may_switch x y w p.is_live is_last read_at l Given c.requires.cause places b r in
+    let may = may_switch x y w p.is_live is_last read_at l Given c.requires.cause places room b r in
     let mid = view_left f y None None w in
     let committed : view c.commit-held.new.pass ≡ mid = c.commit-held.ensures.view ∙ ap (λ (u : View). view_left f y None None u) e.view in
     let i = c.read_on-held.ensures in
