@@ -21,6 +21,7 @@
 //! time and of wall time, the peak memory in KiB, and the status.
 mod best_first;
 mod hash_distributed;
+mod letters;
 mod spaces;
 mod tight;
 

@@ -5,6 +5,7 @@
 // ground actions there are. Of atoms it counts those alone that an action, the start or the goal
 // names; at most 1,024 may be. A state has 4 words if they suffice, and else 16. With a number of
 // threads the search is a hash-distributed A* (strips_owners.rs).
+mod letters;
 mod strips_owners;
 
 use std::cmp::Reverse;
