@@ -9,3 +9,5 @@ mod held;
 mod leased;
 #[cfg(test)]
 mod unread;
+#[cfg(test)]
+mod waiting;
