@@ -12,7 +12,7 @@ use Rattle.pb_check.specs.declared.fault.CheckError.TheVariants as errors
 use Rattle.pb_check.specs.declared.fault.Verdict.{Verdict}
 use Rattle.pb_check.specs.Faults.{◌>>=◌, Fails}
 use Rattle.pb_check.specs.Reading.{Text}
-use Rattle.pb_check.specs.Judging.{passes, unless, same_kind, width_fault, stated_fault, is_weight, plan_fault_if_any, rows_order_fault, first_fault_by, state_fault, row_fault, verdict_of, start_judged, judged, judged_head, judged_before}
+use Rattle.pb_check.specs.Judging.{passes, unless, same_kind, width_fault, stated_fault, is_weight, rows_order_fault, first_fault_by, state_fault, row_fault, verdict_of, start_judged, judged, judged_head, judged_before}
 
 -- a step before both is a step before the first
 over : (step first : Result Bool CertificateFault) (then whole : Result Verdict CertificateFault) → whole ≡ (first >>= λ x. then) → (step >>= λ x. whole) ≡ ((step >>= λ x. first) >>= λ x. then)

@@ -20,6 +20,7 @@ mod Before
 mod Firsts
 mod RowTests
 mod Shares
+mod LastShare
 mod FirstLines
 mod FirstUnspelled
 mod CaseOf

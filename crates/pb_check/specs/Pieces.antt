@@ -92,3 +92,11 @@ pub record IsOfWorkers (piece workers low high place : ℕ) : Type 0 where
   pub of : (low ≤ worker) × (worker < high)
   pub within : rest < piece
   pub is : place ≡ (worker + turn * workers) * piece + rest
+
+-- fewer rows aren't worth a thread of their own
+abbrev pub rows_a_thread : ℕ
+rows_a_thread = 1024
+
+-- nor are fewer bytes of text
+abbrev pub bytes_a_thread : ℕ
+bytes_a_thread = 65536

@@ -95,25 +95,6 @@ fn states_of(width: u32) -> usize {
     }
 }
 
-/// How many line feeds a text has. They are counted in parts whose numbers fit a byte, since many
-/// bytes are then compared and added at once.
-pub fn count_feeds(text: &[u8]) -> usize {
-    let mut count: usize = 0;
-    for part in text.chunks(128) {
-        count = count.saturating_add(usize::from(count_few_feeds(part)));
-    }
-    count
-}
-
-// How many line feeds a text of fewer than 256 bytes has.
-fn count_few_feeds(text: &[u8]) -> u8 {
-    let mut count: u8 = 0;
-    for byte in text {
-        count = count.wrapping_add(u8::from(*byte == b'\n'));
-    }
-    count
-}
-
 /// Room for the rows of a text that are kept, by the text's line feeds. A row's line has a line
 /// feed, and at least seven bytes besides its state's digits. Of the rows that rise each has a
 /// state of its own, and one more row is kept.

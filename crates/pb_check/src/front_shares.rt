@@ -8,8 +8,10 @@ ghost use Rattle.pb_check.specs.Reading.{text_of};
 ghost use Rattle.pb_check.specs.Kept.{IsSpelledAs, GivesKept};
 
 use crate::fault::CheckError;
-use crate::front::{Spelled, count_feeds, room_by, spell};
+use crate::feeds::{count_feeds, count_feeds_by};
+use crate::front::{Spelled, room_by, spell};
 use crate::reading::{front_at, text_by};
+use crate::sharing::{BYTES_A_THREAD, workers_for};
 use crate::stated::StatedText;
 use pb_lines::part;
 use std::alloc::{AllocError, Global};
@@ -46,34 +48,6 @@ fn last_share(long: usize, piece: u64, shares: u64) -> usize
     let pieces = all.div_ceil(piece);
     let before = pieces - pieces / shares;
     before.saturating_mul(piece).min(all) as usize
-}
-
-// How many line feeds a text has, counted by so many workers, each in a thread of its own.
-// A short text is counted by one: a thread would cost more.
-fn count_feeds_by_shares<R: Threads + Sync>(rt: &R, text: &[u8], shares: u64) -> usize {
-    if shares < 2 || text.len() < 65536 {
-        return count_feeds(text);
-    }
-    let share = text.len() as u64 / shares;
-    let (front, back) = text.split_at(text.len() - share as usize);
-    let (one, other) = join(
-        rt,
-        || -> usize
-            requires { IsSync R.row × (2 ≤ shares) }
-        { count_feeds_by_shares(rt, front, shares - 1) },
-        || -> usize { count_feeds(back) },
-    );
-    one.saturating_add(other)
-}
-
-/// How many rows a piece has, so that each of so many workers gets at most one piece. No
-/// certificate has more rows than line feeds.
-pub fn piece_for<R: Threads + Sync>(rt: &R, bytes: &[u8], workers: u64) -> u64
-    requires { 1 ≤ workers }
-    ensures { 1 ≤ result }
-{
-    let lines = count_feeds_by_shares(rt, bytes, workers) as u64;
-    lines.div_ceil(workers).max(1)
 }
 
 // What was found in two parts of a text, the first of which ends with a line.
@@ -151,13 +125,14 @@ pub fn spell_shares<R: Threads + Sync>(
 }
 
 /// What the bytes say, with the rows that are kept, or their first line that is not spelled as it
-/// must be. The rows are spelled in pieces of so many bytes, by so many workers.
+/// must be. The rows are spelled in pieces of so many bytes, by so many workers, but by fewer if
+/// their text is short.
 pub fn text_by_shares<'a, R: Threads + Sync>(
     rt: &R,
     alloc: Global,
     bytes: &'a [u8],
     piece: u64,
-    shares: u64,
+    workers: u64,
 ) -> Result<StatedText<'a>, CheckError>
     requires bytes { length bytes.now < 2 ^ 63 }
     requires piece { 1 ≤ piece }
@@ -166,7 +141,8 @@ pub fn text_by_shares<'a, R: Threads + Sync>(
 {
     let (front, rest) = front_at(bytes)?;
     let width = front.spelling.width;
-    let room = room_by(count_feeds_by_shares(rt, rest, shares), width, rest);
+    let room = room_by(count_feeds_by(rt, rest, workers), width, rest);
+    let shares = workers_for(rest.len() as u64, BYTES_A_THREAD, workers);
     let spelled = spell_shares(rt, alloc, width, rest, room, piece, shares)?;
     text_by(front, rest, spelled)
 }

@@ -8,6 +8,7 @@
 mod actions;
 mod checker;
 mod fault;
+mod feeds;
 mod found;
 mod front;
 mod front_shares;
@@ -25,12 +26,13 @@ mod row_faults;
 mod row_lines;
 mod row_tests;
 mod rows;
+mod sharing;
 mod stated;
 mod words;
 
 pub use checker::check;
 pub use fault::{CertificateFault, CheckError, Claim, Verdict};
-pub use front_shares::piece_for;
+pub use feeds::piece_for;
 pub use heads::stated_choice;
 pub use laws::{
     bounds_are_least, cases_are_refused, cut_certificates_are_refused, read_as_spelled,

@@ -1,6 +1,7 @@
 //! Checking with the rows spelled and judged in pieces, by several workers at once.
 ghost use Rattle.std.specs.Thread.{IsSync};
-ghost use Rattle.std.specs.Prelude.{◌≡◌, ◌≤◌, ◌+◌, ◌-◌, ◌*◌, ◌/◌, ◌%◌, ◌<◌, ◌^◌, All, length, IsTrue, true, None, IfOk, Ok, Err, ℕ};
+ghost use Rattle.std.specs.Prelude.{◌≡◌, ◌≤◌, ◌+◌, ◌-◌, ◌*◌, ◌/◌, ◌%◌, ◌<◌, ◌^◌, All, length, IsTrue, true, None, IfOk, Ok, Err, ℕ, min, max};
+ghost use Rattle.std.specs.Int.{div_ceil};
 ghost use Rattle.pb_model.specs.Certificate.{Line, cost_of};
 ghost use Rattle.pb_task.specs.Parts.{space_of, IsTask};
 ghost use Rattle.pb_estimate.specs.Estimates.{estimate_by, suits};
@@ -238,8 +239,19 @@ fn judge_shares<R: Threads + Sync, G: Gate>(
     Ok(earlier(one?, other?))
 }
 
+// How many of so many workers have a piece of so many rows to judge, and at least one.
+fn workers_with_pieces(rows: &StatedRows, piece: u64, workers: usize) -> usize
+    requires piece { 1 ≤ piece }
+    requires workers { 1 ≤ workers }
+    ensures one { 1 ≤ result }
+    ensures exact { result ≡ max 1 (min workers (div_ceil (length rows.now) piece)) }
+{
+    let pieces = (rows.len() as u64).div_ceil(piece);
+    1usize.max(workers.min(pieces as usize))
+}
+
 // The first fault of the rows, judged in pieces of so many by as many workers as there are
-// estimators, each in a thread of its own.
+// estimators, each in a thread of its own. Those without a piece get no thread.
 fn rows_fault_by_pieces<R: Threads + Sync, G: Gate>(
     rt: &R,
     alloc: Global,
@@ -266,9 +278,22 @@ fn rows_fault_by_pieces<R: Threads + Sync, G: Gate>(
         (record { num = weight.now.num; den = weight.now.den }) best rows.now) line rows.now) }
     ensures task { All (λ e. IsOfTask e task.now choice.now) estimators.new }
 {
-    let workers = estimators.len() as u64;
+    let workers = workers_with_pieces(rows, piece, estimators.len());
+    let (busy, _) = estimators.split_at_mut(workers);
     let found = judge_shares(
-        rt, alloc, gate, task, estimators, choice, weight, best, rows, line, piece, 0, workers,
+        rt,
+        alloc,
+        gate,
+        task,
+        busy,
+        choice,
+        weight,
+        best,
+        rows,
+        line,
+        piece,
+        0,
+        workers as u64,
     )?;
     match found {
         Some(found) => Ok(Some(found.fault)),

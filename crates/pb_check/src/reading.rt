@@ -10,7 +10,8 @@ ghost use Rattle.pb_check.specs.Kept.{IsSpelledAs, GivesKept};
 
 use crate::actions::actions_at;
 use crate::fault::{CertificateFault, CheckError};
-use crate::front::{Spelled, count_feeds, room_by, spell};
+use crate::feeds::count_feeds;
+use crate::front::{Spelled, room_by, spell};
 use crate::heads::head_at;
 use crate::kept::KeptRows;
 use crate::line::{fixed_at, line_at, number_at, number_behind, weight_in};

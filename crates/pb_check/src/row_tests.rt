@@ -1,15 +1,16 @@
 //! The order of the rows and their states, tested by several workers at once.
 ghost use Rattle.std.specs.Thread.{IsSync};
-ghost use Rattle.std.specs.Prelude.{◌≡◌, ◌≤◌, ◌+◌, ◌<◌, ◌^◌, None, length};
+ghost use Rattle.std.specs.Prelude.{◌≡◌, ◌≤◌, ◌+◌, ◌-◌, ◌*◌, ◌<◌, ◌^◌, None, length};
 ghost use Rattle.pb_task.specs.Parts.{space_of};
 ghost use Rattle.pb_check.specs.declared.row_tests.RowTest.TheVariants.{Order, State};
 ghost use Rattle.pb_check.specs.Judging.{unless, rows_order_fault, first_fault_by, state_fault, Rise};
-ghost use Rattle.pb_check.specs.Pieces.{IsFirstIn, order_fault_at, state_fault_at, tested_at, first_tested, found_of, IsBetween};
+ghost use Rattle.pb_check.specs.Pieces.{IsFirstIn, order_fault_at, state_fault_at, tested_at, first_tested, found_of, IsBetween, rows_a_thread};
 
 use crate::fault::CertificateFault;
 use crate::found::{Found, earlier};
 use crate::passing::unless;
 use crate::rows::StatedRows;
+use crate::sharing::{ROWS_A_THREAD, last_share, workers_for};
 use pb_task::Task;
 use std::thread::{Threads, join};
 
@@ -91,18 +92,8 @@ fn test_share(
     None
 }
 
-// Where the last of so many shares of these places begins. The others have as many places each.
-fn last_share(from: u64, to: u64, shares: u64) -> u64
-    requires range { from ≤ to }
-    requires shares { 1 ≤ shares }
-    ensures least { from ≤ result }
-    ensures most { result ≤ to }
-{
-    to - (to - from) / shares
-}
-
 // The same by so many workers, each in a thread of its own. Each has one share of the rows, and the
-// earliest place decides. Few rows are tested by one: a thread would cost more.
+// earliest place decides. A share has rows enough for a thread.
 fn test_shares<R: Threads + Sync>(
     rt: &R,
     test: RowTest,
@@ -116,10 +107,11 @@ fn test_shares<R: Threads + Sync>(
     requires range { from ≤ to }
     requires inside { to ≤ length rows.now }
     requires lines { line + length rows.now < 2 ^ 64 }
+    requires worth { 2 ≤ shares → shares * rows_a_thread ≤ to - from }
     ensures { IsFirstIn (tested_at test task.now line rows.now) (length rows.now)
         (IsBetween from to) (found_of result) }
 {
-    if shares < 2 || to - from < 1024 {
+    if shares < 2 {
         return test_share(test, task, rows, line, from, to);
     }
     let middle = last_share(from, to, shares);
@@ -127,13 +119,14 @@ fn test_shares<R: Threads + Sync>(
         rt,
         || -> Option<Found>
             requires { IsSync R.row × (from ≤ middle) × (middle ≤ length rows.now)
-                × (line + length rows.now < 2 ^ 64) × (2 ≤ shares) }
+                × (line + length rows.now < 2 ^ 64) × (2 ≤ shares)
+                × ((shares - 1) * rows_a_thread ≤ middle - from) }
             ensures { IsFirstIn (tested_at test task.entry.now line rows.entry.now)
                 (length rows.entry.now) (IsBetween from middle) (found_of result) }
         { test_shares(rt, test, task, rows, line, from, middle, shares - 1) },
         || -> Option<Found>
             requires { (middle ≤ to) × (to ≤ length rows.now)
-                × (line + length rows.now < 2 ^ 64) }
+                × (line + length rows.now < 2 ^ 64) × (rows_a_thread ≤ to - middle) }
             ensures { IsFirstIn (tested_at test task.entry.now line rows.entry.now)
                 (length rows.entry.now) (IsBetween middle to) (found_of result) }
         { test_share(test, task, rows, line, middle, to) },
@@ -141,19 +134,21 @@ fn test_shares<R: Threads + Sync>(
     earlier(one, other)
 }
 
-// The first fault by this test of all rows, by so many workers.
+// The first fault by this test of all rows, by so many workers, but by fewer if there are few rows.
 fn first_by_shares<R: Threads + Sync>(
     rt: &R,
     test: RowTest,
     task: &Task,
     line: u64,
     rows: &StatedRows,
-    shares: u64,
+    workers: u64,
 ) -> Option<CertificateFault>
     requires { line + length rows.now < 2 ^ 64 }
     ensures { result ≡ first_tested test task.now line rows.now }
 {
-    match test_shares(rt, test, task, rows, line, 0, rows.len() as u64, shares) {
+    let count = rows.len() as u64;
+    let shares = workers_for(count, ROWS_A_THREAD, workers);
+    match test_shares(rt, test, task, rows, line, 0, count, shares) {
         Some(found) => Some(found.fault),
         None => None,
     }
@@ -166,13 +161,13 @@ pub fn order_fault_by_shares<R: Threads + Sync>(
     task: &Task,
     line: u64,
     rows: &StatedRows,
-    shares: u64,
+    workers: u64,
 ) -> Option<CertificateFault>
     requires { line + length rows.now < 2 ^ 64 }
     ensures fault { result ≡ rows_order_fault line rows.now }
     ensures rises { result ≡ None → Rise rows.now }
 {
-    first_by_shares(rt, RowTest::Order, task, line, rows, shares)
+    first_by_shares(rt, RowTest::Order, task, line, rows, workers)
 }
 
 /// The first row whose state is no state of the task. The rows are tested by so many workers.
@@ -181,10 +176,10 @@ pub fn states_fault_by_shares<R: Threads + Sync>(
     task: &Task,
     line: u64,
     rows: &StatedRows,
-    shares: u64,
+    workers: u64,
 ) -> Option<CertificateFault>
     requires { line + length rows.now < 2 ^ 64 }
     ensures { result ≡ first_fault_by (state_fault (space_of task.now)) line rows.now }
 {
-    first_by_shares(rt, RowTest::State, task, line, rows, shares)
+    first_by_shares(rt, RowTest::State, task, line, rows, workers)
 }

@@ -52,8 +52,8 @@ fn code_of_fault(fault: CertificateFault) -> (u32, u64, u128) {
     }
 }
 
-// An answer as numbers.
-fn code_of(answer: Result<Verdict, CheckError>) -> (u32, u64, u128) {
+/// An answer as numbers.
+pub fn code_of(answer: Result<Verdict, CheckError>) -> (u32, u64, u128) {
     match answer {
         Ok(verdict) => match verdict.claim() {
             Claim::Bounded { cost, bound } => (0, cost, u128::from(bound)),
@@ -64,19 +64,24 @@ fn code_of(answer: Result<Verdict, CheckError>) -> (u32, u64, u128) {
     }
 }
 
-// The answer of the checker that waits for nobody.
-fn answer_alone(alloc: Global, bytes: &[u8]) -> Result<Verdict, CheckError> {
+/// The answer of the checker that waits for nobody.
+pub fn answer_alone(alloc: Global, bytes: &[u8]) -> Result<Verdict, CheckError> {
     let task = open_square(alloc)?;
     let choice = stated_choice(bytes);
     let mut estimator = Estimator::of(alloc, &task, &choice)?;
     check(alloc, &task, &mut estimator, bytes)
 }
 
-// Whether so many workers say the same of a certificate by pieces of each size.
-fn is_alike<R: Threads + Sync>(rt: &R, alloc: Global, bytes: &[u8], workers: u64) -> bool
+// Whether so many workers say this of a certificate by pieces of each size.
+fn is_said<R: Threads + Sync>(
+    rt: &R,
+    alloc: Global,
+    bytes: &[u8],
+    workers: u64,
+    wanted: (u32, u64, u128),
+) -> bool
     requires { 1 ≤ workers }
 {
-    let wanted = code_of(answer_alone(alloc, bytes));
     code_of(answer(rt, alloc, bytes, workers, 1, &OpenGate)) == wanted
         && code_of(answer(rt, alloc, bytes, workers, 2, &OpenGate)) == wanted
         && code_of(answer(rt, alloc, bytes, workers, 7, &OpenGate)) == wanted
@@ -94,11 +99,12 @@ fn change_is_alike<R: Threads + Sync>(
     if at < bytes.len() {
         bytes[at] = new;
     }
+    let wanted = code_of(answer_alone(alloc, &bytes));
     Ok(
-        is_alike(rt, alloc, &bytes, 1)
-            && is_alike(rt, alloc, &bytes, 2)
-            && is_alike(rt, alloc, &bytes, 3)
-            && is_alike(rt, alloc, &bytes, 4),
+        is_said(rt, alloc, &bytes, 1, wanted)
+            && is_said(rt, alloc, &bytes, 2, wanted)
+            && is_said(rt, alloc, &bytes, 3, wanted)
+            && is_said(rt, alloc, &bytes, 4, wanted),
     )
 }
 

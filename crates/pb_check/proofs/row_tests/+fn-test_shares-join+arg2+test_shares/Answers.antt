@@ -12,4 +12,4 @@ returns g t c =
     let one : IsFirstIn fault many (IsBetween c.args.from middle) (found_of c.join-one.result.0) = search rules in
     let other : IsFirstIn fault many (IsBetween middle c.args.to) (found_of c.join-one.result.1) = search rules in
     subst (IsFirstIn fault many (IsBetween c.args.from c.args.to)) (sym c.earlier.ensures)
-    (first_of_both fault many c.args.from middle c.args.to (found_of c.join-one.result.0) (found_of c.join-one.result.1) c.last_share-middle.ensures.least c.last_share-middle.ensures.most one other)
+    (first_of_both fault many c.args.from middle c.args.to (found_of c.join-one.result.0) (found_of c.join-one.result.1) c.last_share-middle.ensures.from c.last_share-middle.ensures.to one other)

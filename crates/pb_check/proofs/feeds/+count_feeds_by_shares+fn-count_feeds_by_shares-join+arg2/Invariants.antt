@@ -1,5 +1,5 @@
 use Rattle.std.proofs.Common.{◌-◌, ◌*◌}
-use Rattle.pb_check.proofs.front_shares.+count_feeds_by_shares+fn-count_feeds_by_shares-join+arg2.Given as goal
+use Rattle.pb_check.proofs.feeds.+count_feeds_by_shares+fn-count_feeds_by_shares-join+arg2.Given as goal
 
 abbrev pub decreases-join+arg2 : goal.decreases-join+arg2
 decreases-join+arg2 g l = 2 * l.shares - 1
