@@ -1,0 +1,274 @@
+//! Tables and traps of what was found.
+ghost use Rattle.std.specs.Prelude.{◌≡◌, ◌≤◌, ◌<◌, ◌*◌, ◌^◌, All, IfOk, IfSome, IsTrue, length};
+ghost use Rattle.pb_tables.specs.Tables.{IsTable};
+
+use crate::costs::UNKNOWN;
+use crate::images::Images;
+use crate::numbers::{at, narrow, with};
+use crate::partitioning::{Alone, Sum};
+use crate::variables::Variables;
+use pb_packed::Packed;
+use pb_tables::{Table, Trap};
+use std::alloc::{AllocError, Global};
+
+// The greatest value of a table.
+const MOST_VALUE: u64 = 1 << 40;
+
+/// How many tables there are at most, and how many traps.
+pub const MOST_TABLES: usize = 4096;
+
+// An image of a pattern: the atoms that hold, and its number.
+#[derive(Clone, Copy)]
+struct Listed {
+    set: Packed,
+    image: u32,
+}
+
+// The atoms of a pattern.
+fn tracked_of(variables: &Variables, images: &Images) -> Packed {
+    let mut tracked = Packed::zero();
+    for field in images.operators.fields.as_slice() {
+        tracked = with_all(tracked, variables.atoms.at(field.variable as usize));
+    }
+    tracked
+}
+
+// A set with some atoms more.
+fn with_all(set: Packed, atoms: &[u32]) -> Packed {
+    let mut set = set;
+    for atom in atoms {
+        set = with(&set, *atom);
+    }
+    set
+}
+
+// A set with the atom of a value, which counts from 1.
+fn with_value(set: Packed, atoms: &[u32], value: u64) -> Packed {
+    if value == 0 {
+        return set;
+    }
+    let place = (value - 1) as usize;
+    if place < atoms.len() {
+        with(&set, atoms[place])
+    } else {
+        set
+    }
+}
+
+// The atoms that hold in an image.
+fn set_of(variables: &Variables, images: &Images, code: u64) -> Packed {
+    let mut set = Packed::zero();
+    for field in images.operators.fields.as_slice() {
+        let atoms = variables.atoms.at(field.variable as usize);
+        set = with_value(set, atoms, field.value(code));
+    }
+    set
+}
+
+// The images in ascending order of their sets.
+fn listed_of(
+    alloc: Global,
+    variables: &Variables,
+    images: &Images,
+) -> Result<Vec<Listed>, AllocError> {
+    let mut listed = Vec::new(alloc);
+    for image in 0..images.len() {
+        listed.push(Listed {
+            set: set_of(variables, images, images.code(image)),
+            image: narrow(image),
+        })?;
+    }
+    listed.sort_unstable_by_key(|entry| entry.set);
+    Ok(listed)
+}
+
+// The sets of images.
+fn sets_of(alloc: Global, listed: &[Listed]) -> Result<Vec<Packed>, AllocError> {
+    let mut sets = Vec::new(alloc);
+    for entry in listed {
+        sets.push(entry.set)?;
+    }
+    Ok(sets)
+}
+
+// Adds the values of an image, one for each sum.
+fn push_values(
+    values: &mut Vec<u64>,
+    sums: &[Sum],
+    number: usize,
+    image: usize,
+) -> Result<(), AllocError> {
+    for sum in sums {
+        let value = if number < sum.values.len() {
+            at(&sum.values[number], image)
+        } else {
+            0
+        };
+        values.push(value)?;
+    }
+    Ok(())
+}
+
+// The values of images.
+fn values_of(
+    alloc: Global,
+    sums: &[Sum],
+    number: usize,
+    listed: &[Listed],
+) -> Result<Vec<u64>, AllocError> {
+    let mut values = Vec::new(alloc);
+    for entry in listed {
+        push_values(&mut values, sums, number, entry.image as usize)?;
+    }
+    Ok(values)
+}
+
+// Whether all values are such as a table may have.
+fn are_small(values: &[u64]) -> bool
+    ensures { IsTrue result → All (λ value. value ≤ 2 ^ 40) values.now }
+{
+    values.iter().all(|value| *value <= MOST_VALUE)
+}
+
+// A table, if it has a value for each image and sum and all are small enough.
+fn table_if_lawful(
+    sums: usize,
+    tracked: Packed,
+    listed: Vec<Packed>,
+    values: Vec<u64>,
+) -> Option<Table>
+    ensures { IfSome result (λ table. IsTable sums table) }
+{
+    let count = listed.len().checked_mul(sums)?;
+    if values.len() == count && are_small(&values) {
+        Some(Table::of(tracked, listed, values))
+    } else {
+        None
+    }
+}
+
+/// The table of a pattern, if it is lawful.
+pub fn table_of(
+    alloc: Global,
+    variables: &Variables,
+    images: &Images,
+    sums: &[Sum],
+    number: usize,
+) -> Result<Option<Table>, AllocError>
+    ensures { IfOk result (λ found. IfSome found (λ table. IsTable (length sums.now) table)) }
+{
+    let listed = listed_of(alloc, variables, images)?;
+    let values = values_of(alloc, sums, number, &listed)?;
+    let sets = sets_of(alloc, &listed)?;
+    Ok(table_if_lawful(sums.len(), tracked_of(variables, images), sets, values))
+}
+
+// The images from which no goal is reached.
+fn trapped_of(alloc: Global, listed: &[Listed], alone: &[u64]) -> Result<Vec<Packed>, AllocError> {
+    let mut trapped = Vec::new(alloc);
+    for entry in listed {
+        if at(alone, entry.image as usize) >= UNKNOWN {
+            trapped.push(entry.set)?;
+        }
+    }
+    Ok(trapped)
+}
+
+/// The trap of a pattern: its images from which no goal is reached. None if there are none.
+pub fn trap_of(
+    alloc: Global,
+    variables: &Variables,
+    images: &Images,
+    alone: &[u64],
+) -> Result<Option<Trap>, AllocError> {
+    let listed = listed_of(alloc, variables, images)?;
+    let trapped = trapped_of(alloc, &listed, alone)?;
+    if trapped.is_empty() {
+        return Ok(None);
+    }
+    Ok(Some(Trap::of(tracked_of(variables, images), trapped)))
+}
+
+// ---- all of them
+
+// Whether a pattern has a value in some sum.
+fn is_used(sums: &[Sum], number: usize) -> bool {
+    for sum in sums {
+        if number < sum.values.len() && !sum.values[number].is_empty() {
+            return true;
+        }
+    }
+    false
+}
+
+// Adds a table that has values for so many sums.
+fn put(tables: &mut Vec<Table>, sums: usize, table: Table) -> Result<(), AllocError>
+    requires tables { All (IsTable sums) tables.old.items }
+    requires table { IsTable sums table }
+    ensures { All (IsTable sums) tables.new.items }
+{
+    let _ = sums;
+    tables.push(table)?;
+    Ok(())
+}
+
+// Adds the table of a pattern that has a value in some sum.
+fn push_table(
+    alloc: Global,
+    variables: &Variables,
+    images: &Images,
+    sums: &[Sum],
+    number: usize,
+    tables: &mut Vec<Table>,
+) -> Result<(), AllocError>
+    requires tables { All (IsTable (length sums.now)) tables.old.items }
+    ensures tables { All (IsTable (length sums.now)) tables.new.items }
+{
+    if !is_used(sums, number) || tables.len() >= MOST_TABLES {
+        return Ok(());
+    }
+    if let Some(table) = table_of(alloc, variables, images, sums, number)? {
+        put(tables, sums.len(), table)?;
+    }
+    Ok(())
+}
+
+/// The tables of all patterns that have a value in some sum.
+pub fn tables_of(
+    alloc: Global,
+    variables: &Variables,
+    patterns: &[Images],
+    sums: &[Sum],
+) -> Result<Vec<Table>, AllocError>
+    ensures { IfOk result (λ tables. All (IsTable (length sums.now)) tables.items) }
+{
+    let mut tables = Vec::new(alloc);
+    for number in 0..patterns.len() {
+        push_table(
+            alloc,
+            variables,
+            &patterns[number],
+            sums,
+            number,
+            &mut tables,
+        )?;
+    }
+    Ok(tables)
+}
+
+/// The traps of all patterns that have one.
+pub fn traps_of(
+    alloc: Global,
+    variables: &Variables,
+    patterns: &[Images],
+    alone: &Alone,
+) -> Result<Vec<Trap>, AllocError> {
+    let mut traps = Vec::new(alloc);
+    for number in 0..patterns.len().min(alone.values.len()) {
+        let found = trap_of(alloc, variables, &patterns[number], &alone.values[number])?;
+        if let Some(trap) = found {
+            traps.push(trap)?;
+        }
+    }
+    Ok(traps)
+}
