@@ -3,6 +3,7 @@ mod Agreeing
 mod Finding
 mod Gathering
 mod Indexing
+mod Keeping
 mod Membership
 mod Once
 mod Products
@@ -10,3 +11,4 @@ mod Rising
 mod Rows
 mod Sorted
 mod Stepping
+mod WorkedRows

@@ -1,7 +1,7 @@
 -- Steps by atoms and by numbers.
 use Rattle.std.proofs.Common.{◌≡◌, ℕ, zero, suc, Bool, true, false, cond, not, ◌&&◌, ◌||◌, nat_eq, List, [], ◌∷◌, map, Option, Some, None, is_some, option_map, slice_get, refl, sym, ap, ◌∙◌}
 use Rattle.std.proofs.Math.Bool.{and-true}
-use Rattle.std.proofs.lemmas.Bool.{and_parts, or_parts, eqb-true, eq-eqb}
+use Rattle.std.proofs.lemmas.Bool.{and_parts, or_parts, eqb-true, eq-eqb, false≢true}
 use Rattle.std.proofs.lemmas.List.Folds.{list_any-append, list_all-append}
 use Rattle.std.proofs.lemmas.Slice.Eq.{bytes_eq-Decides}
 use Rattle.std.specs.List.{list_any, list_all, flat_map}
@@ -12,9 +12,18 @@ use Rattle.pb_lifted.specs.declared.lifted.Schema.{Schema}
 use Rattle.pb_ground.specs.declared.atoms.GroundAtom.{GroundAtom}
 use Rattle.pb_ground.specs.Actions.{numbers_of}
 use Rattle.pb_ground.specs.Atoms.{is_fluent, same_atom, grounded, number_in, atom_of, predicate_of, changed_by}
-use Rattle.pb_ground.specs.Statics.{is_initial, statics_hold}
+use Rattle.pb_ground.specs.Keeping.{IsKeeping, HoldsKept, KeptStepsCorrespond}
+use Rattle.pb_ground.specs.Statics.{is_initial, keep_all}
 use Rattle.pb_ground.proofs.Once.{number_list, repeated, any_once, all_once}
-use Rattle.pb_ground.specs.Steps.{Facts, Bits, all_grounded, is_in, facts_after, Packs, KeepsStatics, AreNumbered, Corresponds}
+use Rattle.pb_ground.specs.Steps.{Facts, Bits, all_grounded, is_in, facts_after, Packs, KeepsStatics, AreNumbered, KeptAreNumbered, StepsCorrespond}
+
+pub or_left : (one other : Bool) → one ≡ true → (one || other) ≡ true
+or_left true other e = refl
+or_left false other e = absurd (false≢true e)
+
+pub or_right : (one other : Bool) → other ≡ true → (one || other) ≡ true
+or_right true other e = refl
+or_right false other e = e
 
 -- atoms that are alike are the same
 pub one_atom : (f g : GroundAtom) → same_atom f g ≡ true → f ≡ g
@@ -79,24 +88,24 @@ pub numbers_alike : (f : GroundAtom) (atoms : List GroundAtom) (n : ℕ) (given 
 numbers_alike f atoms n given list e = any_once (nat_eq n) atoms given list ∙ all_alike f atoms n given list e
 
 -- one precondition
-one_holds : (lifted : Lifted) (atoms : List GroundAtom) (state : Facts) (bits : Bits) (given : List ℕ) (a : LiftedAtom) → Packs atoms state bits → KeepsStatics lifted state
-    → (is_fluent lifted a.predicate ≡ true → is_some (number_in (grounded given a) atoms) ≡ true)
-    → state (grounded given a) ≡ ((is_fluent lifted a.predicate || is_initial lifted (grounded given a)) && list_all bits (number_list (number_in (grounded given a) atoms)))
-one_holds lifted atoms state bits given a packs keeps numbered = at (is_fluent lifted a.predicate) (number_in (grounded given a) atoms) refl refl
+one_holds : (lifted : Lifted) (kept : Facts) (atoms : List GroundAtom) (state : Facts) (bits : Bits) (given : List ℕ) (a : LiftedAtom) → IsKeeping lifted kept → Packs atoms state bits
+    → KeepsStatics lifted state → HoldsKept kept state
+    → (is_fluent lifted a.predicate ≡ true → kept (grounded given a) ≡ true → is_some (number_in (grounded given a) atoms) ≡ true)
+    → state (grounded given a) ≡ (kept (grounded given a) && list_all bits (number_list (number_in (grounded given a) atoms)))
+one_holds lifted kept atoms state bits given a keeping packs keeps holds numbered = at (kept fact) (number_in fact atoms) (is_fluent lifted a.predicate) refl refl refl
   where
     fact : GroundAtom
     fact = grounded given a
 
-    thrice : (b c d : Bool) → c ≡ b → d ≡ b → b ≡ (c && (d && true))
-    thrice true c d e f = rw (e, f) refl
-    thrice false c d e f = rw e refl
+    not_held : (s k : Bool) → (s ≡ true → k ≡ true) → k ≡ false → s ≡ false
+    not_held true k h e = sym (h refl) ∙ e
+    not_held false k h e = refl
 
-    at : (f : Bool) (m : Option ℕ) → is_fluent lifted a.predicate ≡ f → number_in fact atoms ≡ m
-        → state fact ≡ ((f || is_initial lifted fact) && list_all bits (number_list m))
-    at true None p q = let bad : false ≡ true = ap is_some (sym q) ∙ numbered p in cc
-    at true (Some m) p q = sym (packs fact m q) ∙ sym (and-true (bits m))
-    at false None p q = keeps fact p ∙ sym (and-true (is_initial lifted fact))
-    at false (Some m) p q = thrice (state fact) (is_initial lifted fact) (bits m) (sym (keeps fact p)) (packs fact m q)
+    at : (k : Bool) (m : Option ℕ) (f : Bool) → kept fact ≡ k → number_in fact atoms ≡ m → is_fluent lifted a.predicate ≡ f → state fact ≡ (k && list_all bits (number_list m))
+    at false m f p q r = not_held (state fact) (kept fact) (holds fact) p
+    at true (Some m) f p q r = sym (packs fact m q) ∙ sym (and-true (bits m))
+    at true None true p q r = let bad : false ≡ true = ap is_some (sym q) ∙ numbered r p in cc
+    at true None false p q r = keeps fact r ∙ (sym (keeping.statics fact r) ∙ p)
 
 regroup : (t n s b : Bool) → ((t && n) && (s && b)) ≡ ((t && s) && (n && b))
 regroup true true s b = refl
@@ -104,26 +113,29 @@ regroup true false true b = refl
 regroup true false false b = refl
 regroup false n s b = refl
 
-repeated_hold : (lifted : Lifted) (atoms : List GroundAtom) (state : Facts) (bits : Bits) (given : List ℕ) (list : List LiftedAtom) → Packs atoms state bits → KeepsStatics lifted state
-    → AreNumbered lifted atoms given list → list_all state (all_grounded given list) ≡ (statics_hold lifted list given && list_all bits (repeated atoms given list))
-repeated_hold lifted atoms state bits given [] packs keeps numbered = refl
-repeated_hold lifted atoms state bits given (a ∷ list) packs keeps numbered =
-    let test = is_fluent lifted a.predicate || is_initial lifted (grounded given a) in
+repeated_hold : (lifted : Lifted) (kept : Facts) (atoms : List GroundAtom) (state : Facts) (bits : Bits) (given : List ℕ) (list : List LiftedAtom) → IsKeeping lifted kept → Packs atoms state bits
+    → KeepsStatics lifted state → HoldsKept kept state → KeptAreNumbered lifted kept atoms given list
+    → list_all state (all_grounded given list) ≡ (list_all kept (all_grounded given list) && list_all bits (repeated atoms given list))
+repeated_hold lifted kept atoms state bits given [] keeping packs keeps holds numbered = refl
+repeated_hold lifted kept atoms state bits given (a ∷ list) keeping packs keeps holds numbered =
+    let test = kept (grounded given a) in
     let here = list_all bits (number_list (number_in (grounded given a) atoms)) in
-    ap (λ b. b && list_all state (all_grounded given list)) (one_holds lifted atoms state bits given a packs keeps numbered.0)
-    ∙ (ap (λ b. (test && here) && b) (repeated_hold lifted atoms state bits given list packs keeps numbered.1)
-    ∙ (regroup test here (statics_hold lifted list given) (list_all bits (repeated atoms given list))
-    ∙ ap (λ b. (test && statics_hold lifted list given) && b) (sym (list_all-append bits (number_list (number_in (grounded given a) atoms)) (repeated atoms given list)))))
+    let rest = list_all kept (all_grounded given list) in
+    ap (λ b. b && list_all state (all_grounded given list)) (one_holds lifted kept atoms state bits given a keeping packs keeps holds numbered.0)
+    ∙ (ap (λ b. (test && here) && b) (repeated_hold lifted kept atoms state bits given list keeping packs keeps holds numbered.1)
+    ∙ (regroup test here rest (list_all bits (repeated atoms given list))
+    ∙ ap (λ b. (test && rest) && b) (sym (list_all-append bits (number_list (number_in (grounded given a) atoms)) (repeated atoms given list)))))
 
-all_hold : (lifted : Lifted) (atoms : List GroundAtom) (state : Facts) (bits : Bits) (given : List ℕ) (list : List LiftedAtom) → Packs atoms state bits → KeepsStatics lifted state
-    → AreNumbered lifted atoms given list → list_all state (all_grounded given list) ≡ (statics_hold lifted list given && list_all bits (numbers_of atoms given list))
-all_hold lifted atoms state bits given list packs keeps numbered =
-    repeated_hold lifted atoms state bits given list packs keeps numbered ∙ ap (λ b. statics_hold lifted list given && b) (sym (all_once bits atoms given list))
+all_hold : (lifted : Lifted) (kept : Facts) (atoms : List GroundAtom) (state : Facts) (bits : Bits) (given : List ℕ) (list : List LiftedAtom) → IsKeeping lifted kept → Packs atoms state bits
+    → KeepsStatics lifted state → HoldsKept kept state → KeptAreNumbered lifted kept atoms given list
+    → list_all state (all_grounded given list) ≡ (list_all kept (all_grounded given list) && list_all bits (numbers_of atoms given list))
+all_hold lifted kept atoms state bits given list keeping packs keeps holds numbered =
+    repeated_hold lifted kept atoms state bits given list keeping packs keeps holds numbered
+    ∙ ap (λ b. list_all kept (all_grounded given list) && b) (sym (all_once bits atoms given list))
 
-pub correspond : (lifted : Lifted) (atoms : List GroundAtom) (state : Facts) (bits : Bits) (i : ℕ) (schema : Schema) (given : List ℕ) → Packs atoms state bits → KeepsStatics lifted state
-    → AreNumbered lifted atoms given schema.pre → Corresponds lifted atoms state bits i schema given
-correspond lifted atoms state bits i schema given packs keeps numbered = record {
-  applicable = all_hold lifted atoms state bits given schema.pre packs keeps numbered;
+pub kept_correspond : KeptStepsCorrespond
+kept_correspond lifted kept atoms state bits i schema given keeping packs keeps holds numbered = record {
+  applicable = all_hold lifted kept atoms state bits given schema.pre keeping packs keeps holds numbered;
   result = λ fact n e.
       ap (λ b. b || (bits n && not (list_any (nat_eq n) (numbers_of atoms given schema.deletes)))) (numbers_alike fact atoms n given schema.adds e)
       ∙ (ap (λ b. is_in fact (all_grounded given schema.adds) || (b && not (list_any (nat_eq n) (numbers_of atoms given schema.deletes)))) (packs fact n e)
@@ -163,3 +175,40 @@ kept lifted state i schema given declared keeps fact e =
     ap (λ b. b || (state fact && not (is_in fact (all_grounded given schema.deletes)))) (not_among fact given schema.adds both.0)
     ∙ (ap (λ b. false || (state fact && not b)) (not_among fact given schema.deletes both.1)
     ∙ (sym (stays (state fact)) ∙ keeps fact e))
+
+-- what an action adds is of a fluent predicate, or held at first
+added_is_kept : (lifted : Lifted) (i : ℕ) (schema : Schema) (given : List ℕ) → slice_get lifted.actions i ≡ Some schema → (fact : GroundAtom)
+    → is_in fact (all_grounded given schema.adds) ≡ true → (fluent : Bool) → is_fluent lifted fact.predicate ≡ fluent → keep_all lifted fact ≡ true
+added_is_kept lifted i schema given known fact added true e = or_left (is_fluent lifted fact.predicate) (is_initial lifted fact) e
+added_is_kept lifted i schema given known fact added false e =
+    let stays : facts_after (is_initial lifted) (all_grounded given schema.deletes) (all_grounded given schema.adds) fact ≡ is_initial lifted fact =
+    kept lifted (is_initial lifted) i schema given known (λ f h. refl) fact e in
+    or_right (is_fluent lifted fact.predicate) (is_initial lifted fact)
+    (sym stays ∙ or_left (is_in fact (all_grounded given schema.adds)) (is_initial lifted fact && not (is_in fact (all_grounded given schema.deletes))) added)
+
+pub all_is_keeping : (lifted : Lifted) → IsKeeping lifted (keep_all lifted)
+all_is_keeping lifted = record {
+  closed = record {
+    starts = λ fact e. or_right (is_fluent lifted fact.predicate) (is_initial lifted fact) e;
+    adds = λ i schema given known fits pre fact added. added_is_kept lifted i schema given known fact added (is_fluent lifted fact.predicate) refl;
+  };
+  statics = λ fact e. ap (λ b. b || is_initial lifted fact) e;
+}
+
+-- ---- steps if all atoms are kept
+
+numbered_all : (lifted : Lifted) (atoms : List GroundAtom) (given : List ℕ) (list : List LiftedAtom) → AreNumbered lifted atoms given list → KeptAreNumbered lifted (keep_all lifted) atoms given list
+numbered_all lifted atoms given [] numbered = tt
+numbered_all lifted atoms given (a ∷ list) numbered = (λ fluent all. numbered.0 fluent, numbered_all lifted atoms given list numbered.1)
+
+holds_all : (lifted : Lifted) (state : Facts) → KeepsStatics lifted state → HoldsKept (keep_all lifted) state
+holds_all lifted state keeps fact e = at (is_fluent lifted fact.predicate) refl
+  where
+    at : (fluent : Bool) → is_fluent lifted fact.predicate ≡ fluent → keep_all lifted fact ≡ true
+    at true p = or_left (is_fluent lifted fact.predicate) (is_initial lifted fact) p
+    at false p = or_right (is_fluent lifted fact.predicate) (is_initial lifted fact) (sym (keeps fact p) ∙ e)
+
+pub correspond : StepsCorrespond
+correspond lifted atoms state bits i schema given packs keeps numbered =
+    kept_correspond lifted (keep_all lifted) atoms state bits i schema given (all_is_keeping lifted) packs keeps (holds_all lifted state keeps)
+    (numbered_all lifted atoms given schema.pre numbered)

@@ -1,6 +1,6 @@
 -- The ground atoms: the facts that a step can change.
 use Rattle.std.specs.Prelude.{ℕ, suc, Bool, ◌&&◌, nat_eq, cond, if◌then◌else◌, List, [], ◌∷◌, ◌++◌, map, flat_map, Option, Some, None, option_map}
-use Rattle.std.specs.List.{list_any}
+use Rattle.std.specs.List.{list_any, filter}
 use Rattle.std.specs.Str.{bytes_eq}
 use Rattle.pb_lifted.specs.declared.lifted.Lifted.{Lifted}
 use Rattle.pb_lifted.specs.declared.lifted.LiftedAtom.{LiftedAtom}
@@ -38,6 +38,10 @@ atoms_from lifted predicate (kinds ∷ later) =
 -- the ground atoms in the order of their numbers
 abbrev pub ground_atoms : Lifted → List GroundAtom
 ground_atoms lifted = atoms_from lifted 0 lifted.predicates
+
+-- those of them that are kept, in the same order: an atom's number is its place here
+abbrev pub kept_atoms : Lifted → (kept : GroundAtom → Bool) → List GroundAtom
+kept_atoms lifted kept = filter kept (ground_atoms lifted)
 
 abbrev pub same_atom : GroundAtom → GroundAtom → Bool
 same_atom a b = nat_eq a.predicate b.predicate && bytes_eq a.objects b.objects

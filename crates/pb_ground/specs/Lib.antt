@@ -6,9 +6,11 @@ pub mod Statics
 pub mod Steps
 pub mod Errors
 pub mod Members
+pub mod Keeping
 pub mod Pruning
 pub mod Order
 pub mod Search
 pub mod Known
 pub mod Index
 pub mod Count
+pub mod WorkedRows

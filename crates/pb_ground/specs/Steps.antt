@@ -9,7 +9,7 @@ use Rattle.pb_ground.specs.declared.actions.ActionInstance.{ActionInstance}
 use Rattle.pb_ground.specs.declared.atoms.GroundAtom.{GroundAtom}
 use Rattle.pb_ground.specs.Actions.{action_of}
 use Rattle.pb_ground.specs.Atoms.{is_fluent, same_atom, grounded, number_in}
-use Rattle.pb_ground.specs.Statics.{is_initial, statics_hold}
+use Rattle.pb_ground.specs.Statics.{is_initial, keep_all}
 
 -- which atoms hold
 abbrev pub Facts : Type 0
@@ -51,16 +51,31 @@ AreNumbered lifted atoms given (a ∷ list) =
     (is_fluent lifted a.predicate ≡ true → is_some (number_in (grounded given a) atoms) ≡ true)
     × AreNumbered lifted atoms given list
 
+-- the same of those that are kept
+abbrev pub KeptAreNumbered : Lifted → (kept : Facts) → List GroundAtom → List ℕ → List LiftedAtom
+    → Type 0
+KeptAreNumbered lifted kept atoms given [] = Unit {0}
+KeptAreNumbered lifted kept atoms given (a ∷ list) =
+    (is_fluent lifted a.predicate ≡ true → kept (grounded given a) ≡ true
+    → is_some (number_in (grounded given a) atoms) ≡ true)
+    × KeptAreNumbered lifted kept atoms given list
+
 -- the step of a schema for these objects, by atoms and by their numbers
-pub record Corresponds (lifted : Lifted) (atoms : List GroundAtom) (state : Facts) (bits : Bits)
+pub record KeptCorresponds (kept : Facts) (atoms : List GroundAtom) (state : Facts) (bits : Bits)
     (i : ℕ) (schema : Schema) (given : List ℕ) : Type 0 where
-  -- its preconditions hold if its static ones hold at first and the atoms that it needs hold
+  -- its preconditions hold if they are kept and the atoms that it needs hold
   pub applicable : list_all state (all_grounded given schema.pre)
-      ≡ (statics_hold lifted schema.pre given && list_all bits
+      ≡ (list_all kept (all_grounded given schema.pre) && list_all bits
       (action_of atoms i schema given).needs)
   -- and it leads to the same state
   pub result : Packs atoms (facts_after state (all_grounded given schema.deletes)
       (all_grounded given schema.adds)) (bits_after bits (action_of atoms i schema given))
+
+-- The same if all atoms are kept: its preconditions hold if its static ones hold at first and the
+-- atoms that it needs hold.
+abbrev pub Corresponds : Lifted → List GroundAtom → Facts → Bits → ℕ → Schema → List ℕ → Type 0
+Corresponds lifted atoms state bits i schema given =
+    KeptCorresponds (keep_all lifted) atoms state bits i schema given
 
 -- Steps by atoms and by numbers are the same, in both directions.
 abbrev pub StepsCorrespond : Type 0

@@ -1,5 +1,5 @@
 ghost use Rattle.std.specs.Prelude.{◌≡◌, ◌≤◌, ◌++◌, map, length, IfOk, OnOk, IfErr};
-ghost use Rattle.pb_ground.specs.Actions.{action_of, actions_of, ground_actions, TellsActions};
+ghost use Rattle.pb_ground.specs.Actions.{action_of, actions_from, actions_of, ground_actions, TellsActions};
 ghost use Rattle.pb_ground.specs.Pruning.{AreStatics};
 ghost use Rattle.pb_ground.specs.Search.{TellsFull};
 
@@ -105,6 +105,31 @@ fn add_actions(
     Ok(())
 }
 
+/// The instances of these schemas by objects of a task that fit: those whose preconditions with
+/// static predicates hold at first in the task. The schemas needn't be the task's own. They are in
+/// the order of the schemas, and then of their lists of objects, the first object most significant.
+/// Their atoms have the numbers that they have in `atoms`, and others are left out.
+/// `TooManyActions`: there are more than 65,536.
+pub fn actions_in(
+    alloc: Global,
+    task: &Lifted,
+    schemas: &[Schema],
+    atoms: &Atoms,
+) -> Result<Listed<ActionInstance>, GroundError>
+    ensures few { OnOk result (length (actions_from task.now atoms.now 0 schemas.now) ≤ 65536) }
+    ensures actions { IfOk result (λ actions. actions
+        ≡ actions_from task.now atoms.now 0 schemas.now) }
+    ensures refused { IfErr result (TellsFull 65536
+        (actions_from task.now atoms.now 0 schemas.now)) }
+{
+    let statics = Statics::of(alloc, task)?;
+    let mut actions = Listed::new(alloc);
+    for (i, schema) in schemas.iter().enumerate() {
+        add_actions(alloc, &statics, task, atoms, i, schema, &mut actions)?;
+    }
+    Ok(actions)
+}
+
 /// The ground actions of a lifted task: all instances of its schemas by objects of fitting types
 /// whose static preconditions hold at first. They are in the order of the schemas in the text, and
 /// then of their lists of objects, the first object most significant. Their atoms have the numbers
@@ -119,10 +144,5 @@ pub fn ground_actions(
     ensures actions { IfOk result (λ actions. actions ≡ ground_actions lifted.now atoms.now) }
     ensures refused { IfErr result (TellsActions lifted.now atoms.now) }
 {
-    let statics = Statics::of(alloc, lifted)?;
-    let mut actions = Listed::new(alloc);
-    for (i, schema) in lifted.actions.as_slice().iter().enumerate() {
-        add_actions(alloc, &statics, lifted, atoms, i, schema, &mut actions)?;
-    }
-    Ok(actions)
+    actions_in(alloc, lifted, lifted.actions.as_slice(), atoms)
 }

@@ -4,7 +4,7 @@ ghost use Rattle.std.specs.Ordering.{nat_cmp};
 ghost use Rattle.pb_packed.specs.Sizes.{most_atoms};
 ghost use Rattle.pb_ground.specs.Atoms.{ground_atoms, atoms_of, number_in, atom_of};
 ghost use Rattle.pb_ground.specs.Errors.{TellsAtoms};
-ghost use Rattle.pb_ground.specs.Order.{row_in};
+ghost use Rattle.pb_ground.specs.Order.{AreRising, row_in};
 ghost use Rattle.pb_ground.specs.Pruning.{AreFluent, row_of};
 
 use crate::count::count_atoms;
@@ -57,6 +57,14 @@ impl GroundAtom {
 }
 
 impl Atoms {
+    /// Some ground atoms in their order, each once. An atom's number is its place among them.
+    pub fn of(items: Listed<GroundAtom>) -> Atoms
+        requires { AreRising items }
+        ensures { result ≡ items }
+    {
+        Atoms { items }
+    }
+
     /// The atoms, the one of number 0 first.
     pub fn as_slice(&self) -> &[GroundAtom]
         ensures { result.now ≡ self.now }

@@ -16,8 +16,11 @@ mod plan;
 mod search;
 mod statics;
 
-pub use actions::{ActionInstance, ground_actions};
+pub use actions::{ActionInstance, actions_in, ground_actions};
 pub use atoms::{Atoms, GroundAtom, ground_atoms};
 pub use error::GroundError;
-pub use laws::{atoms_are_all, instances_are_all, statics_are_kept, steps_correspond};
-pub use numbers::{goal, is_never, start};
+pub use laws::{
+    all_atoms_are_a_case, atoms_are_all, instances_are_all, kept_atoms_are_all, kept_atoms_suffice,
+    kept_steps_correspond, statics_are_kept, steps_correspond, worked_rows,
+};
+pub use numbers::{goal, is_missing, is_never, start};

@@ -1,4 +1,4 @@
-ghost use Rattle.std.specs.Prelude.{◌≡◌, [], ℕ, List, true, nat_eq, map, IfOk, OnOk};
+ghost use Rattle.std.specs.Prelude.{◌≡◌, [], ℕ, List, true, not, nat_eq, map, IfOk, OnOk};
 ghost use Rattle.std.specs.List.{list_any};
 ghost use Rattle.pb_lifted.specs.Facts.{value_of};
 ghost use Rattle.pb_ground.specs.Actions.{with_number, numbers_of, is_never};
@@ -112,16 +112,24 @@ fn all_fluent(fluent: &BTreeSet<usize>, lifted: &Lifted, atoms: &[LiftedAtom]) -
     true
 }
 
+/// Whether one of these atoms without parameters has a static predicate and does not hold at first
+/// in a task. The call fails if memory runs out.
+pub fn is_missing(alloc: Global, task: &Lifted, atoms: &[LiftedAtom]) -> Result<bool, AllocError>
+    ensures { IfOk result (λ missing. missing ≡ not (statics_hold task.now atoms.now [])) }
+{
+    let fluent = fluent_of(alloc, task.actions.as_slice())?;
+    if all_fluent(&fluent, task, atoms) {
+        return Ok(false);
+    }
+    let statics = Statics::of(alloc, task)?;
+    let holds = statics_hold(&statics, task, atoms, &[])?;
+    Ok(!holds)
+}
+
 /// Whether no state is a goal state, since a static atom of the goal does not hold at first. The
 /// call fails if memory runs out.
 pub fn is_never(alloc: Global, lifted: &Lifted) -> Result<bool, AllocError>
     ensures { IfOk result (λ never. never ≡ is_never lifted.now) }
 {
-    let fluent = fluent_of(alloc, lifted.actions.as_slice())?;
-    if all_fluent(&fluent, lifted, lifted.goal.as_slice()) {
-        return Ok(false);
-    }
-    let statics = Statics::of(alloc, lifted)?;
-    let holds = statics_hold(&statics, lifted, lifted.goal.as_slice(), &[])?;
-    Ok(!holds)
+    is_missing(alloc, lifted, lifted.goal.as_slice())
 }

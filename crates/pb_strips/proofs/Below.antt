@@ -13,10 +13,11 @@ use Rattle.pb_lifted.specs.Lifted.{lifted_of}
 use Rattle.pb_lifted.specs.Refusals.{first_refusal}
 use Rattle.pb_ground.specs.declared.actions.ActionInstance as instance
 use Rattle.pb_ground.specs.declared.atoms.GroundAtom.{GroundAtom}
-use Rattle.pb_ground.specs.Atoms.{ground_atoms, grounded, number_in, same_atom}
-use Rattle.pb_ground.specs.Actions.{with_number_in, numbers_with, numbers_of, action_of, actions_of, actions_from, ground_actions, rows_of}
+use Rattle.pb_ground.specs.Atoms.{grounded, number_in, same_atom}
+use Rattle.pb_ground.specs.Actions.{with_number_in, numbers_with, numbers_of, action_of, kept_actions_of, kept_actions_from, kept_actions, kept_rows}
+use Rattle.pb_ground.specs.Steps.{Facts}
 use Rattle.pb_task.specs.Strips.{IsGroundAction, IsStrips}
-use Rattle.pb_strips.specs.Grounding.{packed_action, strips_of}
+use Rattle.pb_strips.specs.Grounding.{packed_action, strips_by}
 use Rattle.pb_strips.specs.Packing.{AreAtoms, HasAtoms}
 use Rattle.pb_strips.proofs.CostsBelow.{IsInRange, actions_in_range}
 use Rattle.pb_strips.proofs.AtomSets.{set_below}
@@ -67,11 +68,11 @@ all_have atoms i schema [] = All-nil (HasAtoms (length atoms))
 all_have atoms i schema (given ∷ rows) =
     All-cons (HasAtoms (length atoms)) (action_of atoms i schema given) (map (λ given. action_of atoms i schema given) rows) (action_has atoms i schema given) (all_have atoms i schema rows)
 
-pub actions_have : (lifted : Lifted) (atoms : List GroundAtom) (i : ℕ) (schemas : List Schema) → All (HasAtoms (length atoms)) (actions_from lifted atoms i schemas)
-actions_have lifted atoms i [] = All-nil (HasAtoms (length atoms))
-actions_have lifted atoms i (schema ∷ later) =
-    All-append (HasAtoms (length atoms)) (actions_of lifted atoms i schema) (actions_from lifted atoms (suc i) later) (all_have atoms i schema (rows_of lifted schema))
-    (actions_have lifted atoms (suc i) later)
+pub actions_have : (lifted : Lifted) (kept : Facts) (atoms : List GroundAtom) (i : ℕ) (schemas : List Schema) → All (HasAtoms (length atoms)) (kept_actions_from lifted kept atoms i schemas)
+actions_have lifted kept atoms i [] = All-nil (HasAtoms (length atoms))
+actions_have lifted kept atoms i (schema ∷ later) =
+    All-append (HasAtoms (length atoms)) (kept_actions_of lifted kept atoms i schema) (kept_actions_from lifted kept atoms (suc i) later)
+    (all_have atoms i schema (kept_rows lifted kept schema)) (actions_have lifted kept atoms (suc i) later)
 
 has_below : (few count : ℕ) → few ≤ count → (action : instance.ActionInstance) → HasAtoms few action → HasAtoms count action
 has_below few count less action has = record {
@@ -99,17 +100,16 @@ all_packed domain problem count (action ∷ actions) range =
     All-cons (IsGroundAction count) (packed_action domain problem count action) (map (packed_action domain problem count) actions) (packed_is domain problem count action (range 0 action (omega arith)))
     (all_packed domain problem count actions (λ k d less. range (suc k) d (omega arith)))
 
-pub is_strips : (domain : Domain) (problem : Problem) → first_refusal domain problem ≡ None → length (ground_atoms (lifted_of domain problem)) ≤ most_atoms
-    → length (ground_actions (lifted_of domain problem) (ground_atoms (lifted_of domain problem))) ≤ 65536 → IsStrips (strips_of domain problem)
-is_strips domain problem accepted few_atoms few_actions =
+pub is_strips : (domain : Domain) (problem : Problem) (kept : Facts) (atoms : List GroundAtom) → first_refusal domain problem ≡ None → length atoms ≤ most_atoms
+    → length (kept_actions (lifted_of domain problem) kept atoms) ≤ 65536 → IsStrips (strips_by domain problem kept atoms)
+is_strips domain problem kept atoms accepted few_atoms few_actions =
     let lifted : Lifted = lifted_of domain problem in
-    let atoms : List GroundAtom = ground_atoms lifted in
-    let actions : List instance.ActionInstance = ground_actions lifted atoms in
+    let actions : List instance.ActionInstance = kept_actions lifted kept atoms in
     let many : length (map (packed_action domain problem (length atoms)) actions) ≡ length actions = length-map actions (packed_action domain problem (length atoms)) in
     record {
       atoms = few_atoms;
       few = omega (arith, many, few_actions);
-      actions = all_packed domain problem (length atoms) actions (actions_in_range domain problem accepted atoms);
+      actions = all_packed domain problem (length atoms) actions (actions_in_range domain problem accepted kept atoms);
       start = set_below (length atoms) _;
       goal = set_below (length atoms) _;
     }

@@ -11,7 +11,8 @@ use Rattle.pb_lifted.specs.Steps.{cost_of_schema}
 use Rattle.pb_lifted.proofs.Callers.{mapped_at, schema_in, schemas_cost_the_same, costs_are_in_range}
 use Rattle.pb_ground.specs.declared.actions.ActionInstance.{ActionInstance}
 use Rattle.pb_ground.specs.declared.atoms.GroundAtom.{GroundAtom}
-use Rattle.pb_ground.specs.Actions.{ground_actions}
+use Rattle.pb_ground.specs.Actions.{kept_actions}
+use Rattle.pb_ground.specs.Steps.{Facts}
 use Rattle.pb_strips.proofs.Instances.{IsInstance, are_instances}
 
 -- a schema costs what its action costs
@@ -21,14 +22,16 @@ schema_costs domain problem i schema declared = sym (ap cost_of_schema declared)
 abbrev pub IsInRange : ActionInstance → Type 0
 IsInRange action = (1 ≤ action.cost) × (action.cost ≤ 2 ^ 20)
 
-instance_in_range : (domain : Domain) (problem : Problem) → first_refusal domain problem ≡ None → (atoms : List GroundAtom) (action : ActionInstance) → IsInstance (lifted_of domain problem) atoms action
+instance_in_range : (domain : Domain) (problem : Problem) → first_refusal domain problem ≡ None → (kept : Facts) (atoms : List GroundAtom) (action : ActionInstance)
+    → IsInstance (lifted_of domain problem) kept atoms action
     → IsInRange action
-instance_in_range domain problem accepted atoms action is =
+instance_in_range domain problem accepted kept atoms action is =
     let found = mapped_at (schema_in domain problem) domain.actions is.i is.schema is.declared in
     let same : cost_at domain problem is.i ≡ action.cost = sym (ap (λ (a : ActionInstance). a.cost) is.is ∙ schema_costs domain problem is.i is.schema is.declared) in
     subst (λ n. (1 ≤ n) × (n ≤ 2 ^ 20)) same (costs_are_in_range domain problem is.i found.0 accepted found.1)
 
-pub actions_in_range : (domain : Domain) (problem : Problem) → first_refusal domain problem ≡ None → (atoms : List GroundAtom) → All IsInRange (ground_actions (lifted_of domain problem) atoms)
-actions_in_range domain problem accepted atoms =
-    All-weaker (IsInstance (lifted_of domain problem) atoms) IsInRange (instance_in_range domain problem accepted atoms) (ground_actions (lifted_of domain problem) atoms)
-    (are_instances (lifted_of domain problem) atoms)
+pub actions_in_range : (domain : Domain) (problem : Problem) → first_refusal domain problem ≡ None → (kept : Facts) (atoms : List GroundAtom)
+    → All IsInRange (kept_actions (lifted_of domain problem) kept atoms)
+actions_in_range domain problem accepted kept atoms =
+    All-weaker (IsInstance (lifted_of domain problem) kept atoms) IsInRange (instance_in_range domain problem accepted kept atoms) (kept_actions (lifted_of domain problem) kept atoms)
+    (are_instances (lifted_of domain problem) kept atoms)

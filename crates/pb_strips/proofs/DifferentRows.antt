@@ -10,11 +10,12 @@ use Rattle.pb_lifted.specs.declared.lifted.Lifted.{Lifted}
 use Rattle.pb_lifted.specs.declared.lifted.Schema.{Schema}
 use Rattle.pb_ground.specs.declared.actions.ActionInstance.{ActionInstance}
 use Rattle.pb_ground.specs.declared.atoms.GroundAtom.{GroundAtom}
-use Rattle.pb_ground.specs.Actions.{action_of, rows_of, actions_of, actions_from, ground_actions}
+use Rattle.pb_ground.specs.Actions.{action_of, kept_rows, kept_actions_of, kept_actions_from, kept_actions}
 use Rattle.pb_ground.specs.Instances.{fitting_from, fitting, instances}
-use Rattle.pb_ground.specs.Statics.{statics_hold}
+use Rattle.pb_ground.specs.Steps.{Facts}
 use Rattle.pb_ground.proofs.Callers.{none_before, no_empty, with_first}
 use Rattle.pb_strips.proofs.Apart.{AreApart, joined, kept_apart}
+use Rattle.pb_strips.proofs.Instances.{is_ready}
 
 -- ---- numbers
 
@@ -74,34 +75,34 @@ rows_are : (atoms : List GroundAtom) (i : ℕ) (schema : Schema) (rows : List (L
 rows_are atoms i schema [] = refl
 rows_are atoms i schema (row ∷ rows) = ap (λ list. (i ∷ row) ∷ list) (rows_are atoms i schema rows)
 
-of_schema : (lifted : Lifted) (atoms : List GroundAtom) (i : ℕ) (schema : Schema) → map row_of (actions_of lifted atoms i schema) ≡ map (λ xs. i ∷ xs) (rows_of lifted schema)
-of_schema lifted atoms i schema = rows_are atoms i schema (rows_of lifted schema)
+of_schema : (lifted : Lifted) (kept : Facts) (atoms : List GroundAtom) (i : ℕ) (schema : Schema) → map row_of (kept_actions_of lifted kept atoms i schema) ≡ map (λ xs. i ∷ xs) (kept_rows lifted kept schema)
+of_schema lifted kept atoms i schema = rows_are atoms i schema (kept_rows lifted kept schema)
 
-none_earlier : (lifted : Lifted) (atoms : List GroundAtom) (n i : ℕ) (ys : List ℕ) (schemas : List Schema) → n < i → list_any (bytes_eq (n ∷ ys)) (map row_of (actions_from lifted atoms i schemas)) ≡ false
-none_earlier lifted atoms n i ys [] h = refl
-none_earlier lifted atoms n i ys (schema ∷ later) h =
-    ap (λ rows. list_any (bytes_eq (n ∷ ys)) rows) (map-append row_of (actions_of lifted atoms i schema) (actions_from lifted atoms (suc i) later))
-    ∙ (list_any-append (bytes_eq (n ∷ ys)) (map row_of (actions_of lifted atoms i schema)) (map row_of (actions_from lifted atoms (suc i) later))
-    ∙ (ap (λ b. b || list_any (bytes_eq (n ∷ ys)) (map row_of (actions_from lifted atoms (suc i) later)))
-    (ap (λ rows. list_any (bytes_eq (n ∷ ys)) rows) (of_schema lifted atoms i schema)
-    ∙ (with_first n i ys (rows_of lifted schema) ∙ ap (λ b. b && list_any (bytes_eq ys) (rows_of lifted schema)) (ne_eqb n i (λ same. omega (arith, same, h)))))
-    ∙ none_earlier lifted atoms n (suc i) ys later (omega arith)))
+none_earlier : (lifted : Lifted) (kept : Facts) (atoms : List GroundAtom) (n i : ℕ) (ys : List ℕ) (schemas : List Schema) → n < i → list_any (bytes_eq (n ∷ ys)) (map row_of (kept_actions_from lifted kept atoms i schemas)) ≡ false
+none_earlier lifted kept atoms n i ys [] h = refl
+none_earlier lifted kept atoms n i ys (schema ∷ later) h =
+    ap (λ rows. list_any (bytes_eq (n ∷ ys)) rows) (map-append row_of (kept_actions_of lifted kept atoms i schema) (kept_actions_from lifted kept atoms (suc i) later))
+    ∙ (list_any-append (bytes_eq (n ∷ ys)) (map row_of (kept_actions_of lifted kept atoms i schema)) (map row_of (kept_actions_from lifted kept atoms (suc i) later))
+    ∙ (ap (λ b. b || list_any (bytes_eq (n ∷ ys)) (map row_of (kept_actions_from lifted kept atoms (suc i) later)))
+    (ap (λ rows. list_any (bytes_eq (n ∷ ys)) rows) (of_schema lifted kept atoms i schema)
+    ∙ (with_first n i ys (kept_rows lifted kept schema) ∙ ap (λ b. b && list_any (bytes_eq ys) (kept_rows lifted kept schema)) (ne_eqb n i (λ same. omega (arith, same, h)))))
+    ∙ none_earlier lifted kept atoms n (suc i) ys later (omega arith)))
 
 abbrev pub same_rows : {rows others : List (List ℕ)} → rows ≡ others → AreApart others → AreApart rows
 same_rows e h = subst AreApart (sym e) h
 
-actions_apart_from : (lifted : Lifted) (atoms : List GroundAtom) (i : ℕ) (schemas : List Schema) → AreApart (map row_of (actions_from lifted atoms i schemas))
-actions_apart_from lifted atoms i [] = tt
-actions_apart_from lifted atoms i (schema ∷ later) =
-    let here = map row_of (actions_of lifted atoms i schema) in
-    let rest = map row_of (actions_from lifted atoms (suc i) later) in
-    same_rows (map-append row_of (actions_of lifted atoms i schema) (actions_from lifted atoms (suc i) later) ∙ ap (λ rows. rows ++ rest) (of_schema lifted atoms i schema))
-    (joined (map (λ xs. i ∷ xs) (rows_of lifted schema)) rest
-    (first_apart i (rows_of lifted schema) (kept_apart (statics_hold lifted schema.pre) (instances lifted schema.params) (instances_apart lifted schema.params)))
-    (actions_apart_from lifted atoms (suc i) later) (none_other i (rows_of lifted schema) rest (λ y ys e. none_earlier lifted atoms y (suc i) ys later (below y i e))))
+actions_apart_from : (lifted : Lifted) (kept : Facts) (atoms : List GroundAtom) (i : ℕ) (schemas : List Schema) → AreApart (map row_of (kept_actions_from lifted kept atoms i schemas))
+actions_apart_from lifted kept atoms i [] = tt
+actions_apart_from lifted kept atoms i (schema ∷ later) =
+    let here = map row_of (kept_actions_of lifted kept atoms i schema) in
+    let rest = map row_of (kept_actions_from lifted kept atoms (suc i) later) in
+    same_rows (map-append row_of (kept_actions_of lifted kept atoms i schema) (kept_actions_from lifted kept atoms (suc i) later) ∙ ap (λ rows. rows ++ rest) (of_schema lifted kept atoms i schema))
+    (joined (map (λ xs. i ∷ xs) (kept_rows lifted kept schema)) rest
+    (first_apart i (kept_rows lifted kept schema) (kept_apart (is_ready kept schema) (instances lifted schema.params) (instances_apart lifted schema.params)))
+    (actions_apart_from lifted kept atoms (suc i) later) (none_other i (kept_rows lifted kept schema) rest (λ y ys e. none_earlier lifted kept atoms y (suc i) ys later (below y i e))))
   where
     below : (y n : ℕ) → nat_eq y n ≡ true → y < suc n
     below y n e = let same = eqb-true y n e in omega (arith, same)
 
-pub actions_apart : (lifted : Lifted) (atoms : List GroundAtom) → AreApart (map row_of (ground_actions lifted atoms))
-actions_apart lifted atoms = actions_apart_from lifted atoms 0 lifted.actions
+pub actions_apart : (lifted : Lifted) (kept : Facts) (atoms : List GroundAtom) → AreApart (map row_of (kept_actions lifted kept atoms))
+actions_apart lifted kept atoms = actions_apart_from lifted kept atoms 0 lifted.actions

@@ -10,6 +10,7 @@ mod PlansAgree
 mod StatesAgree
 mod StepsAgree
 mod TaskParts
+mod ReachedTask
 mod Words
 mod Apart
 mod DifferentRows

@@ -9,10 +9,12 @@ use Rattle.pb_lifted.specs.Lifted.{lifted_of}
 use Rattle.pb_ground.specs.declared.actions.ActionInstance as instance
 use Rattle.pb_ground.specs.declared.atoms.GroundAtom.{GroundAtom}
 use Rattle.pb_ground.specs.Atoms.{ground_atoms}
-use Rattle.pb_ground.specs.Actions.{numbers_of, ground_actions, is_never}
+use Rattle.pb_ground.specs.Actions.{numbers_of, kept_actions, kept_never}
+use Rattle.pb_ground.specs.Statics.{keep_all}
+use Rattle.pb_ground.specs.Steps.{Facts}
 use Rattle.pb_task.specs.declared.parts.GroundAction.{GroundAction}
 use Rattle.pb_task.specs.declared.parts.StripsParts.{StripsParts}
-use Rattle.pb_strips.specs.Grounding.{numbered_set, packed_action, strips_of}
+use Rattle.pb_strips.specs.Grounding.{numbered_set, packed_action, strips_by, strips_of}
 use Rattle.pb_strips.specs.Packing.{AreAtoms, HasAtoms}
 use Rattle.pb_strips.proofs.Below.{numbers_below, actions_have}
 
@@ -29,30 +31,34 @@ same_parts n m actions others start first goal last never ever a b c d e =
 abbrev pub Packs : List ℕ → ℕ → Type 0
 Packs numbers set = (count : ℕ) → count ≤ most_atoms → AreAtoms count numbers → set ≡ numbered_set count numbers
 
-set_is : (atoms all : List GroundAtom) (list other : List LiftedAtom) (numbers : List ℕ) (set : ℕ) → length atoms ≤ most_atoms → numbers ≡ numbers_of atoms [] list → atoms ≡ all → list ≡ other → Packs numbers set
-    → set ≡ numbered_set (length all) (numbers_of all [] other)
-set_is atoms all list other numbers set few is same alike packs =
+set_is : (atoms : List GroundAtom) (list other : List LiftedAtom) (numbers : List ℕ) (set : ℕ) → length atoms ≤ most_atoms → numbers ≡ numbers_of atoms [] list → list ≡ other → Packs numbers set
+    → set ≡ numbered_set (length atoms) (numbers_of atoms [] other)
+set_is atoms list other numbers set few is alike packs =
     packs (length atoms) few (subst (AreAtoms (length atoms)) (sym is) (numbers_below atoms [] list))
-    ∙ (ap (numbered_set (length atoms)) is
-    ∙ (ap (λ xs. numbered_set (length xs) (numbers_of xs [] list)) same ∙ ap (λ xs. numbered_set (length all) (numbers_of all [] xs)) alike))
+    ∙ (ap (numbered_set (length atoms)) is ∙ ap (λ xs. numbered_set (length atoms) (numbers_of atoms [] xs)) alike)
 
-pub parts_are : (domain : Domain) (problem : Problem) (lifted : Lifted) (atoms seen : List GroundAtom) (actions : List instance.ActionInstance) (packed : List GroundAction) (first wanted : List ℕ)
-    (start goal : ℕ) (never : Bool)
-    → lifted ≡ lifted_of domain problem → atoms ≡ ground_atoms lifted → length atoms ≤ most_atoms → actions ≡ ground_actions lifted atoms → seen ≡ atoms
+pub parts_are : (domain : Domain) (problem : Problem) (lifted : Lifted) (kept : Facts) (atoms seen : List GroundAtom) (actions : List instance.ActionInstance) (packed : List GroundAction)
+    (first wanted : List ℕ) (start goal : ℕ) (never : Bool)
+    → lifted ≡ lifted_of domain problem → length atoms ≤ most_atoms → actions ≡ kept_actions lifted kept atoms → seen ≡ atoms
     → ((count : ℕ) → count ≤ most_atoms → All (HasAtoms count) actions → packed ≡ map (packed_action domain problem count) actions)
-    → first ≡ numbers_of atoms [] lifted.init → Packs first start → wanted ≡ numbers_of atoms [] lifted.goal → Packs wanted goal → never ≡ is_never lifted
-    → parts (length seen) packed start goal never ≡ strips_of domain problem
-parts_are domain problem lifted atoms seen actions packed first wanted start goal never lifted_is atoms_are few actions_are seen_is packs first_is start_is wanted_is goal_is never_is =
+    → first ≡ numbers_of atoms [] lifted.init → Packs first start → wanted ≡ numbers_of atoms [] lifted.goal → Packs wanted goal → never ≡ kept_never lifted kept
+    → parts (length seen) packed start goal never ≡ strips_by domain problem kept atoms
+parts_are domain problem lifted kept atoms seen actions packed first wanted start goal never lifted_is few actions_are seen_is packs first_is start_is wanted_is goal_is never_is =
     let task : Lifted = lifted_of domain problem in
-    let all : List GroundAtom = ground_atoms task in
-    let instances : List instance.ActionInstance = ground_actions task all in
-    let same_atoms : atoms ≡ all = atoms_are ∙ ap ground_atoms lifted_is in
-    let same_actions : actions ≡ instances = actions_are ∙ (ap (λ l. ground_actions l atoms) lifted_is ∙ ap (λ xs. ground_actions task xs) same_atoms) in
+    let instances : List instance.ActionInstance = kept_actions task kept atoms in
+    let same_actions : actions ≡ instances = actions_are ∙ ap (λ l. kept_actions l kept atoms) lifted_is in
     let have : All (HasAtoms (length atoms)) actions =
-    subst (λ (xs : List instance.ActionInstance). All (HasAtoms (length atoms)) xs) (sym actions_are) (actions_have lifted atoms 0 lifted.actions) in
-    same_parts (length seen) (length all) packed (map (packed_action domain problem (length all)) instances) start _ goal _ never (is_never task)
-    (ap (λ xs. length xs) (seen_is ∙ same_atoms))
-    (packs (length atoms) few have ∙ (ap (λ xs. map (packed_action domain problem (length atoms)) xs) same_actions ∙ ap (λ xs. map (packed_action domain problem (length xs)) instances) same_atoms))
-    (set_is atoms all lifted.init task.init first start few first_is same_atoms (ap (λ l. l.init) lifted_is) start_is)
-    (set_is atoms all lifted.goal task.goal wanted goal few wanted_is same_atoms (ap (λ l. l.goal) lifted_is) goal_is)
-    (never_is ∙ ap is_never lifted_is)
+    subst (λ (xs : List instance.ActionInstance). All (HasAtoms (length atoms)) xs) (sym actions_are) (actions_have lifted kept atoms 0 lifted.actions) in
+    same_parts (length seen) (length atoms) packed (map (packed_action domain problem (length atoms)) instances) start _ goal _ never (kept_never task kept)
+    (ap (λ xs. length xs) seen_is)
+    (packs (length atoms) few have ∙ ap (λ xs. map (packed_action domain problem (length atoms)) xs) same_actions)
+    (set_is atoms lifted.init task.init first start few first_is (ap (λ l. l.init) lifted_is) start_is)
+    (set_is atoms lifted.goal task.goal wanted goal few wanted_is (ap (λ l. l.goal) lifted_is) goal_is)
+    (never_is ∙ ap (λ l. kept_never l kept) lifted_is)
+
+-- parts over all ground atoms are the task's
+pub all_parts : (domain : Domain) (problem : Problem) (lifted : Lifted) (atoms : List GroundAtom) (parts : StripsParts) → lifted ≡ lifted_of domain problem → atoms ≡ ground_atoms lifted
+    → parts ≡ strips_by domain problem (keep_all lifted) atoms → parts ≡ strips_of domain problem
+all_parts domain problem lifted atoms parts same atoms_are is =
+    let task : Lifted = lifted_of domain problem in
+    is ∙ (ap (λ (l : Lifted). strips_by domain problem (keep_all l) atoms) same ∙ ap (strips_by domain problem (keep_all task)) (atoms_are ∙ ap ground_atoms same))

@@ -21,16 +21,20 @@ use Rattle.pb_lifted.specs.Refusals.{first_refusal, causes_in_order, action_name
 use Rattle.pb_lifted.specs.Typing.{object_names, named, AreDistinct, IsWellTyped}
 use Rattle.pb_lifted.proofs.Callers.{distinct_on, text_of, faultless, nil_left, nil_right, at_mapped, count_is as objects_agree, accepted_is_well_typed}
 use Rattle.pb_ground.specs.declared.actions.ActionInstance as instance
-use Rattle.pb_ground.specs.Atoms.{ground_atoms}
-use Rattle.pb_ground.specs.Actions.{ground_actions}
+use Rattle.pb_ground.specs.declared.atoms.GroundAtom.{GroundAtom}
+use Rattle.pb_ground.specs.Atoms.{ground_atoms, kept_atoms}
+use Rattle.pb_ground.specs.Actions.{kept_actions}
+use Rattle.pb_ground.specs.Statics.{keep_all}
+use Rattle.pb_ground.specs.Steps.{Facts}
 use Rattle.pb_ground.specs.Members.{is_fitting, is_instance}
+use Rattle.pb_task.specs.declared.parts.StripsParts.{StripsParts}
 use Rattle.pb_task.specs.Strips.{name_of, name_in}
 use Rattle.pb_strips.specs.Names.{action_word, action_bytes}
-use Rattle.pb_strips.specs.Grounding.{packed_action, strips_of}
-use Rattle.pb_strips.specs.Refusals.{first_fault, or_too_many}
+use Rattle.pb_strips.specs.Grounding.{packed_action, strips_by}
+use Rattle.pb_strips.specs.Refusals.{or_too_many}
 use Rattle.pb_strips.proofs.Instances.{IsInstance, is_instance_at}
 use Rattle.pb_model.proofs.Callers.{and_true}
-use Rattle.pb_strips.specs.Naming.{AreTellingNames, NamesTellActions}
+use Rattle.pb_strips.specs.Naming.{AreTellingNames, NamesTellActions, KeptNamesTellActions}
 use Rattle.pb_strips.proofs.Apart.{same_place}
 use Rattle.pb_strips.proofs.DifferentRows.{row_of, actions_apart}
 use Rattle.pb_strips.proofs.Texts.{IsPlain, ArePlain, plain, same_parts, IsOfLine, text_of_line, text_is}
@@ -111,18 +115,19 @@ fitting_below lifted (kind ∷ kinds) (i ∷ given) h =
 schemas_agree : (domain : Domain) (problem : Problem) → length (lifted_of domain problem).actions ≡ length (map action_word domain.actions)
 schemas_agree domain problem = length-map domain.actions _ ∙ sym (length-map domain.actions action_word)
 
-module _ (domain : Domain) (problem : Problem) (accepted : first_fault domain problem ≡ None) (words : DomainHasWords domain) (others : ProblemHasWords problem) where
+module _ (domain : Domain) (problem : Problem) (kept : Facts) (atoms : List GroundAtom) (known : first_refusal domain problem ≡ None) (words : DomainHasWords domain)
+    (others : ProblemHasWords problem) where
   abbrev pub lifted : Lifted
   lifted = lifted_of domain problem
 
   abbrev pub actions : List instance.ActionInstance
-  actions = ground_actions lifted (ground_atoms lifted)
+  actions = kept_actions lifted kept atoms
+
+  abbrev pub task : StripsParts
+  task = strips_by domain problem kept atoms
 
   abbrev pub bytes_of : instance.ActionInstance → List ℕ
   bytes_of a = action_bytes domain (a.schema, named domain problem a.objects)
-
-  known : first_refusal domain problem ≡ None
-  known = none_refused (first_refusal domain problem) lifted accepted
 
   typed : IsWellTyped domain problem
   typed = accepted_is_well_typed domain problem known
@@ -138,19 +143,19 @@ module _ (domain : Domain) (problem : Problem) (accepted : first_fault domain pr
   of_line : (a : instance.ActionInstance) → All IsOfLine (bytes_of a)
   of_line a = text_of_line (name_at (map action_word domain.actions) a.schema) (named domain problem a.objects) (word_plain a) (objects_are_plain a)
 
-  name_is : (k : ℕ) (a : instance.ActionInstance) → slice_get actions k ≡ Some a → name_in (strips_of domain problem).actions k ≡ bytes_of a
-  name_is k a e = ap name_of (at_mapped (packed_action domain problem (length (ground_atoms lifted))) actions k a e) ∙ text_is (bytes_of a) (of_line a)
+  name_is : (k : ℕ) (a : instance.ActionInstance) → slice_get actions k ≡ Some a → name_in task.actions k ≡ bytes_of a
+  name_is k a e = ap name_of (at_mapped (packed_action domain problem (length atoms)) actions k a e) ∙ text_is (bytes_of a) (of_line a)
 
   schema_below : (k : ℕ) (a : instance.ActionInstance) → slice_get actions k ≡ Some a → a.schema < length (map action_word domain.actions)
   schema_below k a e =
-      let is : IsInstance lifted (ground_atoms lifted) a = is_instance_at lifted (ground_atoms lifted) k a e in
+      let is : IsInstance lifted kept atoms a = is_instance_at lifted kept atoms k a e in
       let there = slice_get_within lifted.actions is.i is.schema is.declared in
       let same : a.schema ≡ is.i = ap (λ (g : instance.ActionInstance). g.schema) is.is in
       omega (arith, there, same, schemas_agree domain problem)
 
   objects_below : (k : ℕ) (a : instance.ActionInstance) → slice_get actions k ≡ Some a → All (λ i. i < length (object_names domain problem)) a.objects
   objects_below k a e =
-      let is : IsInstance lifted (ground_atoms lifted) a = is_instance_at lifted (ground_atoms lifted) k a e in
+      let is : IsInstance lifted kept atoms a = is_instance_at lifted kept atoms k a e in
       let same : a.objects ≡ is.given = ap (λ (g : instance.ActionInstance). g.objects) is.is in
       subst (λ n. All (λ i. i < n) a.objects) (objects_agree domain problem)
       (subst (λ given. All (λ i. i < length lifted.objects) given) (sym same) (fitting_below lifted is.schema.params is.given is.fits))
@@ -169,30 +174,35 @@ module _ (domain : Domain) (problem : Problem) (accepted : first_fault domain pr
   action_at k less = elim (slice_get_cases actions k).1 [ inl (a, within, is, read) ↦ (a, is) | inr (past, none) ↦ absurd (omega (arith, less, past)) ]
 
   same_action : (one other : ℕ) → one < length actions → other < length actions
-      → name_in (strips_of domain problem).actions one ≡ name_in (strips_of domain problem).actions other → one ≡ other
+      → name_in task.actions one ≡ name_in task.actions other → one ≡ other
   same_action one other less more e =
       let a = action_at one less in
       let b = action_at other more in
       let row = same_row one other a.0 b.0 a.1 b.1 (sym (name_is one a.0 a.1) ∙ (e ∙ name_is other b.0 b.1)) in
-      same_place (map row_of actions) one other (row_of a.0) (actions_apart lifted (ground_atoms lifted)) (at_mapped row_of actions one a.0 a.1)
+      same_place (map row_of actions) one other (row_of a.0) (actions_apart lifted kept atoms) (at_mapped row_of actions one a.0 a.1)
       (at_mapped row_of actions other b.0 b.1 ∙ ap (λ r. Some r) (sym row))
 
-  count_is : length (strips_of domain problem).actions ≡ length actions
-  count_is = length-map actions (packed_action domain problem (length (ground_atoms lifted)))
+  count_is : length task.actions ≡ length actions
+  count_is = length-map actions (packed_action domain problem (length atoms))
 
-  no_feeds : (k : ℕ) → All (λ c. c ≢ 10) (name_in (strips_of domain problem).actions k)
+  no_feeds : (k : ℕ) → All (λ c. c ≢ 10) (name_in task.actions k)
   no_feeds k = elim (slice_get_cases actions k).1 [
     | inl (a, less, is, read) ↦ subst (λ text. All (λ c. c ≢ 10) text) (sym (name_is k a is)) (λ n d within. (of_line a n d within).1)
     | inr (past, none) ↦
-        let beyond : slice_get (strips_of domain problem).actions k ≡ None = slice_get_past (strips_of domain problem).actions k (let count = count_is in omega (arith, past, count)) in
+        let beyond : slice_get task.actions k ≡ None = slice_get_past task.actions k (let count = count_is in omega (arith, past, count)) in
         subst (λ text. All (λ c. c ≢ 10) text) (sym (ap name_of beyond)) (All-nil (λ c. c ≢ 10))
   ]
 
-  pub tells : AreTellingNames (length (strips_of domain problem).actions) (name_in (strips_of domain problem).actions)
+  pub tells : AreTellingNames (length task.actions) (name_in task.actions)
   tells = record {
     different = λ one other less more e. let count = count_is in same_action one other (omega (arith, less, count)) (omega (arith, more, count)) e;
     lines = no_feeds;
   }
 
 pub names_tell_actions : NamesTellActions
-names_tell_actions domain problem accepted words others = tells domain problem accepted words others
+names_tell_actions domain problem accepted words others =
+    let lifted : Lifted = lifted_of domain problem in
+    tells domain problem (keep_all lifted) (ground_atoms lifted) (none_refused (first_refusal domain problem) lifted accepted) words others
+
+pub kept_names_tell_actions : KeptNamesTellActions
+kept_names_tell_actions domain problem kept known words others = tells domain problem kept (kept_atoms (lifted_of domain problem) kept) known words others

@@ -8,13 +8,18 @@ use Rattle.pb_pddl.specs.declared.tree.Domain.{Domain}
 use Rattle.pb_pddl.specs.declared.tree.Problem.{Problem}
 use Rattle.pb_lifted.specs.declared.lifted.Lifted.{Lifted}
 use Rattle.pb_lifted.specs.Lifted.{lifted_of}
+use Rattle.pb_lifted.specs.Refusals.{first_refusal}
 use Rattle.pb_lifted.specs.Space.{Fact, State, IsStep, start_of, IsGoal}
 use Rattle.pb_lifted.specs.Steps.{GroundFact, is_of_task, by_number}
 use Rattle.pb_lifted.specs.Plans.{NamedAction, IsPlan, step_cost, plan_cost}
-use Rattle.pb_ground.specs.Atoms.{is_fluent, atom_of, number_in, ground_atoms}
-use Rattle.pb_ground.specs.Statics.{is_initial}
+use Rattle.pb_ground.specs.declared.atoms.GroundAtom.{GroundAtom}
+use Rattle.pb_ground.specs.Atoms.{is_fluent, atom_of, number_in, ground_atoms, kept_atoms}
+use Rattle.pb_ground.specs.Keeping.{IsKeeping}
+use Rattle.pb_ground.specs.Statics.{is_initial, keep_all}
+use Rattle.pb_ground.specs.Steps.{Facts}
+use Rattle.pb_task.specs.declared.parts.StripsParts.{StripsParts}
 use Rattle.pb_task.specs.Strips.{has_atom, strips_space, name_in}
-use Rattle.pb_strips.specs.Grounding.{strips_of}
+use Rattle.pb_strips.specs.Grounding.{strips_of, kept_strips}
 use Rattle.pb_strips.specs.Names.{action_text}
 use Rattle.pb_strips.specs.Refusals.{first_fault}
 
@@ -26,16 +31,26 @@ holds_by_number state (Some atom) = has_atom state atom
 
 -- A fact of a fluent predicate holds if its ground atom is in the set. A fact of a static predicate
 -- holds if it does at first.
-abbrev pub holds_in : Lifted → (state : ℕ) → GroundFact → Bool
-holds_in lifted state fact =
+abbrev pub holds_by : Lifted → (atoms : List GroundAtom) → (state : ℕ) → GroundFact → Bool
+holds_by lifted atoms state fact =
     if is_fluent lifted fact.predicate then holds_by_number state
-    (number_in (atom_of fact.predicate fact.objects) (ground_atoms lifted))
+    (number_in (atom_of fact.predicate fact.objects) atoms)
     else is_initial lifted (atom_of fact.predicate fact.objects)
 
-abbrev pub facts_of_state : Domain → Problem → (state : ℕ) → State
-facts_of_state domain problem state fact =
-    is_of_task domain problem fact && holds_in (lifted_of domain problem) state
+abbrev pub facts_by : Domain → Problem → (atoms : List GroundAtom) → (state : ℕ) → State
+facts_by domain problem atoms state fact =
+    is_of_task domain problem fact && holds_by (lifted_of domain problem) atoms state
     (by_number domain problem fact)
+
+-- the same if all ground atoms have numbers
+abbrev pub facts_of_state : Domain → Problem → (state : ℕ) → State
+facts_of_state domain problem state =
+    facts_by domain problem (ground_atoms (lifted_of domain problem)) state
+
+-- the same if the kept ground atoms have numbers, and no others
+abbrev pub kept_facts : Domain → Problem → (kept : Facts) → (state : ℕ) → State
+kept_facts domain problem kept state =
+    facts_by domain problem (kept_atoms (lifted_of domain problem) kept) state
 
 -- ---- steps
 
@@ -100,3 +115,61 @@ PlansArePackedPlans =
     → (numbers : List ℕ) × packed.IsPlan (strips_space (strips_of domain problem))
     (record { actions = numbers; cost = plan_cost domain problem actions })
     × (map (name_in (strips_of domain problem).actions) numbers ≡ map (action_text domain) actions)
+
+-- ---- the same, whichever atoms are kept
+
+-- The steps of a task by bits are those by names, if its states represent these states by names.
+pub record StepsAreByNames (domain : Domain) (problem : Problem) (task : StripsParts)
+    (facts : (state : ℕ) → State) : Type 0 where
+  -- a step by bits is a step by names
+  pub to_names : (from action to cost : ℕ) → Steps (strips_space task) from action to cost
+      → (named : NamedAction) × IsStep domain problem (facts from) named.0 named.1 (facts to)
+      × (name_in task.actions action ≡ action_text domain named)
+      × (cost ≡ step_cost domain problem named)
+  -- a step by names is a step by bits
+  pub to_bits : (from : ℕ) (named : NamedAction) (next : State) → from < 2 ^ task.atoms
+      → IsStep domain problem (facts from) named.0 named.1 next
+      → (action : ℕ) × (to : ℕ) × Steps (strips_space task) from action to
+      (step_cost domain problem named)
+      × (name_in task.actions action ≡ action_text domain named)
+      × ((f : Fact) → next f ≡ facts to f)
+  -- both start with the same facts
+  pub start : (f : Fact) → facts task.start f ≡ start_of problem f
+  -- a state by bits is a goal exactly if the state by names is one
+  pub goals : (state : ℕ) → state < 2 ^ task.atoms
+      → IsTrue ((strips_space task).is_goal state) ↔ IsGoal problem (facts state)
+
+-- The plans of a task by bits are those by names.
+pub record PlansAreByNames (domain : Domain) (problem : Problem) (task : StripsParts) : Type 0 where
+  -- a plan by bits is a plan by names, at the same cost
+  pub to_names : (plan : packed.Plan) → packed.IsPlan (strips_space task) plan
+      → (actions : List NamedAction) × IsPlan domain problem actions
+      × (map (action_text domain) actions ≡ map (name_in task.actions) plan.actions)
+      × (plan.cost ≡ plan_cost domain problem actions)
+  -- a plan by names is a plan by bits, at the same cost
+  pub to_bits : (actions : List NamedAction) → IsPlan domain problem actions
+      → (numbers : List ℕ) × packed.IsPlan (strips_space task)
+      (record { actions = numbers; cost = plan_cost domain problem actions })
+      × (map (name_in task.actions) numbers ≡ map (action_text domain) actions)
+
+-- If nothing is refused, the steps of the task of kept atoms are those by names, whatever is kept
+-- that no step leaves.
+abbrev pub KeptStepsAreByNames : Type 0
+KeptStepsAreByNames =
+    (domain : Domain) (problem : Problem) (kept : Facts) → first_refusal domain problem ≡ None
+    → IsKeeping (lifted_of domain problem) kept
+    → StepsAreByNames domain problem (kept_strips domain problem kept)
+    (kept_facts domain problem kept)
+
+-- And so are its plans.
+abbrev pub KeptPlansAreByNames : Type 0
+KeptPlansAreByNames =
+    (domain : Domain) (problem : Problem) (kept : Facts) → first_refusal domain problem ≡ None
+    → IsKeeping (lifted_of domain problem) kept
+    → PlansAreByNames domain problem (kept_strips domain problem kept)
+
+-- If all atoms are kept, this is the task in which all ground atoms have numbers.
+abbrev pub AllAreKept : Type 0
+AllAreKept =
+    (domain : Domain) (problem : Problem)
+    → kept_strips domain problem (keep_all (lifted_of domain problem)) ≡ strips_of domain problem

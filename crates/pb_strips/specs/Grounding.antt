@@ -6,8 +6,12 @@ use Rattle.pb_pddl.specs.declared.tree.Problem.{Problem}
 use Rattle.pb_lifted.specs.Lifted.{lifted_of}
 use Rattle.pb_lifted.specs.Typing.{named}
 use Rattle.pb_ground.specs.declared.actions.ActionInstance as instance
-use Rattle.pb_ground.specs.Atoms.{ground_atoms}
-use Rattle.pb_ground.specs.Actions.{numbers_of, ground_actions, is_never}
+use Rattle.pb_ground.specs.declared.atoms.GroundAtom.{GroundAtom}
+use Rattle.pb_ground.specs.Atoms.{ground_atoms, kept_atoms}
+use Rattle.pb_ground.specs.Actions.{numbers_of, kept_actions, kept_never}
+use Rattle.pb_ground.specs.Statics.{keep_all}
+use Rattle.pb_ground.specs.Steps.{Facts}
+use Rattle.pb_reach.specs.Rounds.{is_reached}
 use Rattle.pb_task.specs.declared.parts.GroundAction.{GroundAction}
 use Rattle.pb_task.specs.declared.parts.StripsParts.{StripsParts}
 use Rattle.pb_task.specs.Strips.{set_of}
@@ -29,14 +33,30 @@ packed_action domain problem count action = record {
   cost = action.cost;
 }
 
-abbrev pub strips_of : Domain → Problem → StripsParts
-strips_of domain problem =
+-- The task over these ground atoms. Its actions are the instances whose preconditions are kept.
+-- There is no goal state if an atom of the goal isn't kept.
+abbrev pub strips_by : Domain → Problem → (kept : Facts) → (atoms : List GroundAtom) → StripsParts
+strips_by domain problem kept atoms =
     let lifted = lifted_of domain problem in
-    let atoms = ground_atoms lifted in
     record {
       atoms = length atoms;
-      actions = map (packed_action domain problem (length atoms)) (ground_actions lifted atoms);
+      actions = map (packed_action domain problem (length atoms)) (kept_actions lifted kept atoms);
       start = numbered_set (length atoms) (numbers_of atoms [] lifted.init);
       goal = numbered_set (length atoms) (numbers_of atoms [] lifted.goal);
-      never = is_never lifted;
+      never = kept_never lifted kept;
     }
+
+-- the task in which the kept ground atoms have numbers, and no others
+abbrev pub kept_strips : Domain → Problem → (kept : Facts) → StripsParts
+kept_strips domain problem kept =
+    strips_by domain problem kept (kept_atoms (lifted_of domain problem) kept)
+
+-- the task in which what is reached has numbers, and nothing else
+abbrev pub reached_strips : Domain → Problem → StripsParts
+reached_strips domain problem = kept_strips domain problem (is_reached (lifted_of domain problem))
+
+-- the task in which all ground atoms have numbers
+abbrev pub strips_of : Domain → Problem → StripsParts
+strips_of domain problem =
+    strips_by domain problem (keep_all (lifted_of domain problem)) (ground_atoms (lifted_of domain
+    problem))

@@ -4,9 +4,11 @@ use Rattle.pb_pddl.specs.declared.tree.Domain.{Domain}
 use Rattle.pb_pddl.specs.declared.tree.Problem.{Problem}
 use Rattle.pb_pddl.specs.Words.{DomainHasWords, ProblemHasWords}
 use Rattle.pb_lifted.specs.Plans.{NamedAction, IsPlan}
+use Rattle.pb_lifted.specs.Refusals.{first_refusal}
+use Rattle.pb_ground.specs.Steps.{Facts}
 use Rattle.pb_task.specs.Strips.{name_in}
 use Rattle.pb_strips.specs.Names.{action_bytes, action_text}
-use Rattle.pb_strips.specs.Grounding.{strips_of}
+use Rattle.pb_strips.specs.Grounding.{strips_of, kept_strips}
 use Rattle.pb_strips.specs.Refusals.{first_fault}
 
 -- no two actions have one name, and no name has a line feed
@@ -23,6 +25,14 @@ NamesTellActions =
     → DomainHasWords domain → ProblemHasWords problem
     → AreTellingNames (length (strips_of domain problem).actions)
     (name_in (strips_of domain problem).actions)
+
+-- The same for the task of kept atoms.
+abbrev pub KeptNamesTellActions : Type 0
+KeptNamesTellActions =
+    (domain : Domain) (problem : Problem) (kept : Facts) → first_refusal domain problem ≡ None
+    → DomainHasWords domain → ProblemHasWords problem
+    → AreTellingNames (length (kept_strips domain problem kept).actions)
+    (name_in (kept_strips domain problem kept).actions)
 
 -- The actions of a plan by names are printed as they are called: `(name object ..)`, each with the
 -- bytes of the names themselves.

@@ -5,6 +5,8 @@ use Rattle.pb_lifted.specs.declared.refusal.LiftedError.TheVariants as lifted
 use Rattle.pb_ground.specs.declared.actions.ActionInstance.{ActionInstance}
 use Rattle.pb_ground.specs.declared.error.GroundError.{GroundError}
 use Rattle.pb_ground.specs.declared.error.GroundError.TheVariants as grounding
+use Rattle.pb_reach.specs.declared.error.ReachError.{ReachError}
+use Rattle.pb_reach.specs.declared.error.ReachError.TheVariants as reaching
 use Rattle.pb_strips.specs.declared.error.StripsError.{StripsError}
 use Rattle.pb_strips.specs.declared.error.StripsError.TheVariants as errors
 
@@ -27,3 +29,8 @@ abbrev pub of_ground : GroundError → StripsError
 of_ground (grounding.TooManyAtoms n) = errors.TooManyAtoms n
 of_ground grounding.TooManyActions = errors.TooManyActions
 of_ground grounding.Memory = errors.Memory
+
+abbrev pub of_reach : ReachError → StripsError
+of_reach (reaching.TooManyAtoms n) = errors.TooManyAtoms n
+of_reach reaching.TooManyActions = errors.TooManyActions
+of_reach reaching.Memory = errors.Memory

@@ -10,6 +10,8 @@ use Rattle.pb_lifted.specs.Refusals.{first_refusal}
 use Rattle.pb_ground.specs.Atoms.{ground_atoms}
 use Rattle.pb_ground.specs.Actions.{ground_actions}
 use Rattle.pb_ground.specs.Errors.{told}
+use Rattle.pb_reach.specs.declared.error.ReachError.TheVariants as reaching
+use Rattle.pb_reach.specs.Limits.{IsFirst}
 use Rattle.pb_strips.specs.declared.error.StripsError.{StripsError}
 use Rattle.pb_strips.specs.declared.error.StripsError.TheVariants as errors
 
@@ -42,3 +44,17 @@ IsWithinLimits domain problem =
     (length (ground_atoms (lifted_of domain problem)) ≤ most_atoms)
     × (length (ground_actions (lifted_of domain problem) (ground_atoms (lifted_of domain problem)))
     ≤ 65536)
+
+-- ---- if only what is reached has numbers
+
+-- Names, their types and costs are judged first, and then round by round the numbers of actions and
+-- of atoms. An error reports the first cause, unless memory ran out.
+abbrev pub TellsReached : Domain → Problem → StripsError → Type 0
+TellsReached domain problem (errors.Refused refusal) = first_refusal domain problem ≡ Some refusal
+TellsReached domain problem (errors.TooManyAtoms n) =
+    (first_refusal domain problem ≡ None)
+    × IsFirst (lifted_of domain problem) (reaching.TooManyAtoms n)
+TellsReached domain problem errors.TooManyActions =
+    (first_refusal domain problem ≡ None)
+    × IsFirst (lifted_of domain problem) reaching.TooManyActions
+TellsReached domain problem errors.Memory = Unit {0}

@@ -1,9 +1,10 @@
 ghost use Rattle.std.specs.Prelude.{◌≡◌};
-ghost use Rattle.pb_strips.specs.Packing.{of_lifted, of_ground};
+ghost use Rattle.pb_strips.specs.Packing.{of_lifted, of_ground, of_reach};
 ghost use Rattle.pb_strips.specs.declared.error.StripsError.TheVariants.{Memory};
 
 use pb_ground::GroundError;
 use pb_lifted::{LiftedError, TypingRefusal};
+use pb_reach::ReachError;
 use std::alloc::{AllocError, AllocFailed};
 
 /// Why a domain and a problem are no task, the first cause in the order of these variants.
@@ -12,9 +13,10 @@ pub enum StripsError {
     /// A name or a cost is at fault, or there are too many objects.
     Refused(TypingRefusal),
     /// There are more ground atoms than a task may have: n, or 4,294,967,295 if there are more
-    /// than that.
+    /// than that. If only what is reached has numbers, after a round there are more of these: n, or
+    /// 65,537 if there are more than that.
     TooManyAtoms { n: u64 },
-    /// There are more than 65,536 ground actions.
+    /// There are more than 65,536 ground actions, or a round takes more.
     TooManyActions,
     /// Memory ran out.
     Memory,
@@ -39,6 +41,18 @@ impl From<GroundError> for StripsError {
             GroundError::TooManyAtoms { n } => StripsError::TooManyAtoms { n },
             GroundError::TooManyActions => StripsError::TooManyActions,
             GroundError::Memory => StripsError::Memory,
+        }
+    }
+}
+
+impl From<ReachError> for StripsError {
+    ghost from_gives = { λ error e. e ≡ of_reach error };
+
+    fn from(error: ReachError) -> Self {
+        match error {
+            ReachError::TooManyAtoms { n } => StripsError::TooManyAtoms { n },
+            ReachError::TooManyActions => StripsError::TooManyActions,
+            ReachError::Memory => StripsError::Memory,
         }
     }
 }

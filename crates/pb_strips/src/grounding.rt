@@ -11,7 +11,7 @@ ghost use Rattle.pb_strips.specs.Refusals.{first_fault, Tells, IsWithinLimits};
 
 use crate::error::StripsError;
 use crate::parts::parts_of;
-use pb_ground::{Atoms, ground_actions, ground_atoms};
+use pb_ground::{Atoms, ground_actions, ground_atoms, is_never};
 use pb_lifted::{Lifted, resolve};
 use pb_pddl::{Domain, Problem};
 use pb_task::Task;
@@ -34,7 +34,9 @@ fn task_by(
     ensures refused { IfErr result (Tells (first_fault domain.now problem.now)) }
 {
     let actions = ground_actions(alloc, lifted, atoms)?;
-    let parts = parts_of(alloc, domain, problem, lifted, atoms, actions.as_slice())?;
+    let never = is_never(alloc, lifted)?;
+    let actions = actions.as_slice();
+    let parts = parts_of(alloc, domain, problem, lifted, atoms, actions, never)?;
     Ok(Task::of_strips(parts))
 }
 

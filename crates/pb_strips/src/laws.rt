@@ -1,6 +1,6 @@
-ghost use Rattle.pb_strips.specs.Correspondence.{PackedStepsAreSteps, StepsArePackedSteps, StartsAgree, GoalsAgree, PackedPlansArePlans, PlansArePackedPlans};
+ghost use Rattle.pb_strips.specs.Correspondence.{AllAreKept, KeptPlansAreByNames, KeptStepsAreByNames, PackedStepsAreSteps, StepsArePackedSteps, StartsAgree, GoalsAgree, PackedPlansArePlans, PlansArePackedPlans};
 ghost use Rattle.pb_strips.specs.Names.{TextsKeepNames};
-ghost use Rattle.pb_strips.specs.Naming.{NamesTellActions, NamesArePrinted};
+ghost use Rattle.pb_strips.specs.Naming.{KeptNamesTellActions, NamesTellActions, NamesArePrinted};
 
 /// If a domain and a problem are a task, the steps of the packed states are those of the states by
 /// names, in both directions. Costs and printed names agree, and so do start and goals.
@@ -16,6 +16,17 @@ pub fn steps_are_lifted()
 pub fn plans_are_lifted()
     ensures packed { PackedPlansArePlans }
     ensures lifted { PlansArePackedPlans }
+{}
+
+/// If nothing of a domain and a problem is refused, the task of the kept atoms and the task by names
+/// have the same steps, costs, printed names, start, goals and plans. No two of its actions have one
+/// name. That holds for each set of kept atoms that no step leaves. If all are kept, it is the task
+/// of all ground atoms.
+pub fn kept_atoms_are_enough()
+    ensures steps { KeptStepsAreByNames }
+    ensures plans { KeptPlansAreByNames }
+    ensures names { KeptNamesTellActions }
+    ensures all { AllAreKept }
 {}
 
 /// The text of a ground action's name has the bytes of the names of the action and its objects, if

@@ -7,10 +7,13 @@ mod grounding;
 mod laws;
 mod names;
 mod parts;
+mod reaching;
 mod sets;
 
 pub use error::StripsError;
 pub use grounding::ground;
 pub use laws::{
-    names_are_printed, names_tell_actions, plans_are_lifted, steps_are_lifted, texts_keep_names,
+    kept_atoms_are_enough, names_are_printed, names_tell_actions, plans_are_lifted,
+    steps_are_lifted, texts_keep_names,
 };
+pub use reaching::ground_reached;

@@ -1,14 +1,14 @@
 ghost use Rattle.std.specs.Prelude.{◌≡◌, ◌≤◌, ℕ, All, map, length, IfOk};
 ghost use Rattle.pb_packed.specs.Sizes.{most_atoms};
 ghost use Rattle.pb_lifted.specs.Lifted.{lifted_of};
-ghost use Rattle.pb_ground.specs.Atoms.{ground_atoms};
-ghost use Rattle.pb_ground.specs.Actions.{ground_actions};
-ghost use Rattle.pb_strips.specs.Grounding.{packed_action, strips_of};
+ghost use Rattle.pb_ground.specs.Actions.{kept_actions, kept_never};
+ghost use Rattle.pb_ground.specs.Steps.{Facts};
+ghost use Rattle.pb_strips.specs.Grounding.{packed_action, strips_by};
 ghost use Rattle.pb_strips.specs.Packing.{HasAtoms};
 
 use crate::names::name_of;
 use crate::sets::set_of;
-use pb_ground::{ActionInstance, Atoms, goal, is_never, start};
+use pb_ground::{ActionInstance, Atoms, goal, start};
 use pb_lifted::Lifted;
 use pb_pddl::{Domain, Problem};
 use pb_task::{Actions, StripsParts};
@@ -61,7 +61,8 @@ fn packed_actions(
     Ok(all)
 }
 
-/// The task of a domain and a problem, from its ground atoms and ground actions.
+/// The task of a domain and a problem, from its atoms and actions, and whether it has no goal state:
+/// whichever atoms these are the task for.
 pub(crate) fn parts_of(
     alloc: Global,
     domain: &Domain,
@@ -69,16 +70,18 @@ pub(crate) fn parts_of(
     lifted: &Lifted,
     atoms: &Atoms,
     actions: &[ActionInstance],
+    never: bool,
 ) -> Result<StripsParts, AllocError>
     requires lifted { lifted.now ≡ lifted_of domain.now problem.now }
-    requires atoms { atoms.now ≡ ground_atoms lifted.now }
     requires few { length atoms.now ≤ most_atoms }
-    requires actions { actions.now ≡ ground_actions lifted.now atoms.now }
-    ensures { IfOk result (λ parts. parts ≡ strips_of domain.now problem.now) }
+    requires actions { All (HasAtoms most_atoms) actions.now }
+    ensures { IfOk result (λ parts. (kept : Facts)
+        → actions.now ≡ kept_actions lifted.now kept atoms.now
+        → never ≡ kept_never lifted.now kept
+        → parts ≡ strips_by domain.now problem.now kept atoms.now) }
 {
     let first = start(alloc, lifted, atoms)?;
     let wanted = goal(alloc, lifted, atoms)?;
-    let never = is_never(alloc, lifted)?;
     let actions = packed_actions(alloc, domain, problem, actions)?;
     Ok(StripsParts {
         atoms: atoms.as_slice().len() as u32,
