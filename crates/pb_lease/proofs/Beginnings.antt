@@ -1,9 +1,8 @@
 -- The beginnings of a run: the machine that it begins with, and which graphs begin one.
-use Rattle.std.proofs.Common.{◌≡◌, ℕ, ◌+◌, ◌<◌, ◌==◌, Bool, true, false, List, [], Option, Some, None, refl, sym, ap, ◌∙◌, subst, true≢false, ⊎_elim}
+use Rattle.std.proofs.Common.{◌≡◌, ℕ, true, false, List, [], Option, Some, None, refl, sym, ap, ◌∙◌, subst, true≢false, ⊎_elim}
 use Rattle.std.proofs.lemmas.Option.{same_Some}
 use Rattle.pb_model.specs.Weight.{Weight, IsWeight}
 use Rattle.pb_model.specs.Store.{Rows, Store}
-use Rattle.pb_model.specs.declared.row.Row.{Row}
 use Rattle.pb_model.specs.Work.{reopened_row}
 use Rattle.pb_model.proofs.Callers.{by_cases, equal, equal_self}
 use Rattle.pb_task.specs.Parts.{greatest_cost}
@@ -26,7 +25,7 @@ use Rattle.pb_lease.specs.Leased.{setup_of}
 use Rattle.pb_lease.specs.GraphValue.{GraphValue, setup_in, counts_in, IsLeaseGraph}
 use Rattle.pb_lease.specs.Choices.{is_out_in}
 use Rattle.pb_lease.specs.Moments.{IsMomentAt, IsMoment}
-use Rattle.pb_lease.specs.Begins.{home_store, begin_machine, IsBegin, KnowsAlone, LawfulMomentsBegin, IsReopened, ReopenedGraphsBegin}
+use Rattle.pb_lease.specs.Begins.{home_store, begin_machine, IsBegin, KnowsAlone, LawfulMomentsBegin, IsReopened, ReopenedGraphsBegin, FitsWord, IsFirstMoment, BeginsAgain}
 use Rattle.pb_lease.proofs.GraphBasics.{setup_is, lawful_in, all_rows}
 use Rattle.pb_lease.proofs.AtHome.{home_rows_are_whole}
 
@@ -93,12 +92,14 @@ module _ (g : GraphValue) (k : IsLeaseGraph g) (empty : g.table.journal ≡ []) 
         broken = λ worker. unbroken worker i;
       }
 
-      begins : ((cost : ℕ) → g.incumbent ≡ Some cost → cost < 18446744073709551615) → IsBegin g
-      begins fits = record {
+      first_moment : IsFirstMoment g
+      first_moment = record {
         empty = empty;
         moment = λ other. subst (λ (n : Machine). IsMoment g other n) is_begin (record { at = whole_at other; incumbent = m.incumbent; untold = m.untold });
-        fits = fits;
       }
+
+      begins : FitsWord g.incumbent → IsBegin g
+      begins fits = record { empty = empty; moment = first_moment.moment; fits = fits }
 
 pub lawful_moments_begin : LawfulMomentsBegin
 lawful_moments_begin g recorded machine k empty m alone fits = (is_begin g k empty recorded machine m alone, begins g k empty recorded machine m alone fits)
@@ -148,10 +149,19 @@ module _ (reopening_is_lawful : ReopeningIsLawful) (old new : GraphValue) (weigh
     untold = λ worker. refl;
   }
 
-  pub reopened_begins : ((cost : ℕ) → old.incumbent ≡ Some cost → cost < 18446744073709551615) → IsBegin new
-  reopened_begins fits = (lawful_moments_begin new recorded Next kept r.journal moment
-      (λ worker other is. same_is other machine.store.incumbent is ∙ incumbent)
-      (λ cost is. fits cost (sym r.incumbent ∙ is))).1
+  alone : KnowsAlone Next new.incumbent
+  alone worker other is = same_is other machine.store.incumbent is ∙ incumbent
+
+  pub again : IsFirstMoment new × (FitsWord old.incumbent → IsBegin new) × (setup_in new ≡ reopened_setup (setup_in old) weight) × (begin_machine new ≡ Next)
+  again = (
+    first_moment new kept r.journal recorded Next moment alone,
+    λ fits. begins new kept r.journal recorded Next moment alone (λ cost is. fits cost (sym r.incumbent ∙ is)),
+    setup,
+    sym (is_begin new kept r.journal recorded Next moment alone),
+  )
 
 pub reopened_graphs_begin : ReopeningIsLawful → ReopenedGraphsBegin
-reopened_graphs_begin reopens old new weight recorded machine k m quiet is_weight fits kept r = reopened_begins reopens old new weight recorded machine k m quiet is_weight kept r fits
+reopened_graphs_begin reopens old new weight recorded machine k m quiet is_weight fits kept r = (again reopens old new weight recorded machine k m quiet is_weight kept r).1 fits
+
+pub begins_again : ReopeningIsLawful → (old new : GraphValue) (weight : Weight) → IsLeaseGraph old → old.table.end ≡ Some Quiet → IsWeight weight → IsLeaseGraph new → IsReopened old weight new → BeginsAgain old weight new
+begins_again reopens old new weight k quiet is_weight kept r recorded machine m = again reopens old new weight recorded machine k m quiet is_weight kept r

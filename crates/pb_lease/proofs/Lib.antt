@@ -34,3 +34,5 @@ mod Changed
 mod AfterWork
 mod AtHome
 mod Beginnings
+mod TableReopened
+mod GraphReopened

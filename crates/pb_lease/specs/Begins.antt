@@ -8,10 +8,11 @@ use Rattle.pb_machine.specs.declared.event.End.TheVariants.{Quiet}
 use Rattle.pb_machine.specs.Settings.{weight_of, settings_with}
 use Rattle.pb_machine.specs.Counts.{opening_counts}
 use Rattle.pb_machine.specs.Machine.{is_same, Machine}
+use Rattle.pb_machine.specs.Lawful.{reopened_machine, reopened_setup}
 use Rattle.pb_lists.specs.Store.{store_with}
 use Rattle.pb_bundles.specs.Homes.{key_at, home_rows}
 use Rattle.pb_bundles.specs.Stores.{HasKeys}
-use Rattle.pb_lease.specs.GraphValue.{GraphValue, IsLeaseGraph}
+use Rattle.pb_lease.specs.GraphValue.{GraphValue, setup_in, IsLeaseGraph}
 use Rattle.pb_lease.specs.Moments.{IsMoment}
 
 -- the rows at home as a store
@@ -87,3 +88,24 @@ ReopenedGraphsBegin =
     → IsWeight weight
     → ((cost : ℕ) → old.incumbent ≡ Some cost → cost < 18446744073709551615)
     → IsLeaseGraph new → IsReopened old weight new → IsBegin new
+
+-- what a word of 64 bits can say beside "none", if it is a cost
+abbrev pub FitsWord : Option ℕ → Type 0
+FitsWord incumbent = (cost : ℕ) → incumbent ≡ Some cost → cost < 18446744073709551615
+
+-- A run of one worker, who shares nothing, can begin with this graph: no event has come, and it is
+-- a lawful moment. If a word can say the incumbent too, any run can (`IsBegin`).
+pub record IsFirstMoment (g : GraphValue) : Type 0 where
+  pub empty : g.table.journal ≡ []
+  pub moment : (recorded : (worker : ℕ) → Rows) → IsMoment g recorded (begin_machine g)
+
+-- Take a lawful moment of the old graph. The new graph, which is the old one opened again with this
+-- weight, is the first moment of another run. The search of that run, and the machine that it
+-- begins with, are those of the old graph, opened again.
+abbrev pub BeginsAgain : (old : GraphValue) → Weight → (new : GraphValue) → Type 0
+BeginsAgain old weight new =
+    (recorded : (worker : ℕ) → Rows) (machine : Machine) → IsMoment old recorded machine
+    → IsFirstMoment new
+    × (FitsWord old.incumbent → IsBegin new)
+    × (setup_in new ≡ reopened_setup (setup_in old) weight)
+    × (begin_machine new ≡ reopened_machine (setup_in old) weight machine)

@@ -1,5 +1,5 @@
 -- The tables of the lease machine, and the counts that they represent.
-use Rattle.std.specs.Prelude.{ℕ, Bool, false, List, Option, None, get_or}
+use Rattle.std.specs.Prelude.{ℕ, ◌+◌, Bool, false, List, Option, None, get_or}
 use Rattle.pb_machine.specs.declared.event.End.{End}
 use Rattle.pb_machine.specs.declared.event.Event.{Event}
 use Rattle.pb_machine.specs.declared.settings.Settings.{Settings}
@@ -24,6 +24,10 @@ pub record Table : Type 0 where
 -- what a first run has behind it
 abbrev pub no_past : Past
 no_past = record { reopenings = 0; spent = 0 }
+
+-- what the next run on the same rows has behind it
+abbrev pub past_after : Table → Past
+past_after table = record { reopenings = table.past.reopenings + 1; spent = table.spent }
 
 -- what a worker has that hasn't had a lease yet
 abbrev pub vacant : Seat

@@ -29,7 +29,7 @@ use Rattle.pb_yard.specs.Rule.{rows_of, YardFact, IsYard}
 use Rattle.pb_yard.specs.Replies.{NoneMayBeLeased, LeasesAs, lease_events, lent_by, told_by, RenewsAs, renewal_events, kept_by, ReleasesAs, release_events, ChangesMarkAs, mark_events, SignsOffAs, reported, off_events}
 use Rattle.pb_yard.specs.Returning.{IsBrought}
 use Rattle.pb_yard.specs.Calls.{Holds, Looks}
-use Rattle.pb_yard.proofs.InTime.{GrantsNone, ending_grants_none, end_grants_none}
+use Rattle.pb_yard.proofs.InTime.{GrantsNone, end_grants_none}
 use Rattle.pb_yard.proofs.Holding.{holding_keeps}
 use Rattle.pb_yard.proofs.Steps.{Steps, AreTimely, plain_timely, off_timely, report_free, MayReturn, may_cause, keeps_step, lease_step, release_step, renew_step, brought_of_graph, same_rest, first_by, end_by, ending_by}
 use Rattle.pb_yard.proofs.Asks.{begins}

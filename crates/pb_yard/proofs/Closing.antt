@@ -13,7 +13,7 @@ use Rattle.pb_machine.specs.Views as of_machine
 use Rattle.pb_machine.proofs.Callers.{signed_off_is_finished, histories_are_lawful, all_off_none_out, last_views_tell_all, last_views_sign_off}
 use Rattle.pb_lease.specs.Tables.{blocks}
 use Rattle.pb_lease.specs.GraphValue.{GraphValue, setup_in, counts_in}
-use Rattle.pb_lease.specs.Begins.{begin_machine, IsBegin, IsOfRun}
+use Rattle.pb_lease.specs.Begins.{begin_machine, IsBegin, IsOfRun, FitsWord}
 use Rattle.pb_lease.specs.Choices.{is_out_in}
 use Rattle.pb_lease.proofs.Callers.{none_out_is_moment}
 use Rattle.pb_yard.specs.declared.view.View.{View}
@@ -25,7 +25,8 @@ use Rattle.pb_yard.proofs.Parts.{at_journal, moment_where_leased}
 use Rattle.pb_yard.proofs.Meaning.{history}
 
 module _ (x : GraphValue) (seat : ℕ) (v : View) (live : v.journal.is_live ≡ true) (views : List View) (h : IsYard x x.incumbent views) (at : get_elem? views seat ≡ some v)
-    (alone : (other : ℕ) (w : View) → get_elem? views other ≡ some w → other ≢ seat → w ≡ spent_pass_view) (off : AllSignedOff v) where
+    (alone : (other : ℕ) (w : View) → get_elem? views other ≡ some w → other ≢ seat → w ≡ spent_pass_view) (off : AllSignedOff v)
+    (fits : FitsWord x.incumbent) where
   spent : (other : ℕ) (left : of_machine.View) → get_elem? (map journal_view views) other ≡ some left → other ≢ seat → left.is_live ≡ false
   spent other left e apart =
       let t = map_at journal_view views other left e in
@@ -67,6 +68,7 @@ module _ (x : GraphValue) (seat : ℕ) (v : View) (live : v.journal.is_live ≡ 
         moment = λ recorded. none_out_is_moment x recorded h.machine
             (moment_where_leased x (λ worker. rows_of (h.lent worker)) recorded h.machine
             (λ worker grant is. none_leased worker grant (ap (λ (c : Counts). c.leases worker) (sym h.moment.counts) ∙ is)) h.moment) home h.shared_is;
+        fits = fits;
       }
     where
       none_leased : {A : Type 0} (worker : ℕ) (grant : Grant) → (counts_in x).leases worker ≡ Some grant → A

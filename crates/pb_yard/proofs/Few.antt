@@ -1,8 +1,7 @@
 -- A run in time has few leases: each that comes back closed a row, and only expansions bring new ones.
-use Rattle.std.proofs.Common.{◌≡◌, ℕ, ◌+◌, ◌-◌, ◌*◌, ◌<◌, ◌≤◌, length, Bool, true, false, cond, ◌==◌, is_some, List, [], ◌∷◌, Option, Some, None, refl, sym, ap, ◌∙◌, subst, arith, true≢false, ◌⊎◌, inl, inr}
+use Rattle.std.proofs.Common.{◌≡◌, ℕ, ◌+◌, ◌*◌, ◌<◌, ◌≤◌, length, Bool, true, false, cond, ◌==◌, is_some, List, [], ◌∷◌, Option, Some, None, refl, sym, ap, ◌∙◌, subst, arith, true≢false, ◌⊎◌, inl, inr}
 use Rattle.std.proofs.lemmas.Bool.{or_left}
 use Rattle.std.proofs.Math.Nat.{mul-add, mul-one, mul-zero}
-use Rattle.pb_model.specs.declared.row.Status.TheVariants.{Opened}
 use Rattle.pb_model.specs.declared.row.Row.{Row}
 use Rattle.pb_model.specs.Store.{Store, is_place_of, HasOpened}
 use Rattle.pb_model.specs.Work.{offered_row, Comes, expansions, broken_expansions}

@@ -1,14 +1,16 @@
 -- What a pass reads as the incumbent, and what the graph takes of it.
-use Rattle.std.proofs.Common.{◌≡◌, ℕ, ◌==◌, ◌||◌, true, IsTrue, List, ◌∷◌, length, Option, Some, None, refl, sym, ap, ◌∙◌, subst, arith}
+use Rattle.std.proofs.Common.{◌≡◌, ℕ, ◌==◌, ◌<◌, ◌||◌, cond, nat_lt, true, IsTrue, List, ◌∷◌, length, Option, Some, None, refl, sym, ap, ◌∙◌, subst, arith, true≢false}
+use Rattle.std.proofs.lemmas.Option.{same_Some}
 use Rattle.std.specs.List.{list_any}
 use Rattle.std.proofs.Math.Bool.{or-true}
 use mathlib.Core.Option.{some}
 use lib.ListN.{get_elem?}
 use Rattle.pb_turn.specs.Obligations.{LeaveKeeps, Stands}
 use Rattle.pb_model.specs.Store.{AtMost}
-use Rattle.pb_model.proofs.Callers.{at_most_trans, equal_self}
+use Rattle.pb_model.proofs.Callers.{at_most_trans, below, by_cases, equal_self, not_below}
 use Rattle.pb_lease.specs.LeaseValue.{LeaseValue}
 use Rattle.pb_lease.specs.GraphValue.{GraphValue}
+use Rattle.pb_lease.specs.Begins.{FitsWord}
 use Rattle.pb_lease.proofs.Callers.{bound_taken, lesser_other, none_below}
 use Rattle.pb_task.specs.Parts.{space_of}
 use Rattle.pb_model.specs.Work.{Work}
@@ -98,6 +100,21 @@ pub closing_yard : (f : GraphValue) (number : ℕ) (views : List View) → Fact 
 closing_yard f number views h =
     let y = bounded_yard f (cost_of number) (cost_of number) views h (λ cost is worker. subst (λ o. h.machine.known worker o ≡ true) (h.shared_is ∙ is) (h.moment.lawful.is_known worker)) in
     subst (λ o. IsYard (bounded f (cost_of number)) o views) (sym (bounded_is f (cost_of number) (known_above f (cost_of number) views h 0 f.incumbent (h.moment.incumbent 0)))) y
+
+-- a word says no cost that it can't say beside "none"
+word_fits : (number : ℕ) → number < 18446744073709551616 → FitsWord (cost_of number)
+word_fits number small cost is = by_cases (number == 18446744073709551615)
+    (λ e. let bad : ◌≡◌ {A = Option ℕ} None (Some cost) = sym (ap (λ r. cond r None (Some number)) e) ∙ is in cc)
+    (λ e. let same : number ≡ cost = same_Some number cost (sym (ap (λ r. cond r None (Some number)) e) ∙ is) in
+    by_cases (nat_lt number 18446744073709551615)
+    (λ less. let lt = below number 18446744073709551615 less in omega (arith, same, lt))
+    (λ more. let le = not_below number 18446744073709551615 more in let last : number ≡ 18446744073709551615 = omega (arith, le, small) in
+    absurd (true≢false (sym (ap (λ n. n == 18446744073709551615) last) ∙ e))))
+
+-- nor does the graph of a yard that is closed have one
+pub closing_fits : (f : GraphValue) (number : ℕ) (views : List View) → Fact f number views → number < 18446744073709551616 → FitsWord (bounded f (cost_of number)).incumbent
+closing_fits f number views h small cost is =
+    word_fits number small cost (sym (bounded_is f (cost_of number) (known_above f (cost_of number) views h 0 f.incumbent (h.moment.incumbent 0))) ∙ is)
 
 -- what a holder that has read finds
 pub entered : (f : GraphValue) (v : View) (o : Option ℕ) (seat : ℕ) (u : View) → u ≡ view_read (Some f) v o → v.journal.is_live ≡ true → Stands Fact seat u f

@@ -8,7 +8,6 @@ use Rattle.pb_machine.specs.declared.event.End.TheVariants.{Quiet, Budget, Memor
 use Rattle.pb_machine.specs.declared.event.Event.{Event}
 use Rattle.pb_machine.specs.declared.event.Event.TheVariants.{Lease, Renew, Hot, Cold, Release, Off, Ended}
 use Rattle.pb_machine.specs.declared.event.Grant.{Grant}
-use Rattle.pb_machine.specs.Tables.{any_below}
 use Rattle.pb_machine.specs.Counts.{Counts, is_any_out, AreLawful, counts_after}
 use Rattle.pb_machine.specs.declared.event.EventRefusal.TheVariants.{Trouble}
 use Rattle.pb_machine.specs.Legality.{is_memory_end, tests, refusal}

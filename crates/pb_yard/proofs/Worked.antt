@@ -1,5 +1,5 @@
 -- A lease that its worker expanded one row of, and that read no incumbent meanwhile, may come back.
-use Rattle.std.proofs.Common.{◌≡◌, ℕ, ◌+◌, ◌<◌, true, Option, Some, None, IsSome, sym, ap, ◌∙◌, subst, arith}
+use Rattle.std.proofs.Common.{◌≡◌, ℕ, ◌+◌, ◌<◌, true, Option, Some, None, IsSome, sym, ap, ◌∙◌, subst}
 use Rattle.pb_model.specs.Store.{AtMost}
 use Rattle.pb_machine.specs.Machine.{IsWorked}
 use Rattle.pb_machine.specs.Turns.{AreLeaseTurns}

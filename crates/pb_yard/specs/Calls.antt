@@ -18,7 +18,7 @@ use Rattle.pb_lease.specs.LeaseValue.{LeaseValue}
 use Rattle.pb_lease.specs.GraphValue.{GraphValue, setup_in, counts_in}
 use Rattle.pb_lease.specs.Choices.{is_out_in}
 use Rattle.pb_lease.specs.Moments.{IsMoment, moves_of}
-use Rattle.pb_lease.specs.Begins.{begin_machine, IsBegin, IsOfRun}
+use Rattle.pb_lease.specs.Begins.{begin_machine, IsBegin, IsOfRun, FitsWord}
 use Rattle.pb_yard.specs.declared.view.View.{View}
 use Rattle.pb_yard.specs.Views.{view_read, view_told, view_then}
 use Rattle.pb_yard.specs.Order.{RunsSettled, RunsInTime}
@@ -157,7 +157,8 @@ pub record AllSignedOff (view : View) : Type 0 where
 -- is a finished history: it has an end, and every worker has signed off. Each worker's events in it
 -- are those that the pass has of it, and no other worker has any. No lease is out. Moves from the machine that a run begins with,
 -- at the graph that the yard began with, lead to the graph's moment of the lease machine. They are
--- in order and in time, and their events are the journal.
+-- in order and in time, and their events are the journal. A word can say the incumbent beside "none",
+-- so a yard can take the graph again once it was opened again.
 pub record IsClosed (view : View) (g : GraphValue) : Type 0 where
   pub search : IsSearchOf g view
   pub of_run : IsOfRun view.begin g
@@ -176,3 +177,4 @@ pub record IsClosed (view : View) (g : GraphValue) : Type 0 where
   pub run : RunsInTime (setup_in g) no_room (begin_machine view.begin) moves machine
   pub journal : journal_of moves ≡ g.table.journal
   pub moment : (recorded : (worker : ℕ) → Rows) → IsMoment g recorded machine
+  pub fits : FitsWord g.incumbent

@@ -1,6 +1,6 @@
 -- How a worker uses hot marks (the hot n-blocks of Burns, Lemons, Ruml, Zhou 2010): at most once a
 -- turn, when the quota of its lease is used up. It takes no mark away; releases do.
-use Rattle.std.specs.Prelude.{◌≡◌, ℕ, ◌==◌, Bool, true, false, not, ◌&&◌, ◌||◌, if◌then◌else◌, IsSome, List, [], ◌∷◌, Option, Some, None}
+use Rattle.std.specs.Prelude.{ℕ, ◌==◌, Bool, true, false, not, ◌&&◌, ◌||◌, if◌then◌else◌, IsSome, List, [], ◌∷◌, Option, Some, None}
 use Rattle.pb_machine.specs.declared.event.Event.{Event}
 use Rattle.pb_machine.specs.declared.event.Event.TheVariants.{Lease, Renew, Hot, Cold, Release, Off, Ended}
 

@@ -1,5 +1,5 @@
 -- How what a pass knows changes.
-use Rattle.std.specs.Prelude.{ℕ, ◌==◌, if◌then◌else◌, false, List, [], ◌∷◌, Option, Some, None, length, drop}
+use Rattle.std.specs.Prelude.{ℕ, ◌==◌, if◌then◌else◌, List, [], ◌∷◌, Option, Some, None, length, drop}
 use Rattle.pb_model.specs.Store.{lesser}
 use Rattle.pb_task.specs.declared.parts.TaskParts.TheVariants.{Tiles}
 use Rattle.pb_estimate.specs.declared.choice.Choice.TheVariants.{Plain}

@@ -23,6 +23,7 @@ pub(crate) mod closing;
 pub(crate) mod granting;
 pub(crate) mod hot;
 pub(crate) mod lowering;
+pub(crate) mod reopen;
 pub(crate) mod returning;
 pub(crate) mod store;
 pub(crate) mod switching;
@@ -183,6 +184,13 @@ impl LeaseGraph {
     {
         let _ = self.tables.journal();
         self.tables.abstraction()
+    }
+
+    /// The abstract graph, which the caller shares with the graph. An error means out of memory.
+    pub fn shared_abstraction(&self) -> Result<Arc<AbsGraph>, AllocError>
+        ensures { IfOk result (λ shared. arc_value shared ≡ self.now.table.abstraction) }
+    {
+        self.tables.shared_abstraction()
     }
 
     /// For how many more events of the worker there is room in the journal, beside the return of

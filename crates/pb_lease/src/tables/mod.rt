@@ -13,6 +13,7 @@ pub(crate) mod ending;
 pub(crate) mod leasing;
 pub(crate) mod marking;
 pub(crate) mod marks;
+pub(crate) mod reopening;
 pub(crate) mod seats;
 
 use crate::past::Past;
@@ -121,6 +122,13 @@ impl MachineTables {
         ensures { result.now ≡ self.now.abstraction }
     {
         &self.abstraction
+    }
+
+    /// The abstract graph, which the caller shares with the tables. An error means out of memory.
+    pub fn shared_abstraction(&self) -> Result<Arc<AbsGraph>, AllocError>
+        ensures { IfOk result (λ shared. arc_value shared ≡ self.now.abstraction) }
+    {
+        Ok(Arc::clone(&self.abstraction)?)
     }
 
     /// What the search is run with.

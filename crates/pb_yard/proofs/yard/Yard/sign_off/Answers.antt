@@ -1,4 +1,4 @@
-use Rattle.std.proofs.Common.{◌≡◌, ◌<◌, ℕ, Bool, ◌∷◌, [], ◌||◌, is_some, None, true, false, length, sym, ap, ◌∙◌, subst}
+use Rattle.std.proofs.Common.{◌≡◌, ◌<◌, ℕ, Bool, ◌∷◌, ◌||◌, is_some, None, true, false, length, sym, ap, ◌∙◌, subst}
 use Rattle.pb_turn.specs.Passes.{view, number, found}
 use Rattle.pb_lease.specs.GraphValue.{GraphValue, counts_in}
 use Rattle.pb_yard.specs.Views.{cost_of}
