@@ -1,7 +1,8 @@
 -- What a search came to, as its callers learn it.
-use Rattle.std.proofs.Common.{◌≡◌, ◌≤◌, ◌^◌, ◌⊎◌, inl, inr, true, ℕ, List, Option, None, Some, Result, IfOk, refl, sym, ap, ◌∙◌, subst, arith}
+use Rattle.std.proofs.Common.{◌≡◌, ◌<◌, ◌≤◌, ◌^◌, ◌⊎◌, inl, inr, true, ℕ, List, Option, None, Some, Result, IfOk, refl, sym, ap, ◌∙◌, subst, arith}
 use Rattle.std.proofs.lemmas.Result.{IfOk-weaker}
 use Rattle.pb_model.specs.Weight.{Weight}
+use Rattle.pb_model.specs.Store.{Rows}
 use Rattle.pb_model.specs.Work.{Comes, expansions, opening_store}
 use Rattle.pb_model.proofs.Callers.{by_cases, weights_stay}
 use Rattle.pb_machine.specs.declared.event.End.{End}
@@ -19,17 +20,20 @@ use Rattle.pb_task.specs.declared.parts.TaskParts.{TaskParts}
 use Rattle.pb_abstract.specs.Projection.{IsFinest}
 use Rattle.pb_abstract.specs.Graph.{AbstractGraph, blocks_of, IsGraph, IsGraphOf}
 use Rattle.pb_lease.specs.Leased.{setup_of}
+use Rattle.pb_lease.specs.Tables.{no_past}
 use Rattle.pb_lease.specs.GraphValue.{GraphValue, setup_in}
+use Rattle.pb_lease.specs.Moments.{IsMoment}
+use Rattle.pb_lease.specs.Begins.{FitsWord}
 use Rattle.pb_lease.proofs.Callers.{setup_is, all_rows}
 use Rattle.pb_task.specs.Parts.{greatest_cost}
 use Rattle.pb_yard.specs.Marking.{MarksInTurn}
 use Rattle.pb_yard.specs.Order.{RunsInTime}
 use Rattle.pb_yard.proofs.Callers.{in_time_is_run, other_ends_have_no_report, runs_are_short}
 use Rattle.pb_workers.proofs.Callers.{store_is, best_end}
-use Rattle.pb_search.specs.Ends.{choice_of, search_of, HasSmallCosts, IsBestOf, HasEndedSo, RunEnds, EndsBy, StopsWith, EndsQuietly, MarksNothing}
-use Rattle.pb_search.specs.Searched.{HasSearched}
+use Rattle.pb_search.specs.Ends.{choice_of, search_of, HasSmallCosts, IsBestOf, HasEndedSo, RunEnds, EndsBy, StopsWith, EndsQuietly, IsLeftBy, IsLeftBySearch, MarksNothing}
+use Rattle.pb_search.specs.Searched.{Opens, HasRun, HasSearched}
 use Rattle.pb_search.proofs.Marks.{marks_nothing}
-use Rattle.pb_search.proofs.Ending.{searched_so}
+use Rattle.pb_search.proofs.Ending.{searched}
 
 -- no lease was released for want of memory, where the search ended otherwise
 none_broken_at : (p : Setup) (m : Machine) → IsLawful p m → (m.counts.end ≡ Some Quiet) ⊎ (m.counts.end ≡ Some Budget) → broken_leases p m ≡ 0
@@ -89,6 +93,19 @@ module _ (setup : Setup) (is_setup : IsSetup setup greatest_cost) (range : AreIn
     ended_so = ends_so end is;
     within = within;
     unreported = other_ends_have_no_report setup greatest_cost no_room moves begin machine is_setup first (ap (λ (c : Counts). c.end) begins) run end is (λ memory. not_memory ended (is ∙ ap (λ (e : End). Some e) memory));
+  }
+
+  -- the graph that is this moment, with these events, is what the run left
+  pub left_at : (g : GraphValue) (recorded : (worker : ℕ) → Rows) → IsMoment g recorded machine → g.table.journal ≡ journal_of moves → (end : End) → g.table.end ≡ Some end → IsLeftBy setup before begin g
+  unfolding run_ends
+  left_at g recorded m journal end is = record {
+    end = end;
+    end_is = is;
+    moves = moves;
+    journal_is = journal;
+    run = run_ends end (ap (λ (c : Counts). c.end) m.at.counts ∙ is);
+    recorded = recorded;
+    moment = m;
   }
 
 module _ (parts : TaskParts) (abstraction : AbstractGraph) (settings : Settings) (range : AreInRange settings) (graph_of : IsGraphOf parts abstraction)
@@ -174,13 +191,22 @@ module _ (parts : TaskParts) (abstraction : AbstractGraph) (settings : Settings)
   pub plain_marks_nothing : settings.plain ≡ true → MarksNothing g.table.journal
   plain_marks_nothing plain = subst MarksNothing (sym h.journal) (marks_nothing setup plain h.moves (opening_machine setup) h.machine h.run)
 
+  left_by : IsLeftBy setup 0 (opening_machine setup) g
+  left_by = elim h.ended [ inl quiet ↦ at Quiet quiet | inr budget ↦ at Budget budget ]
+    where
+      at : (end : End) → g.table.end ≡ Some end → IsLeftBy setup 0 (opening_machine setup) g
+      at = left_at setup is_setup range 0 (omega arith) (opening_machine setup) refl (opening_is_lawful setup greatest_cost is_setup refl) h.moves h.machine h.ordered lawful h.finished within ended g h.recorded h.moment h.journal
+
+  pub left_by_search : IsLeftBySearch parts settings g
+  left_by_search = subst (λ (a : AbstractGraph). IsLeftBy (search_of parts a settings) 0 (opening_machine (search_of parts a settings)) g) (sym h.graph_is) left_by
+
 -- ---- what a call hands back
 
--- The two ways to search get the task and the blocks by references of their own. The blocks were made for the task and counted.
-module _ {E : Type 0} (parts made_for task : TaskParts) (abstraction made counted blocks : AbstractGraph) (settings own : Settings) (range : AreInRange settings)
+-- The blocks were made for the task, by a reference of their own, and counted.
+module _ {E : Type 0} (parts made_for : TaskParts) (abstraction made counted : AbstractGraph) (settings : Settings) (range : AreInRange settings)
     (for_is : made_for ≡ parts) (made_is : abstraction ≡ made) (graph_of : IsGraphOf made_for made) (finest : IsFinest made_for settings.wish made.projection)
-    (counted_is : counted ≡ abstraction) (lawful : IsGraph counted) (task_is : task ≡ parts) (blocks_are : blocks ≡ abstraction) (own_are : own ≡ settings)
-    (r : Result GraphValue E) (found : IfOk r (HasSearched task blocks own)) where
+    (counted_is : counted ≡ abstraction) (lawful : IsGraph counted) (opening : GraphValue) (opens : Opens parts abstraction settings opening)
+    (r : Result GraphValue E) (found : IfOk r (HasRun opening)) where
   its_graph : IsGraphOf parts abstraction
   its_graph = subst (λ (p : TaskParts). IsGraphOf p abstraction) for_is (subst (λ (a : AbstractGraph). IsGraphOf made_for a) (sym made_is) graph_of)
 
@@ -191,25 +217,53 @@ module _ {E : Type 0} (parts made_for task : TaskParts) (abstraction made counte
   few_blocks : (blocks_of abstraction).count ≤ 4096
   few_blocks = (subst IsGraph counted_is lawful).few
 
-  in_those_words : (g : GraphValue) → HasSearched task blocks own g → HasSearched parts abstraction settings g
-  in_those_words g = searched_so parts task abstraction blocks settings own g task_is blocks_are own_are
+  from_opening : (g : GraphValue) → HasRun opening g → HasSearched parts abstraction settings g
+  from_opening = searched parts abstraction settings opening opens
+
+  pub task_then : IfOk r (λ g. g.task ≡ parts)
+  task_then = IfOk-weaker r (HasRun opening) (λ g. g.task ≡ parts) (λ g h. (from_opening g h).task) found
+
+  pub blocks_then : IfOk r (λ g. IsGraphOf parts g.table.abstraction)
+  blocks_then = IfOk-weaker r (HasRun opening) (λ g. IsGraphOf parts g.table.abstraction)
+      (λ g h. subst (λ (a : AbstractGraph). IsGraphOf parts a) (sym (from_opening g h).graph_is) its_graph) found
+
+  pub finest_then : IfOk r (λ g. IsFinest parts settings.wish g.table.abstraction.projection)
+  finest_then = IfOk-weaker r (HasRun opening) (λ g. IsFinest parts settings.wish g.table.abstraction.projection)
+      (λ g h. subst (λ (a : AbstractGraph). IsFinest parts settings.wish a.projection) (sym (from_opening g h).graph_is) its_finest) found
+
+  pub settings_then : IfOk r (λ g. g.table.settings ≡ settings)
+  settings_then = IfOk-weaker r (HasRun opening) (λ g. g.table.settings ≡ settings) (λ g h. (from_opening g h).settings_are) found
+
+  pub past_then : IfOk r (λ g. g.table.past ≡ no_past)
+  past_then = IfOk-weaker r (HasRun opening) (λ g. g.table.past ≡ no_past) (λ g h. (from_opening g h).past) found
+
+  pub ended_then : IfOk r (λ g. (g.table.end ≡ Some Quiet) ⊎ (g.table.end ≡ Some Budget))
+  ended_then = IfOk-weaker r (HasRun opening) (λ g. (g.table.end ≡ Some Quiet) ⊎ (g.table.end ≡ Some Budget)) (λ g h. h.ended) found
 
   pub best_then : IfOk r (λ g. g.table.end ≡ Some Quiet → IsBestOf parts settings g)
-  best_then = IfOk-weaker r (HasSearched task blocks own) (λ g. g.table.end ≡ Some Quiet → IsBestOf parts settings g)
-      (λ g h. is_best parts abstraction settings range its_graph its_finest few_blocks g (in_those_words g h)) found
+  best_then = IfOk-weaker r (HasRun opening) (λ g. g.table.end ≡ Some Quiet → IsBestOf parts settings g)
+      (λ g h. is_best parts abstraction settings range its_graph its_finest few_blocks g (from_opening g h)) found
 
   pub quiet_run_then : IfOk r (λ g. g.table.end ≡ Some Quiet → EndsQuietly parts settings g.table.journal g)
-  quiet_run_then = IfOk-weaker r (HasSearched task blocks own) (λ g. g.table.end ≡ Some Quiet → EndsQuietly parts settings g.table.journal g)
-      (λ g h. quiet_run parts abstraction settings range its_graph its_finest few_blocks g (in_those_words g h)) found
+  quiet_run_then = IfOk-weaker r (HasRun opening) (λ g. g.table.end ≡ Some Quiet → EndsQuietly parts settings g.table.journal g)
+      (λ g h. quiet_run parts abstraction settings range its_graph its_finest few_blocks g (from_opening g h)) found
 
   pub stop_then : IfOk r (λ g. g.table.end ≡ Some Budget → StopsWith parts settings g.table.journal)
-  stop_then = IfOk-weaker r (HasSearched task blocks own) (λ g. g.table.end ≡ Some Budget → StopsWith parts settings g.table.journal)
-      (λ g h. budget_stop parts abstraction settings range its_graph its_finest few_blocks g (in_those_words g h)) found
+  stop_then = IfOk-weaker r (HasRun opening) (λ g. g.table.end ≡ Some Budget → StopsWith parts settings g.table.journal)
+      (λ g h. budget_stop parts abstraction settings range its_graph its_finest few_blocks g (from_opening g h)) found
 
   pub choice_then : IfOk r (λ g. g.choice ≡ choice_of settings)
-  choice_then = IfOk-weaker r (HasSearched task blocks own) (λ g. g.choice ≡ choice_of settings)
-      (λ g h. (in_those_words g h).choice_is) found
+  choice_then = IfOk-weaker r (HasRun opening) (λ g. g.choice ≡ choice_of settings)
+      (λ g h. (from_opening g h).choice_is) found
 
   pub plain_then : IfOk r (λ g. settings.plain ≡ true → MarksNothing g.table.journal)
-  plain_then = IfOk-weaker r (HasSearched task blocks own) (λ g. settings.plain ≡ true → MarksNothing g.table.journal)
-      (λ g h. plain_marks_nothing parts abstraction settings range its_graph its_finest few_blocks g (in_those_words g h)) found
+  plain_then = IfOk-weaker r (HasRun opening) (λ g. settings.plain ≡ true → MarksNothing g.table.journal)
+      (λ g h. plain_marks_nothing parts abstraction settings range its_graph its_finest few_blocks g (from_opening g h)) found
+
+  pub left_then : IfOk r (IsLeftBySearch parts settings)
+  left_then = IfOk-weaker r (HasRun opening) (IsLeftBySearch parts settings)
+      (λ g h. left_by_search parts abstraction settings range its_graph its_finest few_blocks g (from_opening g h)) found
+
+  pub fits_then : IfOk r (λ g. 1 < settings.workers → FitsWord g.incumbent)
+  fits_then = IfOk-weaker r (HasRun opening) (λ g. 1 < settings.workers → FitsWord g.incumbent)
+      (λ g h. (from_opening g h).fits) found

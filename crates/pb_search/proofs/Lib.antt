@@ -4,3 +4,4 @@ mod Leaves
 mod Ending
 mod Clauses
 mod Closed
+mod GoingOn

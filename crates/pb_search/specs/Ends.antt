@@ -3,7 +3,7 @@ use Rattle.std.specs.Prelude.{◌≡◌, ℕ, ◌-◌, ◌^◌, ◌≤◌, Bool,
 use Rattle.std.specs.List.{list_any}
 use Rattle.pb_model.specs.Weight.{Weight, IsWeight}
 use Rattle.pb_model.specs.Guide.{Guide}
-use Rattle.pb_model.specs.Store.{Store, IsQuiet, HasOpened, CostsAtMost}
+use Rattle.pb_model.specs.Store.{Rows, Store, IsQuiet, HasOpened, CostsAtMost}
 use Rattle.pb_model.specs.Work.{Work, Comes, expansions, broken_expansions, reopenings, ReopensQuiet, opening_store}
 use Rattle.pb_machine.specs.declared.event.End.{End}
 use Rattle.pb_machine.specs.declared.event.End.TheVariants.{Quiet, Budget, Memory}
@@ -23,6 +23,7 @@ use Rattle.pb_abstract.specs.Projection.{IsFinest}
 use Rattle.pb_abstract.specs.Graph.{AbstractGraph, blocks_of, IsGraphOf}
 use Rattle.pb_lease.specs.Leased.{guide_of, setup_of}
 use Rattle.pb_lease.specs.GraphValue.{GraphValue, setup_in}
+use Rattle.pb_lease.specs.Moments.{IsMoment}
 use Rattle.pb_lease.specs.Begins.{begin_machine}
 use Rattle.pb_lease.specs.Choices.{is_out_in}
 use Rattle.pb_yard.specs.Order.{RunsInTime}
@@ -164,6 +165,31 @@ pub record EndsQuietly (parts : TaskParts) (settings : Settings) (journal : List
   pub ends : EndsBy parts settings Quiet moves
   pub blocks : graph.table.abstraction ≡ ends.abstraction
   pub rows : home_store graph ≡ ends.run.machine.store
+
+-- ---- the graph that a run leaves
+
+-- A run that began with this machine, after earlier runs had spent so much of the budget, ended and
+-- left this graph: a moment of the machine that the run came to, with the run's events as its journal.
+pub record IsLeftBy (setup : Setup) (before : ℕ) (begin : Machine) (graph : GraphValue) : Type 0
+  where
+    pub end : End
+    pub end_is : graph.table.end ≡ Some end
+    pub moves : List Move
+    pub journal_is : graph.table.journal ≡ journal_of moves
+    pub run : RunEnds setup before begin end moves
+    pub recorded : (worker : ℕ) → Rows
+    pub moment : IsMoment graph recorded run.machine
+
+-- the run that began with this graph left that one
+abbrev pub IsLeftByRun : (begin graph : GraphValue) → Type 0
+IsLeftByRun begin graph =
+    IsLeftBy (setup_in begin) begin.table.past.spent (begin_machine begin) graph
+
+-- a search of this task with these settings, from its opening, left this graph
+abbrev pub IsLeftBySearch : TaskParts → Settings → (graph : GraphValue) → Type 0
+IsLeftBySearch parts settings graph =
+    let setup = search_of parts graph.table.abstraction settings in
+    IsLeftBy setup 0 (opening_machine setup) graph
 
 -- ---- marks
 

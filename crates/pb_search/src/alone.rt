@@ -2,8 +2,8 @@
 ghost use Rattle.std.specs.Prelude.{◌≡◌, IfOk, option_map, option_copied};
 ghost use Rattle.std.specs.Arc.{arc_value};
 ghost use Rattle.pb_estimate.specs.Tables.{HasTable};
-ghost use Rattle.pb_abstract.specs.Graph.{IsGraphOf};
-ghost use Rattle.pb_search.specs.Searched.{Opens, HasSearched};
+ghost use Rattle.pb_lease.specs.Begins.{IsFirstMoment};
+ghost use Rattle.pb_search.specs.Searched.{HasRun};
 
 use pb_abstract::AbsGraph;
 use pb_lease::LeaseGraph;
@@ -24,11 +24,13 @@ pub fn search_alone<G: Gate>(
     gate: &G,
     table: Option<&Arc<Table>>,
 ) -> Result<LeaseGraph, AllocError>
-    requires opens { Opens task.now abstraction.now opening.table.settings opening }
+    requires task { opening.task ≡ task.now }
+    requires abstraction { opening.table.abstraction ≡ abstraction.now }
+    requires begin { IsFirstMoment opening }
     requires alone { opening.table.settings.workers ≡ 1 }
     requires table { HasTable task.now opening.choice
         (option_map arc_value (option_copied table)) }
-    ensures { IfOk result (HasSearched task.now abstraction.now opening.table.settings) }
+    ensures { IfOk result (HasRun opening) }
 {
     let mut graph = opening;
     run_alone(alloc, task, abstraction, &mut graph, gate, table)?;

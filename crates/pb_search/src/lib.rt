@@ -3,10 +3,12 @@
 #![tactic(auto)]
 
 mod alone;
+mod going_on;
 mod laws;
 mod opening;
 mod searching;
 mod together;
 
+pub use going_on::search_on;
 pub use laws::closed_yards_have_ended;
 pub use searching::search;

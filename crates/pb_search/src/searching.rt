@@ -1,11 +1,13 @@
 //! A search from a task and settings to its end.
-ghost use Rattle.std.specs.Prelude.{◌≡◌, ◌⊎◌, IfOk, IsTrue, Some};
+ghost use Rattle.std.specs.Prelude.{◌≡◌, ◌<◌, ◌⊎◌, IfOk, IsTrue, Some};
 ghost use Rattle.std.specs.Arc.{arc_value};
 ghost use Rattle.pb_machine.specs.declared.event.End.TheVariants.{Quiet, Budget};
 ghost use Rattle.pb_machine.specs.Settings.{AreInRange};
 ghost use Rattle.pb_abstract.specs.Projection.{IsFinest};
 ghost use Rattle.pb_abstract.specs.Graph.{IsGraphOf};
-ghost use Rattle.pb_search.specs.Ends.{choice_of, IsBestOf, EndsQuietly, StopsWith, MarksNothing};
+ghost use Rattle.pb_lease.specs.Tables.{no_past};
+ghost use Rattle.pb_lease.specs.Begins.{FitsWord};
+ghost use Rattle.pb_search.specs.Ends.{choice_of, IsBestOf, EndsQuietly, StopsWith, IsLeftBySearch, MarksNothing};
 
 use crate::alone::search_alone;
 use crate::opening::opening;
@@ -42,6 +44,7 @@ pub fn search<R: Threads + Wait + Sync, G: Gate>(
         IsFinest (arc_value task.now) settings.wish graph.table.abstraction.projection) }
     ensures settings { IfOk result (λ graph. graph.table.settings ≡ settings) }
     ensures choice { IfOk result (λ graph. graph.choice ≡ choice_of settings) }
+    ensures past { IfOk result (λ graph. graph.table.past ≡ no_past) }
 
     // How it ended, and what the rows are then.
     ensures ended { IfOk result (λ graph.
@@ -56,6 +59,10 @@ pub fn search<R: Threads + Wait + Sync, G: Gate>(
         → StopsWith (arc_value task.now) settings graph.table.journal) }
     ensures plain { IfOk result (λ graph. IsTrue settings.plain
         → MarksNothing graph.table.journal) }
+
+    // What another run needs that goes on with the graph, once it was opened again.
+    ensures left { IfOk result (IsLeftBySearch (arc_value task.now) settings) }
+    ensures fits { IfOk result (λ graph. 1 < settings.workers → FitsWord graph.incumbent) }
 {
     let abstraction = Arc::new(alloc, AbsGraph::of(alloc, task, settings.wish)?)?;
     let _few = abstraction.count();

@@ -3,7 +3,8 @@ ghost use Rattle.std.specs.Prelude.{◌≡◌, ◌<◌, IfOk, option_map, option
 ghost use Rattle.std.specs.Arc.{arc_value};
 ghost use Rattle.pb_estimate.specs.Tables.{HasTable};
 ghost use Rattle.pb_abstract.specs.Graph.{IsGraphOf};
-ghost use Rattle.pb_search.specs.Searched.{Opens, HasSearched};
+ghost use Rattle.pb_lease.specs.Begins.{IsBegin};
+ghost use Rattle.pb_search.specs.Searched.{HasRun};
 
 use pb_abstract::AbsGraph;
 use pb_lease::LeaseGraph;
@@ -28,12 +29,14 @@ pub fn search_together<R: Threads + Wait + Sync, G: Gate>(
     gate: &G,
     table: Option<&Arc<Table>>,
 ) -> Result<LeaseGraph, AllocError>
-    requires opens { Opens task.now abstraction.now opening.table.settings opening }
+    requires task { opening.task ≡ task.now }
+    requires abstraction { opening.table.abstraction ≡ abstraction.now }
+    requires begin { IsBegin opening }
     requires of_task { IsGraphOf task.now abstraction.now }
     requires several { 1 < opening.table.settings.workers }
     requires table { HasTable task.now opening.choice
         (option_map arc_value (option_copied table)) }
-    ensures { IfOk result (HasSearched task.now abstraction.now opening.table.settings) }
+    ensures { IfOk result (HasRun opening) }
 {
     let workers = opening.settings().workers;
     let choice = opening.choice().clone()?;

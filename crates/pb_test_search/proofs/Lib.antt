@@ -1,2 +1,3 @@
 mod CountingKeeps
 mod LoweringKeeps
+mod FallingKeeps

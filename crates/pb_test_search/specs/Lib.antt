@@ -1,3 +1,4 @@
 pub mod Counting
 pub mod Lowering
 pub mod NewGraph
+pub mod FallingWeights

@@ -5,6 +5,8 @@
 #[cfg(test)]
 mod counting;
 #[cfg(test)]
+mod falling;
+#[cfg(test)]
 mod gates;
 #[cfg(test)]
 mod graphs;

@@ -1,4 +1,9 @@
+use Rattle.std.proofs.Common.{◌≡◌, Some, sym, subst}
 use Rattle.std.specs.Arc.{arc_value}
+use Rattle.pb_machine.specs.declared.event.End.TheVariants.{Budget}
+use Rattle.pb_task.specs.declared.parts.TaskParts.{TaskParts}
+use Rattle.pb_lease.specs.GraphValue.{GraphValue}
+use Rattle.pb_search.specs.Searches.{LeavesStopped}
 use Rattle.pb_command.specs.Causes.{solve_meant}
 use Rattle.pb_answer.proofs.Certified.{found, stop_found}
 use Rattle.pb_answer.proofs.leases.solve_by_leases.Goals as goal
@@ -13,3 +18,19 @@ returns-in-Some-Budget g c =
     stop_found (solve_meant c.args.solve) c.deref-in-Some-Budget.result.now
     (arc_value c.args.task.now) c.deref-in-Some-Budget.ensures c.answer_stop.result
     c.answer_stop.ensures
+
+pub answer_stop-requires-clause-stopped : goal.answer_stop-requires-clause-stopped
+answer_stop-requires-clause-stopped g c =
+    let here : c.keep_leases-graph.result.now.table.end ≡ Some Budget =
+    cc (c.end.ensures, c.in-Some-Budget.is, c.in-Some-Budget.field-0-is) in
+    let ended : c.in_ok-graph.graph.table.end ≡ Some Budget =
+    subst (λ (v : GraphValue). v.table.end ≡ Some Budget) c.keep_leases-graph.ensures here in
+    subst (λ (v : GraphValue). LeavesStopped c.deref-in-Some-Budget.result.now c.args.solve.settings v)
+    (sym c.keep_leases-graph.ensures)
+    (subst (λ (p : TaskParts). LeavesStopped p c.args.solve.settings c.in_ok-graph.graph)
+    (sym c.deref-in-Some-Budget.ensures)
+    (record {
+      settings_are = c.in_ok-graph.ensures.settings;
+      run = c.in_ok-graph.ensures.budget ended;
+      plain = c.in_ok-graph.ensures.plain;
+    }))

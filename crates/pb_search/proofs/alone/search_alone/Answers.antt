@@ -1,16 +1,16 @@
-use Rattle.pb_search.proofs.Ending.{opening_is_moment, none_out, none_signed_off, alone_searched}
+use Rattle.pb_search.proofs.Ending.{begin_is_moment, none_out, none_signed_off, alone_ran}
 use Rattle.pb_search.proofs.alone.search_alone.Goals as goal
 
 pub run_alone-requires-clause-moment : goal.run_alone-requires-clause-moment
-run_alone-requires-clause-moment g c _ _ = opening_is_moment c.args.task.now c.args.abstraction.now c.args.opening.table.settings c.args.opening c.requires.opens
+run_alone-requires-clause-moment g c _ _ = begin_is_moment c.args.opening c.requires.begin
 
 pub run_alone-requires-clause-home : goal.run_alone-requires-clause-home
-run_alone-requires-clause-home g c _ _ = none_out c.args.task.now c.args.abstraction.now c.args.opening.table.settings c.args.opening c.requires.opens
+run_alone-requires-clause-home g c _ _ = none_out c.args.opening c.requires.begin
 
 pub run_alone-requires-clause-stays : goal.run_alone-requires-clause-stays
-run_alone-requires-clause-stays g c _ _ = none_signed_off c.args.task.now c.args.abstraction.now c.args.opening.table.settings c.args.opening c.requires.opens
+run_alone-requires-clause-stays g c _ _ = none_signed_off c.args.opening c.requires.begin
 
 pub returns : goal.returns
 returns g c =
-    alone_searched c.args.task.now c.args.abstraction.now c.args.opening.table.settings c.args.opening c.requires.opens c.run_alone.new.graph c.run_alone.ensures.same c.requires.alone
+    alone_ran c.args.opening c.requires.begin c.run_alone.new.graph c.run_alone.ensures.same c.requires.alone
     c.abstraction-lawful.ensures.lawful c.journal-events.ensures.within c.run_alone.ensures.run c.run_alone.ensures.home c.in_ok-run_alone.ensures.signed_off c.in_ok-run_alone.ensures.ended c.run_alone.ensures.marks
