@@ -8,7 +8,7 @@ use crate::numbers::{at, narrow, with};
 use crate::partitioning::{Alone, Sum};
 use crate::variables::Variables;
 use pb_packed::Packed;
-use pb_tables::{Table, Trap};
+use pb_tables::{ImageList, Table, Trap};
 use std::alloc::{AllocError, Global};
 
 // The greatest value of a table.
@@ -83,10 +83,10 @@ fn listed_of(
 }
 
 // The sets of images.
-fn sets_of(alloc: Global, listed: &[Listed]) -> Result<Vec<Packed>, AllocError> {
-    let mut sets = Vec::new(alloc);
+fn sets_of(alloc: Global, listed: &[Listed]) -> Result<ImageList, AllocError> {
+    let mut sets = ImageList::new(alloc);
     for entry in listed {
-        sets.push(entry.set)?;
+        sets.push(&entry.set)?;
     }
     Ok(sets)
 }
@@ -134,7 +134,7 @@ fn are_small(values: &[u64]) -> bool
 fn table_if_lawful(
     sums: usize,
     tracked: Packed,
-    listed: Vec<Packed>,
+    listed: ImageList,
     values: Vec<u64>,
 ) -> Option<Table>
     ensures { IfSome result (λ table. IsTable sums table) }
@@ -164,11 +164,11 @@ pub fn table_of(
 }
 
 // The images from which no goal is reached.
-fn trapped_of(alloc: Global, listed: &[Listed], alone: &[u64]) -> Result<Vec<Packed>, AllocError> {
-    let mut trapped = Vec::new(alloc);
+fn trapped_of(alloc: Global, listed: &[Listed], alone: &[u64]) -> Result<ImageList, AllocError> {
+    let mut trapped = ImageList::new(alloc);
     for entry in listed {
         if at(alone, entry.image as usize) >= UNKNOWN {
-            trapped.push(entry.set)?;
+            trapped.push(&entry.set)?;
         }
     }
     Ok(trapped)
@@ -183,7 +183,7 @@ pub fn trap_of(
 ) -> Result<Option<Trap>, AllocError> {
     let listed = listed_of(alloc, variables, images)?;
     let trapped = trapped_of(alloc, &listed, alone)?;
-    if trapped.is_empty() {
+    if trapped.len() == 0 {
         return Ok(None);
     }
     Ok(Some(Trap::of(tracked_of(variables, images), trapped)))

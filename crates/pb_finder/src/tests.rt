@@ -5,7 +5,7 @@ ghost use Rattle.pb_task.specs.Strips.{IsGroundAction, IsStrips};
 use crate::find_tables;
 use pb_model::Estimate;
 use pb_packed::Packed;
-use pb_tables::{Table, Tables};
+use pb_tables::{ImageList, Table, Tables};
 use pb_task::{ActionName, Actions, GroundAction, StripsParts};
 use std::alloc::{AllocError, Global};
 use std::process::Abort;
@@ -80,9 +80,21 @@ fn starts_have_the_costs_of_plans(rt: HostRuntime) -> Result<(), AllocError> {
     Ok(())
 }
 
+fn has_same_images(one: &ImageList, other: &ImageList) -> bool {
+    if one.len() != other.len() {
+        return false;
+    }
+    for place in 0..one.len() {
+        if place < other.len() && one.at(place) != other.at(place) {
+            return false;
+        }
+    }
+    true
+}
+
 fn is_same(one: &Table, other: &Table) -> bool {
     one.tracked() == other.tracked()
-        && one.listed() == other.listed()
+        && has_same_images(one.listed(), other.listed())
         && one.values() == other.values()
 }
 

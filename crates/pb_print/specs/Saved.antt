@@ -6,10 +6,10 @@ use Rattle.pb_outside.specs.Calls.{Call}
 use Rattle.pb_outside.specs.Saves.{IsWritten, HaveBegun}
 use Rattle.pb_model.specs.Texts.{line, lines}
 
--- How many bytes a line of a saved text has at most, its line feed included. The longest is a row
--- of a certificate: 256 digits of a state, its g and its status.
+-- How many bytes a line of a saved text has at most, its line feed included. The longest is an
+-- image of a table: 256 digits, and 64 values of at most 20 digits, each behind a blank.
 abbrev pub longest_line : ℕ
-longest_line = 320
+longest_line = 1664
 
 -- the line of this number, counted from 0, was put at the end of the piece, which grew by no more
 -- than a line has

@@ -10,7 +10,7 @@ use crate::Piece;
 use pb_outside::{Failed, Shelf};
 
 // No line has more bytes, its line feed included.
-const LONGEST: usize = 320;
+const LONGEST: usize = 1664;
 
 /// A text in lines, which are numbered from 0 and put in their order.
 ///
@@ -31,7 +31,7 @@ pub trait NumberedLines {
     fn count(&self) -> u128
         ensures count { result ≡ length (lines_of self.now) }
         ensures some { 1 ≤ result }
-        ensures most { result < 2 ^ 66 }
+        ensures most { result < 2 ^ 80 }
         ensures text { lines (lines_of self.now) ≡ text self.now }
         ensures first { begins self.now 0 0 };
 

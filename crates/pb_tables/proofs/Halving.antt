@@ -1,12 +1,10 @@
 -- What halving finds in a list that rises is the first place of the image.
-use Rattle.std.proofs.Common.{◌≡◌, ℕ, zero, suc, ◌+◌, ◌-◌, ◌<◌, ◌≤◌, ◌==◌, List, length, get_or, slice_index, None, Some, Result, Ok, Err, inl, inr, sym, subst, ap, arith}
-use Rattle.std.specs.Ordering.{nat_cmp}
-use Rattle.std.specs.List.Sorted.{IsBinarySearchResult}
+use Rattle.std.proofs.Common.{◌≡◌, ℕ, zero, suc, ◌+◌, ◌-◌, ◌<◌, ◌≤◌, ◌==◌, List, length, get_or, slice_index, Option, None, Some, inl, inr, sym, subst, ap, arith}
 use Rattle.std.proofs.lemmas.Bool.{cases_lt, cases_eq, eq-eqb, ne_eqb}
-use Rattle.std.proofs.lemmas.List.Sorted.{searched}
 use Rattle.pb_tables.specs.Below.{some_if}
 use Rattle.pb_tables.specs.Images.{place_in}
 use Rattle.pb_tables.specs.Order.{AreRising}
+use Rattle.pb_tables.specs.Flat.{AreAscending, IsPlaceOf}
 use Rattle.pb_tables.proofs.Searches.{none_first, none_if, found_first, is_if}
 
 pub rises : (listed : List ℕ) → AreRising listed → (low more : ℕ) → low + suc more < length listed → slice_index listed low < slice_index listed (low + suc more)
@@ -30,15 +28,6 @@ rises_to listed rising low high less inside =
         | inr apart ↦ (high - low, omega (arith, apart, less))
       ]
 
-never_falls : (listed : List ℕ) → AreRising listed → (i j : ℕ) → i ≤ j → j < length listed → get_or listed i 0 ≤ get_or listed j 0
-never_falls listed rising i j order inside = elim (cases_eq i j) [
-  | inl same ↦ let equal : get_or listed i 0 ≡ get_or listed j 0 = ap (λ k. get_or listed k 0) same in omega (arith, equal)
-  | inr apart ↦
-      let less : i < j = omega (arith, order, apart) in
-      let below : slice_index listed i < slice_index listed j = rises_to listed rising i j less inside in
-      omega (arith, below)
-]
-
 module _ (listed : List ℕ) (image : ℕ) (rising : AreRising listed) where
   pub found : (place : ℕ) → place < length listed → slice_index listed place ≡ image → place_in listed image ≡ Some place
   found place inside there =
@@ -48,19 +37,11 @@ module _ (listed : List ℕ) (image : ℕ) (rising : AreRising listed) where
       none_if (slice_index listed p == image) p (ne_eqb (slice_index listed p) image (λ same. omega (arith, same, below, there)))))
       (is_if (slice_index listed place == image) place (eq-eqb (slice_index listed place) image there))
 
-  pub searched_some : (r : Result ℕ ℕ) → IsBinarySearchResult (λ y. nat_cmp y image) listed r → (place : ℕ) → r ≡ Ok place → place_in listed image ≡ Some place
-  searched_some (Ok other) is place e =
-      let same : other ≡ place = let f : ◌≡◌ {A = Result ℕ ℕ} (Ok other) (Ok place) = e in cc in
-      let here = searched listed image (Ok other) is (never_falls listed rising) in
-      subst (λ k. place_in listed image ≡ Some k) same (found other here.0 here.1)
-  searched_some (Err other) is place e = absurd (let f : ◌≡◌ {A = Result ℕ ℕ} (Err other) (Ok place) = e in cc)
+  -- what is the place of the image, if it has one, is the first such place
+  pub place_found : (place : Option ℕ) → IsPlaceOf place listed image → place ≡ place_in listed image
+  place_found (Some place) is = sym (found place is.0.0 is.0.1)
+  place_found None is =
+      sym (none_first (length listed) (λ p. some_if (slice_index listed p == image) p) (λ p inside. none_if (slice_index listed p == image) p (ne_eqb (slice_index listed p) image (is.1 p inside))))
 
-  pub searched_none : (r : Result ℕ ℕ) → IsBinarySearchResult (λ y. nat_cmp y image) listed r → (place : ℕ) → r ≡ Err place → place_in listed image ≡ None
-  searched_none (Ok other) is place e = absurd (let f : ◌≡◌ {A = Result ℕ ℕ} (Ok other) (Err place) = e in cc)
-  searched_none (Err other) is place e =
-      let here = searched listed image (Err other) is (never_falls listed rising) in
-      none_first (length listed) (λ p. some_if (slice_index listed p == image) p) (λ p inside.
-      none_if (slice_index listed p == image) p (ne_eqb (slice_index listed p) image (λ same. elim (cases_lt p other) [
-        | inl low ↦ omega (arith, same, here.1 p low)
-        | inr high ↦ omega (arith, same, here.2 p high inside)
-      ])))
+pub ascends : (listed : List ℕ) → AreRising listed → AreAscending listed
+ascends listed rising j k less inside = rises_to listed rising j k less inside

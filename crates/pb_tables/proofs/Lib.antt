@@ -5,6 +5,7 @@ mod Searches
 mod Imaging
 mod Admissible
 mod Halving
+mod FlatNumbers
 mod Estimating
 mod Written
 mod Firsts

@@ -1,4 +1,5 @@
 pub mod Below
+pub mod Flat
 pub mod Images
 pub mod Tables
 pub mod Order

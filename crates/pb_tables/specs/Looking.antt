@@ -1,5 +1,6 @@
 -- What the look at tables computes on the way.
 use Rattle.std.specs.Prelude.{◌≡◌, ℕ, ◌<◌, ◌≤◌, Bool, true, false, Option}
+use Rattle.pb_packed.specs.Words.{number_of, AreWords}
 use Rattle.pb_task.specs.declared.parts.GroundAction.{GroundAction}
 use Rattle.pb_tables.specs.declared.effect.Effect.{Effect}
 use Rattle.pb_tables.specs.Below.{some_if}
@@ -13,7 +14,8 @@ pub record IsFirst (count : ℕ) (test : ℕ → Bool) (number : ℕ) : Type 0 w
 
 -- the sets of an action, cut to the tracked atoms
 pub record IsEffect (count tracked : ℕ) (action : GroundAction) (effect : Effect) : Type 0 where
-  pub needs : effect.needs ≡ both count action.needs tracked
+  pub words : AreWords 16 effect.needs
+  pub needs : number_of effect.needs ≡ both count action.needs tracked
   pub adds : effect.adds ≡ both count action.adds tracked
   pub deletes : effect.deletes ≡ both count action.deletes tracked
 

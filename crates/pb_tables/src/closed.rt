@@ -10,6 +10,7 @@ ghost use Rattle.pb_tables.specs.Suits.{is_dear_goal, table_fault, trap_fault, t
 
 use crate::effect::{Effect, effect_of, leads_out, touches};
 use crate::fault::TablesFault;
+use crate::images::ImageList;
 use crate::sets::{both, is_within};
 use crate::table::Table;
 use crate::trap::Trap;
@@ -23,7 +24,7 @@ use pb_task::StripsParts;
 fn first_out(
     strips: &StripsParts,
     tracked: &Packed,
-    listed: &[Packed],
+    listed: &ImageList,
     action: usize,
     effect: &Effect,
     limit: usize,
@@ -37,7 +38,14 @@ fn first_out(
         (action_at strips.now.actions action) (slice_index listed.now place)) result }
 {
     for place in 0..limit {
-        if leads_out(strips, tracked, listed, action, effect, &listed[place]) {
+        if leads_out(
+            strips,
+            tracked,
+            listed,
+            action,
+            effect,
+            listed.words_at(place),
+        ) {
             return place;
         }
     }
@@ -48,7 +56,7 @@ fn first_out(
 fn first_out_if_touched(
     strips: &StripsParts,
     tracked: &Packed,
-    listed: &[Packed],
+    listed: &ImageList,
     action: usize,
     limit: usize,
 ) -> usize
@@ -69,7 +77,7 @@ fn first_out_if_touched(
 
 // The first place below a limit from whose image some action leads out, and the limit if there is
 // none. One action after another is looked at, so that its sets are cut once.
-fn first_open(strips: &StripsParts, tracked: &Packed, listed: &[Packed], limit: usize) -> usize
+fn first_open(strips: &StripsParts, tracked: &Packed, listed: &ImageList, limit: usize) -> usize
     requires strips { IsStrips strips.now }
     requires written { IsWritten strips.now.atoms tracked.now listed.now }
     requires limit { limit ≤ length listed.now }
@@ -110,7 +118,7 @@ fn first_dear_goal(strips: &StripsParts, sums: usize, table: &Table) -> usize
     let listed = table.listed();
     let values = table.values();
     for place in 0..listed.len() {
-        let is_goal = is_within(strips.atoms, &goal, &listed[place]);
+        let is_goal = is_within(strips.atoms, &goal, &listed.at(place));
         if is_goal && has_value(sums, values, place) {
             return place;
         }
@@ -129,7 +137,7 @@ fn first_goal(strips: &StripsParts, trap: &Trap) -> usize
     let goal = both(strips.atoms, &strips.goal, trap.tracked());
     let listed = trap.listed();
     for place in 0..listed.len() {
-        if is_within(strips.atoms, &goal, &listed[place]) {
+        if is_within(strips.atoms, &goal, &listed.at(place)) {
             return place;
         }
     }

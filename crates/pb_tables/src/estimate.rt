@@ -6,7 +6,6 @@ ghost use Rattle.pb_tables.specs.Tables.{IsTable, value_at};
 ghost use Rattle.pb_tables.specs.Order.{AreWritten, AreTrapsWritten};
 ghost use Rattle.pb_tables.specs.Estimate.{is_trapped, is_unlisted, sum_of};
 
-use crate::places::place_in;
 use crate::sets::both;
 use crate::sums::{SUMS, no_sums};
 use crate::table::Table;
@@ -22,7 +21,7 @@ pub fn is_trapped(count: u32, traps: &[Trap], state: &Packed) -> bool
     for number in 0..traps.len() {
         let trap = &traps[number];
         let image = both(count, state, trap.tracked());
-        if place_in(trap.listed(), &image).is_some() {
+        if trap.listed().place_of(&image).is_some() {
             return true;
         }
     }
@@ -69,7 +68,7 @@ pub fn greatest_sum(count: u32, sums: usize, tables: &[Table], state: &Packed) -
     for number in 0..tables.len() {
         let table = &tables[number];
         let image = both(count, state, table.tracked());
-        match place_in(table.listed(), &image) {
+        match table.listed().place_of(&image) {
             Some(place) => add_values(&mut totals, sums, table.values(), place),
             None => return 0,
         }

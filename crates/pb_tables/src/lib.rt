@@ -8,10 +8,11 @@ mod closed;
 mod effect;
 mod estimate;
 mod fault;
+mod images;
 mod laws;
+mod numbers;
 mod order;
 mod paid;
-mod places;
 mod sets;
 mod sums;
 mod table;
@@ -19,6 +20,7 @@ mod tables;
 mod trap;
 
 pub use fault::TablesFault;
+pub use images::ImageList;
 pub use laws::{
     estimates_are_small, examples_are_estimated, examples_are_judged, tables_are_admissible,
 };

@@ -4,24 +4,25 @@ ghost use Rattle.pb_packed.specs.Sizes.{most_atoms};
 ghost use Rattle.pb_tables.specs.Suits.{is_ordered, order_fault, tables_order_fault, traps_order_fault};
 
 use crate::fault::TablesFault;
+use crate::images::ImageList;
 use crate::sets::{both, is_atom_set};
 use crate::table::Table;
 use crate::trap::Trap;
 use pb_packed::Packed;
 
 // Whether the image in a place is of tracked atoms, and above the one before it.
-fn is_ordered(count: u32, tracked: &Packed, listed: &[Packed], place: usize) -> bool
+fn is_ordered(count: u32, tracked: &Packed, listed: &ImageList, place: usize) -> bool
     requires count { count ≤ most_atoms }
     requires tracked { tracked.now < 2 ^ count }
     requires place { place < length listed.now }
     ensures { result ≡ is_ordered count tracked.now listed.now place }
 {
-    let image = &listed[place];
-    both(count, image, tracked) == *image && (place == 0 || listed[place - 1] < *image)
+    let image = listed.at(place);
+    both(count, &image, tracked) == image && (place == 0 || listed.at(place - 1) < image)
 }
 
 // The first line of a list that isn't written as one.
-fn order_fault(count: u32, tracked: &Packed, listed: &[Packed]) -> Option<usize>
+fn order_fault(count: u32, tracked: &Packed, listed: &ImageList) -> Option<usize>
     requires { count ≤ most_atoms }
     ensures { result ≡ order_fault count tracked.now listed.now }
 {

@@ -8,7 +8,6 @@ ghost use Rattle.pb_tables.specs.Suits.{is_unpaid, sums_unpaid};
 
 use crate::effect::{Effect, effect_of, image_step, touches};
 use crate::fault::TablesFault;
-use crate::places::place_in;
 use crate::sums::{SUMS, no_sums};
 use crate::table::Table;
 use pb_task::StripsParts;
@@ -61,9 +60,9 @@ fn drops_of_table(
     let mut drops = no_sums();
     let listed = table.listed();
     for place in 0..listed.len() {
-        let image = &listed[place];
+        let image = listed.words_at(place);
         if let Some(next) = image_step(strips, table.tracked(), action, effect, image) {
-            let to = place_in(listed, &next);
+            let to = listed.place_of(&next);
             raise(&mut drops, sums, table.values(), place, to);
         }
     }

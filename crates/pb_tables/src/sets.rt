@@ -1,5 +1,5 @@
 //! Sets of atoms, packed or as words. Of two sets of words, the lowest word comes first.
-ghost use Rattle.std.specs.Prelude.{◌≡◌, ℕ, ◌*◌, ◌<◌, ◌≤◌, ◌^◌, ◌↔◌, ◌&&◌, ◌||◌, not, IsTrue, length};
+ghost use Rattle.std.specs.Prelude.{◌≡◌, ℕ, ◌*◌, ◌<◌, ◌≤◌, ◌^◌, ◌↔◌, ◌&&◌, ◌||◌, not, IsTrue, length, slice_index};
 ghost use Rattle.pb_packed.specs.Sizes.{state_bits, most_atoms};
 ghost use Rattle.pb_packed.specs.Words.{number_of, AreWords};
 ghost use Rattle.pb_task.specs.Strips.{has_atom, is_within, is_atom_set};
@@ -8,18 +8,26 @@ ghost use Rattle.pb_tables.specs.Images.{both, image_after};
 
 use pb_packed::{BITS, Packed};
 
+// The word in a place, and 0 beyond the last one.
+#[inline]
+fn word_at(words: &[u64], i: usize) -> u64
+    ensures { result ≡ slice_index words.now i }
+{
+    if i < words.len() { words[i] } else { 0 }
+}
+
 // Whether the one set is within the other.
 #[inline]
 fn are_within(small: &[u64], large: &[u64]) -> bool
     requires small { AreWords (length small.now) small.now }
     requires large { AreWords (length large.now) large.now }
-    requires room { length small.now ≤ length large.now }
     ensures { IsTrue result
         ↔ ((atom : ℕ) → IsTrue (has_atom (number_of small.now) atom)
         → IsTrue (has_atom (number_of large.now) atom)) }
 {
     for i in 0..small.len() {
-        if small[i] & large[i] != small[i] {
+        let held = word_at(large, i);
+        if small[i] & held != small[i] {
             return false;
         }
     }
@@ -117,6 +125,18 @@ pub fn is_within(count: u32, small: &Packed, large: &Packed) -> bool
 {
     let _ = count;
     are_within(&small.to_words(), &large.to_words())
+}
+
+/// The same of sets in words.
+#[inline]
+pub fn is_within_words(count: u32, small: &[u64], large: &[u64]) -> bool
+    requires small { AreWords (length small.now) small.now }
+    requires large { AreWords (length large.now) large.now }
+    requires bits { number_of small.now < 2 ^ count }
+    ensures { result ≡ is_within count (number_of small.now) (number_of large.now) }
+{
+    let _ = count;
+    are_within(small, large)
 }
 
 /// The atoms, of the first `count`, that are in both sets.

@@ -1,6 +1,7 @@
 //! A table: images of states with their values.
 ghost use Rattle.std.specs.Prelude.{◌≡◌};
 
+use crate::images::ImageList;
 use pb_packed::Packed;
 use std::marker::Model;
 
@@ -9,7 +10,7 @@ use std::marker::Model;
 #[derive(Drop)]
 pub struct Table {
     tracked: Packed,
-    listed: Vec<Packed>,
+    listed: ImageList,
     values: Vec<u64>,
 }
 
@@ -20,7 +21,7 @@ impl Model for Table {
 
     ghost view = { λ t. record {
       tracked = t.tracked;
-      listed = t.listed.items;
+      listed = t.listed;
       values = t.values.items;
     } };
 }
@@ -28,9 +29,9 @@ impl Model for Table {
 impl Table {
     /// The table that tracks these atoms and lists these images, with these values. It takes no
     /// memory.
-    pub fn of(tracked: Packed, listed: Vec<Packed>, values: Vec<u64>) -> Table
+    pub fn of(tracked: Packed, listed: ImageList, values: Vec<u64>) -> Table
         ensures tracked { result.tracked ≡ tracked }
-        ensures listed { result.listed ≡ listed.items }
+        ensures listed { result.listed ≡ listed }
         ensures values { result.values ≡ values.items }
     {
         Table {
@@ -48,10 +49,10 @@ impl Table {
     }
 
     /// The images.
-    pub fn listed(&self) -> &[Packed]
+    pub fn listed(&self) -> &ImageList
         ensures { result.now ≡ self.now.listed }
     {
-        self.listed.as_slice()
+        &self.listed
     }
 
     /// The values.

@@ -1,6 +1,7 @@
 //! A trap: images of states from which no goal is reached.
 ghost use Rattle.std.specs.Prelude.{◌≡◌};
 
+use crate::images::ImageList;
 use pb_packed::Packed;
 use std::marker::Model;
 
@@ -8,7 +9,7 @@ use std::marker::Model;
 #[derive(Drop)]
 pub struct Trap {
     tracked: Packed,
-    listed: Vec<Packed>,
+    listed: ImageList,
 }
 
 impl Model for Trap {
@@ -16,14 +17,14 @@ impl Model for Trap {
 
     ghost Value = { TrapValue };
 
-    ghost view = { λ t. record { tracked = t.tracked; listed = t.listed.items } };
+    ghost view = { λ t. record { tracked = t.tracked; listed = t.listed } };
 }
 
 impl Trap {
     /// The trap that tracks these atoms and lists these images. It takes no memory.
-    pub fn of(tracked: Packed, listed: Vec<Packed>) -> Trap
+    pub fn of(tracked: Packed, listed: ImageList) -> Trap
         ensures tracked { result.tracked ≡ tracked }
-        ensures listed { result.listed ≡ listed.items }
+        ensures listed { result.listed ≡ listed }
     {
         Trap { tracked, listed }
     }
@@ -36,9 +37,9 @@ impl Trap {
     }
 
     /// The images.
-    pub fn listed(&self) -> &[Packed]
+    pub fn listed(&self) -> &ImageList
         ensures { result.now ≡ self.now.listed }
     {
-        self.listed.as_slice()
+        &self.listed
     }
 }

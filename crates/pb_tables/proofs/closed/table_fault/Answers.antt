@@ -19,15 +19,17 @@ first c =
     either_first (length list.listed) (is_dear_goal strips c.args.sums list) (λ place. is_open strips list.tracked list.listed (slice_index list.listed place)) c.first_dear_goal-goal.result c.first_open-place.result
     c.first_dear_goal-goal.ensures open_at
 
-pub returns-then-place-listed : goal.returns-then-place-listed
-returns-then-place-listed c =
-    let here : After-listed-2 = (goal.at.returns-then-place-listed c).After-listed-2 in
-    let inside : c.first_open-place.result < length c.args.table.now.listed = subst (λ (listed : List ℕ). c.first_open-place.result < length listed) c.listed-2.ensures c.if-place-listed.true in
+pub returns-then-place-len : goal.returns-then-place-len
+returns-then-place-len c =
+    let here : After-listed-2 = (goal.at.returns-then-place-len c).After-listed-2 in
+    let size : c.len.result ≡ length c.args.table.now.listed = c.len.ensures ∙ ap length c.listed-2.ensures in
+    let inside : c.first_open-place.result < length c.args.table.now.listed = omega (arith, size, c.if-place-len.true) in
     let next : c.first_open-place.result + 1 ≡ suc c.first_open-place.result = omega arith in
     ap (λ (n : ℕ). Some n) next ∙ sym (line_found (length c.args.table.now.listed) _ c.first_open-place.result (first here) inside)
 
-pub returns-else-place-listed : goal.returns-else-place-listed
-returns-else-place-listed c =
-    let here : After-listed-2 = (goal.at.returns-else-place-listed c).After-listed-2 in
-    let past : length c.args.table.now.listed ≤ c.first_open-place.result = subst (λ (listed : List ℕ). length listed ≤ c.first_open-place.result) c.listed-2.ensures c.if-place-listed.false in
+pub returns-else-place-len : goal.returns-else-place-len
+returns-else-place-len c =
+    let here : After-listed-2 = (goal.at.returns-else-place-len c).After-listed-2 in
+    let size : c.len.result ≡ length c.args.table.now.listed = c.len.ensures ∙ ap length c.listed-2.ensures in
+    let past : length c.args.table.now.listed ≤ c.first_open-place.result = omega (arith, size, c.if-place-len.false) in
     sym (no_line (length c.args.table.now.listed) _ c.first_open-place.result (first here) past)

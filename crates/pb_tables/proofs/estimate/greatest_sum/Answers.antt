@@ -8,7 +8,7 @@ use Rattle.pb_tables.proofs.Searches.{found_any, any_more, greatest_same, sum_mo
 use Rattle.pb_tables.proofs.Imaging.{IsPlace, place_is}
 use Rattle.pb_tables.proofs.Estimating.{empty, table_is, values_inside, sum_small, nothing_yet, some_listed, none_listed}
 use Rattle.pb_tables.proofs.estimate.greatest_sum.Goals as goal
-use Rattle.pb_tables.proofs.estimate.greatest_sum.Goals.{After-place_in}
+use Rattle.pb_tables.proofs.estimate.greatest_sum.Goals.{After-place_of}
 
 pub loop-number-init : goal.loop-number-init
 loop-number-init c = record {
@@ -25,18 +25,18 @@ both-image-requires-clause-other c =
     subst (λ (t : ℕ). t < 2 ^ c.args.count) (ap (λ (t : TableValue). t.tracked) (sym here) ∙ sym c.tracked.ensures) small
 
 -- the table in hand, and where it lists the image
-table_here : (c : After-place_in) → c.index-tables-number.result ≡ table_at c.args.tables.now c.loop-number.number
+table_here : (c : After-place_of) → c.index-tables-number.result ≡ table_at c.args.tables.now c.loop-number.number
 table_here c = get_or_read c.args.tables.now c.loop-number.number c.index-tables-number.result c.loop-number-test.true c.index-tables-number.is empty
 
-place_here : (c : After-place_in) → c.place_in.result ≡ place_of c.args.count c.args.state.now (table_at c.args.tables.now c.loop-number.number)
+place_here : (c : After-place_of) → c.place_of.result ≡ place_of c.args.count c.args.state.now (table_at c.args.tables.now c.loop-number.number)
 place_here c =
-    c.place_in.ensures ∙ ap (λ (list : List ℕ). place_in list c.both-image.result) c.listed.ensures
+    c.place_of.ensures ∙ ap (λ (list : List ℕ). place_in list c.both-image.result) c.listed.ensures
     ∙ ap (λ (image : ℕ). place_in c.index-tables-number.result.listed image) (c.both-image.ensures.both ∙ ap (λ (tracked : ℕ). both c.args.count c.args.state.now tracked) c.tracked.ensures)
     ∙ ap (λ (t : TableValue). place_of c.args.count c.args.state.now t) (table_here c)
 
 pub add_values-requires-clause-place : goal.add_values-requires-clause-place
 add_values-requires-clause-place c =
-    let here : After-place_in = (goal.at.add_values-requires-clause-place c).After-place_in in
+    let here : After-place_of = (goal.at.add_values-requires-clause-place c).After-place_of in
     let table = table_at c.args.tables.now c.loop-number.number in
     let place : IsPlace table.listed (both c.args.count c.args.state.now table.tracked) c.in-Some.place =
     place_is table.listed (both c.args.count c.args.state.now table.tracked) c.in-Some.place (sym (place_here here) ∙ c.in-Some.is) in
@@ -51,7 +51,7 @@ add_values-requires-clause-room c = λ sum less.
 
 pub returns-in-None : goal.returns-in-None
 returns-in-None c =
-    let here : After-place_in = (goal.at.returns-in-None c).After-place_in in
+    let here : After-place_of = (goal.at.returns-in-None c).After-place_of in
     let none : is_unlisted c.args.count c.args.tables.now (length c.args.tables.now) c.args.state.now ≡ true =
     found_any (length c.args.tables.now) (λ n. is_none (place_of c.args.count c.args.state.now (table_at c.args.tables.now n))) c.loop-number.number c.loop-number-test.true
     (none_listed (place_of c.args.count c.args.state.now (table_at c.args.tables.now c.loop-number.number)) (sym (place_here here) ∙ c.in-None.is)) in
@@ -59,7 +59,7 @@ returns-in-None c =
 
 pub loop-number-preserved : goal.loop-number-preserved
 loop-number-preserved c =
-    let here : After-place_in = (goal.at.loop-number-preserved c).After-place_in in
+    let here : After-place_of = (goal.at.loop-number-preserved c).After-place_of in
     let table = table_at c.args.tables.now c.loop-number.number in
     let place : place_of c.args.count c.args.state.now table ≡ Some c.in-Some.place = sym (place_here here) ∙ c.in-Some.is in
     record {

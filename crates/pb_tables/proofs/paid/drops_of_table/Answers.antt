@@ -1,5 +1,5 @@
 use Rattle.std.proofs.Common.{◌≡◌, ◌∙◌, ◌+◌, ◌-◌, ◌*◌, ◌≤◌, ℕ, max, List, Option, IfSome, length, slice_index, sym, ap, subst, arith}
-use Rattle.std.proofs.lemmas.List.{get_or_read}
+use Rattle.pb_packed.specs.Words.{number_of}
 use Rattle.pb_task.specs.declared.parts.GroundAction.{GroundAction}
 use Rattle.pb_task.specs.Strips.{action_at}
 use Rattle.pb_tables.specs.Below.{greatest_below}
@@ -17,18 +17,17 @@ loop-place-init c = λ sum less. ap (λ (ds : List ℕ). slice_index ds sum) c.n
 pub raise-requires-clause-to : goal.raise-requires-clause-to
 raise-requires-clause-to c =
     let table : TableValue = c.args.table.now in
-    let to : c.place_in-to.result ≡ place_in table.listed c.in-Some.next = c.place_in-to.ensures ∙ ap (λ (l : List ℕ). place_in l c.in-Some.next) c.listed-listed.ensures in
-    subst (λ (vs : List ℕ). IfSome c.place_in-to.result (λ to. to * c.args.sums + c.args.sums ≤ length vs)) (sym c.values.ensures)
-    (values_at c.args.sums table c.requires.table c.in-Some.next c.place_in-to.result to)
+    let to : c.place_of-to.result ≡ place_in table.listed c.in-Some.next = c.place_of-to.ensures ∙ ap (λ (l : List ℕ). place_in l c.in-Some.next) c.listed-listed.ensures in
+    subst (λ (vs : List ℕ). IfSome c.place_of-to.result (λ to. to * c.args.sums + c.args.sums ≤ length vs)) (sym c.values.ensures)
+    (values_at c.args.sums table c.requires.table c.in-Some.next c.place_of-to.result to)
 
 -- the step that the action makes from the image in hand
 step_here : (c : After-image_step) → image_step c.args.strips.now.atoms c.args.table.now.tracked (action_at c.args.strips.now.actions c.args.action) (slice_index c.args.table.now.listed c.loop-place.place) ≡ c.image_step.result
 step_here c =
     let count = c.args.strips.now.atoms in
     let act : GroundAction = action_at c.args.strips.now.actions c.args.action in
-    let image : c.index-listed-place.result ≡ slice_index c.args.table.now.listed c.loop-place.place =
-    get_or_read c.listed-listed.result.now c.loop-place.place c.index-listed-place.result c.loop-place-test.true c.index-listed-place.is 0 ∙ ap (λ (l : List ℕ). slice_index l c.loop-place.place) c.listed-listed.ensures in
-    sym (c.image_step.ensures ∙ ap (λ (tracked : ℕ). image_step count tracked act c.index-listed-place.result) c.tracked.ensures
+    let image : number_of c.words_at-image.result.now ≡ slice_index c.args.table.now.listed c.loop-place.place = c.words_at-image.ensures.image ∙ ap (λ (l : List ℕ). slice_index l c.loop-place.place) c.listed-listed.ensures in
+    sym (c.image_step.ensures ∙ ap (λ (tracked : ℕ). image_step count tracked act (number_of c.words_at-image.result.now)) c.tracked.ensures
     ∙ ap (λ (i : ℕ). image_step count c.args.table.now.tracked act i) image)
 
 pub loop-place-preserved : goal.loop-place-preserved
@@ -41,12 +40,12 @@ loop-place-preserved c = λ sum less.
     let drop = drop_at count c.args.sums act table sum in
     elim c.match-image_step.branch [
       | in-Some w ↦
-          let listed : w.place_in-to.result ≡ place_in table.listed w.in-Some.next = w.place_in-to.ensures ∙ ap (λ (l : List ℕ). place_in l w.in-Some.next) c.listed-listed.ensures in
+          let listed : w.place_of-to.result ≡ place_in table.listed w.in-Some.next = w.place_of-to.ensures ∙ ap (λ (l : List ℕ). place_in l w.in-Some.next) c.listed-listed.ensures in
           let own : drop place ≡ value_at c.args.sums table.values sum place - value_in c.args.sums table.values sum (place_in table.listed w.in-Some.next) =
           drop_where count c.args.sums act table sum place w.in-Some.next (step_here here ∙ w.in-Some.is) in
           ap (λ (ds : List ℕ). slice_index ds sum) w.drops-is ∙ w.raise.ensures sum less
-          ∙ ap (λ (n : ℕ). max n (value_at c.args.sums w.values.result.now sum place - value_in c.args.sums w.values.result.now sum w.place_in-to.result)) (c.loop-place.invariant sum less)
-          ∙ ap (λ (vs : List ℕ). max (greatest_below place drop) (value_at c.args.sums vs sum place - value_in c.args.sums vs sum w.place_in-to.result)) w.values.ensures
+          ∙ ap (λ (n : ℕ). max n (value_at c.args.sums w.values.result.now sum place - value_in c.args.sums w.values.result.now sum w.place_of-to.result)) (c.loop-place.invariant sum less)
+          ∙ ap (λ (vs : List ℕ). max (greatest_below place drop) (value_at c.args.sums vs sum place - value_in c.args.sums vs sum w.place_of-to.result)) w.values.ensures
           ∙ ap (λ (o : Option ℕ). max (greatest_below place drop) (value_at c.args.sums table.values sum place - value_in c.args.sums table.values sum o)) listed
           ∙ ap (λ (n : ℕ). max (greatest_below place drop) n) (sym own)
           ∙ sym (greatest_more place drop)

@@ -1,0 +1,9 @@
+mod Spelled
+mod States
+mod Sixteens
+mod Loops
+mod Counted
+mod Written
+mod Readable
+mod ReadBack
+mod Examples

@@ -1,0 +1,24 @@
+//! Lines that state tables and traps, as a certificate or a file of its own has them.
+//!
+//! The definition `tables_lines` in `specs` says which lines state tables, and `tables_reading` what
+//! lines state, or the first of them that isn't spelled as it must be.
+#![tactic(auto)]
+
+mod fault;
+mod images;
+mod laws;
+mod line;
+mod listing;
+mod lists;
+mod tables;
+mod text;
+mod words;
+
+pub use fault::LinesError;
+pub use laws::{
+    examples_are_found, examples_are_read, examples_are_written, tables_are_read_as_written,
+};
+pub use listing::line_number;
+pub use lists::LinePlace;
+pub use tables::{read_tables, tables_at};
+pub use text::TablesText;
