@@ -18,7 +18,7 @@ use Rattle.pb_answer.specs.Searches.{choice_asked, weight_asked}
 use Rattle.pb_answer.specs.Named.{NamesTell}
 use Rattle.pb_answer.specs.Outputs.{Output, output}
 use Rattle.pb_answer.specs.Claims.{IsCertificate, Certifies, Solves}
-use Rattle.pb_answer.specs.Ended.{guide_asked, left_with, LeavesQuietRows}
+use Rattle.pb_answer.specs.Ended.{guide_asked, left_with, LeavesQuietRows, CanBeCertified}
 use Rattle.pb_answer.specs.declared.answer.Answer.{Answer}
 use Rattle.pb_answer.specs.Answer.{Said, Says, Saves, IsSolved, IsUnsolvable, IsStopped, IsFound, said_of}
 use Rattle.pb_answer.proofs.Groups.{prints_least_cost, saves_plan}
@@ -42,21 +42,22 @@ module _ (solve : SolveMeaning) (parts : TaskParts) (homes : ℕ → ℕ) (store
       → length c.certificate.lines < 2 ^ 63
       → quiet.HasLines parts (guide_asked solve parts homes) store end c
       → quiet.IsValidFor parts (guide_asked solve parts homes) store end plan c
-      → IsPlanOf parts (guide_asked solve parts homes) store plan
+      → CanBeCertified parts store plan
       → IsCertificate solve.certificate parts (choice_asked solve) (weight_asked solve)
       (guide_asked solve parts homes) store plan (output name (text_of c) ∷ [])
-  is_certificate lawful range c plan name named spelling w p count lines valid best =
+  is_certificate lawful range c plan name named spelling w p count lines valid stated =
       let num : solve.settings.num ≤ 1000 = range.settings.weight.small in
       let den : solve.settings.den ≤ solve.settings.num = range.settings.weight.at_least_one in
       subst (λ (n : Option (List ℕ)). IsCertificate n parts (choice_asked solve) (weight_asked solve)
       (guide_asked solve parts homes) store plan (output name (text_of c) ∷ []))
       (sym named) (
         text_of c,
-        quiet.is_certificate parts (guide_asked solve parts homes) store end lawful
+        quiet.states_certificate parts (guide_asked solve parts homes) store end lawful
             (choice_asked solve) refl
             (choice_suits parts solve.settings.pattern range.settings.pattern)
             (weight_asked solve) weight (omega (arith, num)) (omega (arith, num, den)) c plan
-            (text_of c) refl spelling w p count lines valid best,
+            (text_of c) refl spelling w p count lines valid stated.is_plan stated.backed
+            stated.fits,
         refl,
       )
 
@@ -77,6 +78,11 @@ module _ (solve : SolveMeaning) (parts : TaskParts) (homes : ℕ → ℕ) (store
   -- a plan that the rows lead to, or none
   abbrev pub IsPlanOfRows : Option Plan → Type 0
   IsPlanOfRows plan = IsPlanOf parts (guide_asked solve parts homes) store plan
+
+  -- which its certificate can state
+  pub can_be_stated : (plan : Option Plan) → IsPlanOfRows plan → CanBeCertified parts store plan
+  can_be_stated plan best =
+      record { is_plan = best.is_plan; backed = best.backed; fits = best.fits }
 
   pub holds : (incumbent : Option ℕ) → store.incumbent ≡ incumbent
       → IncumbentHolds (space_of parts) (weight_asked solve) incumbent

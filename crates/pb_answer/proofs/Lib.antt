@@ -12,3 +12,9 @@ mod Spelled
 mod SameBlocks
 mod Long
 mod InputKinds
+mod FallingKept
+mod FallingRuns
+mod FallingBegins
+mod FallingLast
+mod FallingSaid
+mod FallingFound

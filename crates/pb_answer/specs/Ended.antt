@@ -3,12 +3,15 @@
 use Rattle.std.specs.Prelude.{◌≡◌, ℕ, Option, List}
 use Rattle.pb_model.specs.Guide.{Guide}
 use Rattle.pb_model.specs.Store.{Store}
+use Rattle.pb_model.specs.Plan.{Plan}
+use Rattle.pb_model.specs.Certificate.{IsPlanIfAny, IsBackedBy}
 use Rattle.pb_machine.specs.declared.event.End.TheVariants.{Quiet}
 use Rattle.pb_machine.specs.declared.event.Event.{Event}
 use Rattle.pb_task.specs.declared.parts.TaskParts.{TaskParts}
 use Rattle.pb_task.specs.Parts.{space_of}
 use Rattle.pb_estimate.specs.Estimates.{estimate_by}
 use Rattle.pb_lists.specs.Store.{guide_with, IsQuietEnd}
+use Rattle.pb_check.specs.Spelling.{PlanFitsIfAny}
 use Rattle.pb_command.specs.Meaning.{SolveMeaning}
 use Rattle.pb_answer.specs.Outputs.{Output}
 use Rattle.pb_answer.specs.Searches.{settings_of, choice_asked, weight_asked}
@@ -32,3 +35,11 @@ pub record LeavesQuietRows (solve : SolveMeaning) (parts : TaskParts) (homes : �
   pub leaves : SearchLeaves (engine_asked solve) parts (settings_of solve) Quiet
       (left_with (guide_asked solve parts homes) store journal)
   pub saved_is : saved ≡ journal_outputs_if_any solve.journal (settings_of solve) journal
+
+-- A certificate of these rows can state this: a plan of the task that costs no more than the
+-- incumbent and whose numbers can be stated, whether the rows lead to it or not. Or that there is
+-- none, without an incumbent.
+pub record CanBeCertified (parts : TaskParts) (store : Store) (plan : Option Plan) : Type 0 where
+  pub is_plan : IsPlanIfAny (space_of parts) plan
+  pub backed : IsBackedBy store.incumbent plan
+  pub fits : PlanFitsIfAny plan

@@ -14,3 +14,5 @@ pub mod Ended
 pub mod Journals
 pub mod Answer
 pub mod Parts
+pub mod Falling
+pub mod FallingRuns

@@ -3,12 +3,11 @@ ghost use Rattle.std.specs.Prelude.{◌≡◌, ◌≤◌, ◌⊎◌, ℕ, IfOk, 
 ghost use Rattle.pb_model.specs.Plan.{IsBound};
 ghost use Rattle.pb_task.specs.Parts.{space_of};
 ghost use Rattle.pb_lists.specs.Store.{store_with, IsQuietEnd};
-ghost use Rattle.pb_cert.specs.Found.{IsPlanOf};
 ghost use Rattle.pb_command.specs.Meaning.{IsInRange, Solve};
 ghost use Rattle.pb_command.specs.Causes.{solve_meant};
 ghost use Rattle.pb_answer.specs.Searches.{choice_asked, weight_asked};
 ghost use Rattle.pb_answer.specs.Named.{NamesTell};
-ghost use Rattle.pb_answer.specs.Ended.{guide_asked, LeavesQuietRows};
+ghost use Rattle.pb_answer.specs.Ended.{guide_asked, LeavesQuietRows, CanBeCertified};
 ghost use Rattle.pb_answer.specs.Claims.{IsCertificate, Stops};
 ghost use Rattle.pb_answer.specs.Answer.{IsSolved, IsUnsolvable, IsStopped, certificates_of, journals_of, said_of};
 
@@ -123,7 +122,7 @@ fn report_none<'a, S: Store>(
 }
 
 // The certificate with this plan or with none, if it has a name.
-fn certify<'a, S: Store>(
+pub(crate) fn certify<'a, S: Store>(
     alloc: Global,
     task: &Task,
     solve: &SolveCommand<'a>,
@@ -136,8 +135,7 @@ fn certify<'a, S: Store>(
         (guide_asked (solve_meant solve.now) task.now (S.home store.now))
         (store_with (S.rows store.now) (S.weight store.now) (S.incumbent store.now)) }
     requires weight { S.weight store.now ≡ weight_asked (solve_meant solve.now) }
-    ensures { IfOk result (λ saved. IsPlanOf task.now
-        (guide_asked (solve_meant solve.now) task.now (S.home store.now))
+    ensures { IfOk result (λ saved. CanBeCertified task.now
         (store_with (S.rows store.now) (S.weight store.now) (S.incumbent store.now)) plan
         → IsCertificate (solve_meant solve.now).certificate task.now
         (choice_asked (solve_meant solve.now)) (weight_asked (solve_meant solve.now))
@@ -158,7 +156,7 @@ fn certify<'a, S: Store>(
 }
 
 // The least whole number that is no less than the cost divided by the weight.
-fn bound_of(num: u64, den: u64, cost: u64) -> u64
+pub(crate) fn bound_of(num: u64, den: u64, cost: u64) -> u64
     requires den { 1 ≤ den }
     requires weight { den ≤ num }
     requires num { num ≤ 1000 }

@@ -7,8 +7,10 @@ mod answer;
 mod check;
 mod checking;
 mod ended;
+mod falling;
 mod input;
 mod journal;
+mod kept;
 mod laws;
 mod leases;
 mod owners;
@@ -21,6 +23,7 @@ pub use answer::{
     Answer, CertificateText, SavedCertificate, SavedJournal, answer_check, answer_journal,
     answer_solve,
 };
+pub use falling::FallingSearch;
 pub use laws::long_files_are_refused;
 pub use status::Status;
 pub use store::SearchedStore;

@@ -266,25 +266,26 @@ module _ (parts : TaskParts) (guide : Guide) (store : Store)
             );
       }
 
-  -- the text of a certificate that was made of the rows, at this weight and by this choice
-  pub is_certificate : IsTask parts → (choice : Choice) → guide.estimate ≡ estimate_by parts choice
-      → suits parts choice ≡ true
+  -- the text of a certificate that was made of the rows, at this weight and by this choice; its plan
+  -- costs no more than the incumbent and can be stated, whether the rows lead to it or not
+  pub states_certificate : IsTask parts → (choice : Choice)
+      → guide.estimate ≡ estimate_by parts choice → suits parts choice ≡ true
       → (weight : Weight) → store.weight ≡ weight → weight.num < 2 ^ 63 → weight.den < 2 ^ 63
       → (c : SpelledCertificate) (plan : Option Plan) (text : List ℕ) → text ≡ text_of c
       → c.spelling ≡ spelling_of parts choice
       → c.certificate.weight ≡ store.weight → c.certificate.plan ≡ plan
       → length c.certificate.lines < 2 ^ 63 → HasLines c → IsValidFor plan c
-      → IsPlanOf parts guide store plan
+      → IsPlanIfAny (space_of parts) plan → IsBackedBy store.incumbent plan → PlanFitsIfAny plan
       → IsCertificateOf parts choice weight guide store plan text
-  is_certificate lawful choice estimates stated weight weighs num den c plan text said spelling w p
-      count lines valid best =
+  states_certificate lawful choice estimates stated weight weighs num den c plan text said spelling w
+      p count lines valid a_plan backed plan_fits =
       let made : Certificate = certificate_of weight plan c.certificate.lines in
       let same : c.certificate ≡ made = same_certificate weight c plan (w ∙ weighs) p in
       let estimate : ℕ → Estimate = estimate_by parts choice in
       let here : IsValid (space_of parts) estimate made =
       subst (λ (e : ℕ → Estimate). IsValid (space_of parts) e made) estimates
       (subst (λ (k : Certificate). IsValid (space_of parts) guide.estimate k) same
-      (valid (space_of parts) guide store.incumbent end.sound end.quiet best.is_plan best.backed)) in
+      (valid (space_of parts) guide store.incumbent end.sound end.quiet a_plan backed)) in
       let is : text ≡ spelled_text (spelling_of parts choice) made =
       said ∙ ap (λ (s : Spelling). spelled_text s c.certificate) spelling
       ∙ ap (λ (k : Certificate). spelled_text (spelling_of parts choice) k) same in
@@ -296,5 +297,20 @@ module _ (parts : TaskParts) (guide : Guide) (store : Store)
         text_is = is;
         accepted = ap (λ (bytes : List ℕ). checked parts bytes) is
             ∙ text_is_accepted parts choice made lawful stated here
-            (fits lawful estimate weight num den c plan here count lines best.fits);
+            (fits lawful estimate weight num den c plan here count lines plan_fits);
       }
+
+  -- the same of a plan that the rows lead to
+  pub is_certificate : IsTask parts → (choice : Choice) → guide.estimate ≡ estimate_by parts choice
+      → suits parts choice ≡ true
+      → (weight : Weight) → store.weight ≡ weight → weight.num < 2 ^ 63 → weight.den < 2 ^ 63
+      → (c : SpelledCertificate) (plan : Option Plan) (text : List ℕ) → text ≡ text_of c
+      → c.spelling ≡ spelling_of parts choice
+      → c.certificate.weight ≡ store.weight → c.certificate.plan ≡ plan
+      → length c.certificate.lines < 2 ^ 63 → HasLines c → IsValidFor plan c
+      → IsPlanOf parts guide store plan
+      → IsCertificateOf parts choice weight guide store plan text
+  is_certificate lawful choice estimates stated weight weighs num den c plan text said spelling w p
+      count lines valid best =
+      states_certificate lawful choice estimates stated weight weighs num den c plan text said
+      spelling w p count lines valid best.is_plan best.backed best.fits

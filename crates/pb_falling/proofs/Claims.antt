@@ -16,7 +16,7 @@ use Rattle.pb_falling.specs.Falling.{kept_plan, Claim, IsClaim, AreClaims, Costs
 use Rattle.pb_falling.specs.Laws.{ClaimsHold}
 
 -- the kept plan is one of both
-kept_is_plan : (space : Space) (before : Option Plan) (traced : Plan) → IsPlanIfAny space before → IsPlan space traced → IsPlan space (kept_plan before traced)
+pub kept_is_plan : (space : Space) (before : Option Plan) (traced : Plan) → IsPlanIfAny space before → IsPlan space traced → IsPlan space (kept_plan before traced)
 kept_is_plan space None traced b t = t
 kept_is_plan space (Some before) traced b t = go (nat_lt before.cost traced.cost) where
   go : (test : Bool) → IsPlan space (if test then before else traced)
@@ -24,7 +24,7 @@ kept_is_plan space (Some before) traced b t = go (nat_lt before.cost traced.cost
   go false = t
 
 -- and the cheaper
-kept_costs : (before : Option Plan) (traced : Plan) → (kept_plan before traced).cost ≤ traced.cost
+pub kept_costs : (before : Option Plan) (traced : Plan) → (kept_plan before traced).cost ≤ traced.cost
 kept_costs None traced = omega arith
 kept_costs (Some before) traced = go (nat_lt before.cost traced.cost) refl where
   go : (test : Bool) → nat_lt before.cost traced.cost ≡ test → (if test then before else traced).cost ≤ traced.cost

@@ -1,5 +1,5 @@
 -- The laws of this crate.
-use Rattle.std.specs.Prelude.{◌≡◌, ℕ, ◌+◌, ◌≤◌, List, None}
+use Rattle.std.specs.Prelude.{◌≡◌, ℕ, ◌+◌, ◌≤◌, List, [], ◌∷◌, None}
 use Rattle.std.specs.List.{AllByRecursion}
 use Rattle.pb_model.specs.Weight.{Weight, IsWeight}
 use Rattle.pb_model.specs.Plan.{IsPlan, NoneCheaper}
@@ -28,3 +28,15 @@ ClaimsHold =
     → AllByRecursion (λ claim. IsPlan setup.space claim.plan
     × NoneCheaper setup.space claim.weight claim.plan.cost) claims
     × CostsFall None claims
+
+-- the numerator of the run, if the weight falls from 3 to 1 in so many steps
+abbrev pub from_three : (steps run : ℕ) → ℕ
+from_three steps run = (weight_at (record { num = 3; den = 1 }) steps run).num
+
+-- worked weights: in 2 steps, and in 4, where each of two weights comes twice
+abbrev pub WorkedWeights : Type 0
+WorkedWeights =
+    (◌≡◌ {A = List ℕ} (from_three 2 0 ∷ from_three 2 1 ∷ from_three 2 2 ∷ []) (3 ∷ 2 ∷ 1 ∷ []))
+    × (◌≡◌ {A = List ℕ}
+    (from_three 4 0 ∷ from_three 4 1 ∷ from_three 4 2 ∷ from_three 4 3 ∷ from_three 4 4 ∷ [])
+    (3 ∷ 2 ∷ 2 ∷ 1 ∷ 1 ∷ []))

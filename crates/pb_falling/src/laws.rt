@@ -1,4 +1,4 @@
-ghost use Rattle.pb_falling.specs.Laws.{WeightsFall, ClaimsHold};
+ghost use Rattle.pb_falling.specs.Laws.{WeightsFall, ClaimsHold, WorkedWeights};
 
 use pb_machine::reopening_is_lawful;
 
@@ -13,3 +13,8 @@ pub fn claims_hold()
 {
     reopening_is_lawful();
 }
+
+/// From the weight 3 in 2 steps the weights are 3, 2 and 1. In 4 steps they are 3, 2, 2, 1 and 1.
+pub fn worked_weights()
+    ensures { WorkedWeights }
+{}

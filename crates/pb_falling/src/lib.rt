@@ -4,4 +4,4 @@
 
 mod laws;
 
-pub use laws::{claims_hold, weights_fall};
+pub use laws::{claims_hold, weights_fall, worked_weights};

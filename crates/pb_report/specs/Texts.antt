@@ -1,10 +1,11 @@
 -- The texts that the program prints: of a plan, of a checked certificate, and of what is wrong with
 -- one or with the input.
-use Rattle.std.specs.Prelude.{ℕ, ◌<◌, Option, None, Some, List, map, codes, All}
+use Rattle.std.specs.Prelude.{ℕ, ◌<◌, Option, None, Some, List, ◌++◌, map, codes, All}
 use Rattle.std.specs.Fmt.{decimal}
 use Rattle.pb_model.specs.Space.{Space}
 use Rattle.pb_model.specs.Plan.{Plan}
-use Rattle.pb_model.specs.Texts.{line, spaced, plan_report}
+use Rattle.pb_model.specs.Weight.{Weight as SearchWeight}
+use Rattle.pb_model.specs.Texts.{line, spaced, plan_report, weight_text}
 use Rattle.pb_task.specs.declared.parts.TaskParts.{TaskParts}
 use Rattle.pb_task.specs.Parts.{action_name}
 use Rattle.pb_grid.specs.declared.error.GridError.{GridError}
@@ -54,6 +55,10 @@ AreActions space actions = All (λ action. action < space.actions) actions
 -- a plan of a task: its cost and the number of its steps, the name of each step, and the bound
 abbrev pub plan_text : TaskParts → Plan → (bound : ℕ) → List ℕ
 plan_text parts plan bound = plan_report (map (action_name parts) plan.actions) plan.cost bound
+
+-- what is claimed of a plan at a weight: the weight, and then the plan with its bound
+abbrev pub claim_text : TaskParts → SearchWeight → Plan → (bound : ℕ) → List ℕ
+claim_text parts weight plan bound = weight_text weight ++ plan_text parts plan bound
 
 -- ---- a checked certificate
 

@@ -3,7 +3,7 @@ ghost use Rattle.std.specs.Fmt.{decimal};
 ghost use Rattle.pb_model.specs.Texts.{line, spaced, none_report, stopped_report};
 ghost use Rattle.pb_task.specs.Parts.{space_of};
 ghost use Rattle.pb_lifted.specs.declared.refusal.TypingRefusal.TheVariants.{Named};
-ghost use Rattle.pb_report.specs.Texts.{AreActions, plan_text, verdict_text, made_text, fault_text, input_text, tiles_text, file_number, syntax_text, refusal_text, strips_text, journal_report, journal_fault_text};
+ghost use Rattle.pb_report.specs.Texts.{AreActions, plan_text, claim_text, verdict_text, made_text, fault_text, input_text, tiles_text, file_number, syntax_text, refusal_text, strips_text, journal_report, journal_fault_text};
 
 use crate::pieces::{
     push_steps, push_with_number, push_with_numbers, push_with_numbers_and_word, push_with_wide,
@@ -83,6 +83,27 @@ impl Report {
         ensures fits { plan.now.cost < 2 ^ 64 }
     {
         Report::of_steps(alloc, task, plan.actions(), plan.cost(), bound)
+    }
+
+    /// What is claimed of a plan at the weight num / den: the weight, and then the plan as in
+    /// `of_plan`, with the bound at that weight.
+    pub fn of_claim(
+        alloc: Global,
+        num: u64,
+        den: u64,
+        task: &Task,
+        plan: &Plan,
+        bound: u64,
+    ) -> Result<Report, AllocError>
+        requires { AreActions (space_of task.now) plan.now.actions }
+        ensures { IfOk result (λ report. report
+            ≡ claim_text task.now (record { num = num; den = den }) plan.now bound) }
+    {
+        let plan = Report::of_plan(alloc, task, plan, bound)?;
+        let mut bytes = Vec::new(alloc);
+        push_with_numbers(&mut bytes, b"weight ", num, b" ", den)?;
+        push_text(&mut bytes, &plan.bytes)?;
+        Ok(Report { bytes })
     }
 
     /// That a certificate is accepted, and what it claims.

@@ -15,7 +15,7 @@ of-requires-clause-spelling g c =
     c.requires.range.settings.pattern))
 
 pub returns-in_ok-certificate-in-Some : goal.returns-in_ok-certificate-in-Some
-returns-in_ok-certificate-in-Some g c = λ best.
+returns-in_ok-certificate-in-Some g c = λ stated.
     is_certificate (solve_meant c.args.solve.now) c.args.task.now
     (g.S.Store.home c.args.store.now)
     (store_with (g.S.Store.rows c.args.store.now) (g.S.Store.weight c.args.store.now)
@@ -27,10 +27,10 @@ returns-in_ok-certificate-in-Some g c = λ best.
     ∙ ap (λ (choice : Choice). spelling_of c.args.task.now choice) c.with.ensures)
     c.in_ok-certificate-in-Some.ensures.weight c.in_ok-certificate-in-Some.ensures.plan
     c.in_ok-certificate-in-Some.ensures.count c.in_ok-certificate-in-Some.ensures.lines
-    c.in_ok-certificate-in-Some.ensures.valid best
+    c.in_ok-certificate-in-Some.ensures.valid stated
 
 pub returns-in-None : goal.returns-in-None
-returns-in-None g c = λ best.
+returns-in-None g c = λ stated.
     no_certificate (solve_meant c.args.solve.now) c.args.task.now
     (g.S.Store.home c.args.store.now)
     (store_with (g.S.Store.rows c.args.store.now) (g.S.Store.weight c.args.store.now)

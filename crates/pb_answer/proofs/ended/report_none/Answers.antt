@@ -4,7 +4,7 @@ use Rattle.pb_cert.proofs.Callers.{no_plan}
 use Rattle.pb_command.specs.Causes.{solve_meant}
 use Rattle.pb_answer.specs.Ended.{guide_asked}
 use Rattle.pb_answer.specs.Answer.{certificates_of, journals_of}
-use Rattle.pb_answer.proofs.Certified.{holds, certifies}
+use Rattle.pb_answer.proofs.Certified.{can_be_stated, holds, certifies}
 use Rattle.pb_answer.proofs.ended.report_none.Goals as goal
 
 pub returns : goal.returns
@@ -22,5 +22,6 @@ returns g c =
       holds solve parts homes store journal c.requires.quiet None c.requires.none,
       certifies solve parts homes store journal c.requires.quiet None
           (certificates_of c.in_ok-certificate.certificate) best
-          (c.in_ok-certificate.ensures best),
+          (c.in_ok-certificate.ensures
+          (can_be_stated solve parts homes store journal c.requires.quiet None best)),
     )

@@ -9,7 +9,7 @@ use Rattle.pb_command.specs.Causes.{solve_meant}
 use Rattle.pb_answer.specs.Ended.{guide_asked}
 use Rattle.pb_answer.specs.Searches.{weight_asked}
 use Rattle.pb_answer.specs.Answer.{certificates_of, journals_of}
-use Rattle.pb_answer.proofs.Certified.{solved, certifies}
+use Rattle.pb_answer.proofs.Certified.{can_be_stated, solved, certifies}
 use Rattle.pb_answer.proofs.ended.report_plan.Goals as goal
 
 pub trace-requires-clause-sound : goal.trace-requires-clause-sound
@@ -57,4 +57,5 @@ returns g c =
     c.bound_of-bound.ensures)
     _ refl c.in_ok-report.ensures.report c.in_ok-report.ensures.fits
     (certifies solve parts homes store journal c.requires.quiet (Some c.in_ok-plan.plan)
-    (certificates_of c.in_ok-certificate.certificate) best (c.in_ok-certificate.ensures best))
+    (certificates_of c.in_ok-certificate.certificate) best (c.in_ok-certificate.ensures
+    (can_be_stated solve parts homes store journal c.requires.quiet (Some c.in_ok-plan.plan) best)))

@@ -1,0 +1,42 @@
+use Rattle.std.proofs.Common.{◌≡◌, None, [], sym, ◌∙◌, subst}
+use Rattle.std.proofs.lemmas.Result.{IfOk-weaker}
+use Rattle.std.specs.Arc.{arc_value}
+use Rattle.pb_machine.specs.Machine.{Machine}
+use Rattle.pb_task.specs.declared.parts.TaskParts.{TaskParts}
+use Rattle.pb_abstract.specs.Projection.{IsFinest}
+use Rattle.pb_abstract.specs.Graph.{IsGraphOf}
+use Rattle.pb_search.specs.Ends.{IsLeftBySearch}
+use Rattle.pb_command.specs.Causes.{solve_meant}
+use Rattle.pb_answer.specs.FallingRuns.{FallingValue, IsFalling}
+use Rattle.pb_answer.proofs.FallingBegins.{IsMade, quiet_rows_of, all_made, first_falls}
+use Rattle.pb_answer.proofs.falling.FallingSearch.start.Goals as goal
+
+pub after_run-requires-clause-quiet : goal.after_run-requires-clause-quiet
+after_run-requires-clause-quiet g c = λ quiet.
+    let best = c.in_ok-graph.ensures.quiet quiet in
+    quiet_rows_of (arc_value c.in_ok-clone.field-0) c.in_ok-graph.graph
+    (c.in_ok-graph.ensures.task ∙ sym c.in_ok-clone.ensures.cases) best.best best.small
+
+pub returns-clause-falling : goal.returns-clause-falling
+returns-clause-falling g c =
+    let parts : TaskParts = arc_value c.in_ok-clone.field-0 in
+    let its : arc_value c.args.task.now ≡ parts = sym c.in_ok-clone.ensures.cases in
+    let graph = c.in_ok-graph.graph in
+    let solve = solve_meant c.args.solve in
+    let task : graph.task ≡ parts = c.in_ok-graph.ensures.task ∙ its in
+    IfOk-weaker c.after_run.result (IsMade solve parts c.args.steps 0 graph None)
+    (λ (s : FallingValue). (machine : Machine) × IsFalling [] machine s)
+    (first_falls solve c.requires.range parts c.args.steps c.requires.some_steps c.requires.few_steps
+    graph c.abstraction-lawful.ensures.lawful task
+    (subst (λ (p : TaskParts). IsGraphOf p graph.table.abstraction) its c.in_ok-graph.ensures.blocks)
+    (subst (λ (p : TaskParts). IsFinest p solve.settings.wish graph.table.abstraction.projection) its
+    c.in_ok-graph.ensures.finest)
+    c.in_ok-graph.ensures.settings c.in_ok-graph.ensures.choice c.in_ok-graph.ensures.past
+    c.in_ok-graph.ensures.ended
+    (λ quiet. let best = c.in_ok-graph.ensures.quiet quiet in
+    quiet_rows_of parts graph task best.best best.small)
+    (subst (λ (p : TaskParts). IsLeftBySearch p solve.settings graph) its c.in_ok-graph.ensures.left)
+    c.in_ok-graph.ensures.fits)
+    (all_made solve parts c.args.steps 0 graph None c.after_run.result c.after_run.ensures.solve
+    c.after_run.ensures.task c.after_run.ensures.steps c.after_run.ensures.run
+    c.after_run.ensures.graph c.after_run.ensures.plan c.after_run.ensures.name)
