@@ -105,8 +105,8 @@ module _ (words : List (List ℕ)) (n : ℕ) (files files' : Option Files) (shel
       (shelf_later : faults ≤ faults') (sink_later : puts ≤ puts') where
     pub broken : BreaksOnlyBy it faults faults' puts puts'
     broken = record {
-      unsaved = since (λ m own out. m ≡ 71 → outputs_in own ≡ []) (λ by. doing.nothing_saved asked n goes.0 goes.1 (does by));
-      silent = since (λ m own out. (m ≡ 71) ⊎ (m ≡ 73) → put_bytes out ≡ []) (λ by. doing.silent asked n goes.0 goes.1 (does by));
+      unsaved = λ one. since (λ m own out. m ≡ 71 → outputs_in own ≡ []) (λ by. doing.nothing_saved asked n goes.0 goes.1 one (does by));
+      silent = λ one. since (λ m own out. (m ≡ 71) ⊎ (m ≡ 73) → put_bytes out ≡ []) (λ by. doing.silent asked n goes.0 goes.1 one (does by));
       shelf_rose = λ e. shelf_rose (sym is ∙ e);
       sink_rose = λ e. sink_rose (sym is ∙ e);
       shelf_later = shelf_later;
@@ -116,8 +116,8 @@ module _ (words : List (List ℕ)) (n : ℕ) (files files' : Option Files) (shel
   pub contents : (written written' : Option (List ℕ)) → WritesPut written written' sink sink' → ContentsHold it files files' written written'
   contents written written' puts = record {
     loaded = since (λ m own out. IsAnswer m → AreLoaded files (files_of asked) (loaded_texts own)) (λ by. doing.texts_loaded asked n goes.0 goes.1 files files' by);
-    saved = since (λ m own out. IsAnswer m ⊎ (m ≡ 74) → IfTold files files' (SavesIn (outputs_in own))) (λ by. doing.files_saved asked n goes.0 goes.1 files files' by);
-    kept = since (λ m own out. m ≡ 71 → IfTold files files' KeepsAll) (λ by. doing.files_kept asked n goes.0 goes.1 files files' by);
+    saved = since (λ m own out. IsAnswer m ⊎ ((m ≡ 71) ⊎ (m ≡ 74)) → IfTold files files' (SavesIn (outputs_in own))) (λ by. doing.files_saved asked n goes.0 goes.1 files files' by);
+    kept = λ one. since (λ m own out. m ≡ 71 → IfTold files files' KeepsAll) (λ by. doing.files_kept asked n goes.0 goes.1 files files' one by);
     left = since (λ m own out. m ≡ 73 → IfTold files files' (λ before after. KeepsAll before after ⊎ LeavesPart asked (loaded_texts own) before after))
         (λ by. doing.files_left asked n goes.0 goes.1 files files' by);
     others = doing.others_stay asked n goes.0 goes.1 files files' goes.4;

@@ -1,5 +1,5 @@
 -- From how a call of the program goes to its promises.
-use Rattle.std.proofs.Common.{◌≡◌, ◌≢◌, ◌⊎◌, ◌↔◌, inl, inr, ℕ, ◌<◌, IsTrue, false, true≢false, Option, None, Some, List, [], ◌∷◌, ◌++◌, map, Result, Ok, Err, refl, sym, ap, subst, ◌∙◌, arith, append-nil}
+use Rattle.std.proofs.Common.{◌≡◌, ◌≢◌, ◌⊎◌, ◌↔◌, inl, inr, ℕ, ◌<◌, IsTrue, true, false, true≢false, Option, None, Some, List, [], ◌∷◌, ◌++◌, Result, Ok, Err, refl, sym, ap, subst, ◌∙◌, arith, append-nil}
 use Rattle.pb_outside.specs.Outside.{Files, IfTold, Appends, KeepsAll}
 use Rattle.pb_outside.specs.Calls.{Call}
 use Rattle.pb_outside.specs.declared.shelf.Load.TheVariants.{Failed}
@@ -11,22 +11,24 @@ use Rattle.pb_grid.specs.Laws.{ReadAsSpelled}
 use Rattle.pb_tiles.specs.Laws.{ReadingsAreSpelled}
 use Rattle.pb_command.specs.Causes.{IsPrinted}
 use Rattle.pb_command.specs.Meaning.{Reading, Refused, Read}
-use Rattle.pb_run.specs.Asked.{files_of, saved_names}
+use Rattle.pb_run.specs.Asked.{files_of, saved_names, AreSomeOf}
 use Rattle.pb_answer.specs.Outputs.{Output}
-use Rattle.pb_run.specs.Calls.{calls_since, loaded_texts, outputs_in, put_bytes, have_failed, load_calls, SaveAll, FailToSaveAll}
+use Rattle.pb_answer.specs.Parts.{AnswerPart, outputs_of}
+use Rattle.pb_run.specs.Calls.{calls_since, loaded_texts, outputs_in, put_bytes, have_failed, load_calls, FailToSaveAll}
 use Rattle.pb_run.specs.Loads.{loads_of, AreLoaded}
 use Rattle.pb_answer.specs.Answer.{Said, Saves}
 use Rattle.pb_run.specs.Answers.{AnswersReading}
-use Rattle.pb_run.specs.Handing.{HandsOutAll, HandsOutParts}
+use Rattle.pb_run.specs.Parted.{asks_one_part, AreDecided}
+use Rattle.pb_run.specs.Handing.{HandsOutAnswer, BreaksOffSaving, BreaksOffPutting, HandsOutParts}
 use Rattle.pb_run.specs.Course.{RunsOut, FailsToLoad, HasAnswered, Does, DoesSince}
 use Rattle.pb_run.specs.Outcome.{Outcome, outcome_by, IfRefused, IsAnswer, IsBroken}
 use Rattle.pb_run.specs.Headline.{PlanIsPlan, NoneIsCheaper, CertificateHolds, NoneMeansNone, StopHasCause}
 use Rattle.pb_run.specs.Commands.{IsOfVerdict, SolvesHold, ChecksHold, JournalsHold, MakesHold, RefusalHolds}
-use Rattle.pb_run.specs.Served.{AreSomeOf, IsAnswered, IsComplete}
+use Rattle.pb_run.specs.Served.{IsAnswered, IsComplete}
 use Rattle.pb_run.specs.Contents.{IsNoneOf, SavesIn, SavesPartIn, LeavesPart, KeepsUnnamed, TellsHands, GoesBy, Goes, WritesPut}
-use Rattle.pb_run.proofs.CallLists.{since_is, loads_tell, loads_save_none, loads_fail_none, loads_fail, ended_few, ended_no_fault, saves_tell, failures_tell}
+use Rattle.pb_run.proofs.CallLists.{names_of, TellOf, TellPartOf, since_is, loads_tell, loads_save_none, loads_fail_none, loads_fail, ended_few, ended_no_fault, saves_tell, failures_tell}
 use Rattle.pb_run.proofs.Some.{first_are_some, none_of_some}
-use Rattle.pb_run.proofs.Handed.{all_handed, not_saved, not_put, only_loads}
+use Rattle.pb_run.proofs.Handed.{parts_tell, unsaved_tell, unput_tell, decided_named, none_before, unsaved_is_silent}
 use Rattle.pb_run.proofs.ByCommand.{if_solve, if_check, if_journal, if_make}
 use Rattle.pb_run.proofs.Told as told
 
@@ -46,20 +48,22 @@ answer_not n (inr (inr (inr (inl k)))) broken = broken_is_other n 3 (omega arith
 answer_not n (inr (inr (inr (inr (inl k))))) broken = broken_is_other n 64 (omega arith) broken k
 answer_not n (inr (inr (inr (inr (inr k))))) broken = broken_is_other n 65 (omega arith) broken k
 
--- where all is saved, memory didn't run out and the shelf didn't fail
-saved_not : (n : ℕ) → IsAnswer n ⊎ (n ≡ 74) → (n ≡ 71) ⊎ (n ≡ 73) → ⊥
-saved_not n (inl k) (inl e) = answer_not n k (inl e)
-saved_not n (inl k) (inr e) = answer_not n k (inr (inl e))
-saved_not n (inr k) (inl e) = omega (arith, k, e)
-saved_not n (inr k) (inr e) = omega (arith, k, e)
+-- where all that was begun is saved, the shelf didn't fail
+saved_not : (n : ℕ) → IsAnswer n ⊎ ((n ≡ 71) ⊎ (n ≡ 74)) → n ≡ 73 → ⊥
+saved_not n (inl k) e = answer_not n k (inr (inl e))
+saved_not n (inr (inl k)) e = omega (arith, k, e)
+saved_not n (inr (inr k)) e = omega (arith, k, e)
 
 module _ (reading : Reading) (n : ℕ) (shelf sink : List Call) where
   abbrev pub Made : Outcome
   Made = outcome_by reading n shelf sink
 
-  -- how far an answer was handed out
+  -- how far parts were handed out
   abbrev pub Handed : HasAnswered reading n shelf sink → Type 0
-  Handed a = HandsOutParts a.said a.parts n a.saves sink
+  Handed a = HandsOutParts reading a.texts a.parts n a.saves sink
+
+  abbrev Whole : HasAnswered reading n shelf sink → Type 0
+  Whole a = HandsOutAnswer reading a.texts a.parts n a.saves sink
 
   -- ---- which way it went
 
@@ -73,21 +77,44 @@ module _ (reading : Reading) (n : ℕ) (shelf sink : List Call) where
   answered_failed : (a : HasAnswered reading n shelf sink) → have_failed shelf ≡ have_failed a.saves
   answered_failed a = ap have_failed a.shelf_is ∙ loads_fail_none (files_of reading) a.texts a.unloaded a.saves (ended_no_fault (files_of reading) a.texts a.unloaded a.ends)
 
-  -- the report was put
-  made_is : (a : HasAnswered reading n shelf sink) → n ≡ a.said.status → HandsOutAll a.parts a.saves sink → (loaded_texts shelf ≡ a.texts) × (Made.said ≡ a.said)
-  made_is a is all =
-      let tell = saves_tell a.saves a.said.outputs (all_handed a all).0 in (
+  -- what the calls of all parts tell
+  whole_tells : (a : HasAnswered reading n shelf sink) (h : Whole a) → TellOf a.saves (outputs_of a.parts)
+  whole_tells a h = saves_tell a.saves (outputs_of a.parts) (parts_tell a.parts a.saves sink h.hands).saved
+
+  unput_tells : (a : HasAnswered reading n shelf sink) (f : BreaksOffPutting reading a.texts a.parts n a.saves sink)
+      → TellOf a.saves (unput_tell a.parts a.saves sink f.hands).first
+  unput_tells a f = let tell = unput_tell a.parts a.saves sink f.hands in saves_tell a.saves tell.first tell.saved
+
+  unsaved_tells : (a : HasAnswered reading n shelf sink) (f : BreaksOffSaving reading a.texts a.parts n a.saves sink)
+      → TellPartOf a.saves (outputs_of a.parts)
+  unsaved_tells a f = failures_tell a.saves (outputs_of a.parts) (unsaved_tell a.parts a.saves sink f.hands).failed
+
+  -- what those tell that were made before memory ran out
+  out_tells : (out : RunsOut reading n shelf sink) → TellOf out.saves (outputs_of out.parts)
+  out_tells out = saves_tell out.saves (outputs_of out.parts) (parts_tell out.parts out.saves sink out.hands).saved
+
+  out_outputs : (out : RunsOut reading n shelf sink) → outputs_in shelf ≡ outputs_of out.parts
+  out_outputs out = ap outputs_in out.shelf_is ∙ loads_save_none (files_of reading) out.texts out.unloaded out.saves ∙ (out_tells out).saved
+
+  -- all parts of an answer were handed out
+  made_is : (a : HasAnswered reading n shelf sink) (h : Whole a) → (loaded_texts shelf ≡ a.texts) × (Made.said ≡ h.said)
+  made_is a h =
+      let tell = whole_tells a h in (
         answered_texts a tell.none_loaded,
-        λ i. record { status = is i; report = (ap put_bytes (all_handed a all).1 ∙ append-nil a.said.report) i; outputs = (answered_outputs a ∙ tell.saved) i },
+        λ i. record {
+          status = h.status_is i;
+          report = ((parts_tell a.parts a.saves sink h.hands).printed ∙ sym h.parts_are.report) i;
+          outputs = (answered_outputs a ∙ tell.saved ∙ sym h.parts_are.outputs) i;
+        },
       )
 
-  answer_is : (a : HasAnswered reading n shelf sink) → n ≡ a.said.status → IsAnswer n
-  answer_is a is = subst IsAnswer (sym is) (told.known a.texts a.said reading a.answers)
+  answer_is : (a : HasAnswered reading n shelf sink) → Whole a → IsAnswer n
+  answer_is a h = subst IsAnswer (sym h.status_is) (told.known a.texts h.said reading h.answers)
 
-  made_answers : (a : HasAnswered reading n shelf sink) → n ≡ a.said.status → HandsOutAll a.parts a.saves sink → AnswersReading reading Made.texts Made.said
-  made_answers a is all =
-      let made = made_is a is all in
-      subst (λ (s : Said). AnswersReading reading Made.texts s) (sym made.1) (subst (λ (ts : List (List ℕ)). AnswersReading reading ts a.said) (sym made.0) a.answers)
+  made_answers : (a : HasAnswered reading n shelf sink) → Whole a → AnswersReading reading Made.texts Made.said
+  made_answers a h =
+      let made = made_is a h in
+      subst (λ (s : Said). AnswersReading reading Made.texts s) (sym made.1) (subst (λ (ts : List (List ℕ)). AnswersReading reading ts h.said) (sym made.0) h.answers)
 
   -- an answer was handed out, or memory ran out, or the shelf or the sink failed
   pub way : Does reading n shelf sink → AnswersReading reading Made.texts Made.said ⊎ (IsBroken n)
@@ -96,9 +123,9 @@ module _ (reading : Reading) (n : ℕ) (shelf sink : List Call) where
   way (inr (inr a)) = go a.hands
     where
       go : Handed a → AnswersReading reading Made.texts Made.said ⊎ (IsBroken n)
-      go (inl h) = inl (made_answers a h.0 h.1)
-      go (inr (inl f)) = inr (inr (inl f.0))
-      go (inr (inr f)) = inr (inr (inr f.0))
+      go (inl h) = inl (made_answers a h)
+      go (inr (inl f)) = inr (inr (inl f.status_is))
+      go (inr (inr f)) = inr (inr (inr f.status_is))
 
   -- ---- failures
 
@@ -107,29 +134,28 @@ module _ (reading : Reading) (n : ℕ) (shelf sink : List Call) where
 
   pub shelf_fails : Does reading n shelf sink → n ≡ 73 ↔ IsTrue (have_failed shelf)
   shelf_fails (inl out) = no_fault
-      (ap have_failed ((only_loads out).0 ∙ sym (append-nil (load_calls (files_of reading) out.texts out.unloaded))) ∙ loads_fail_none (files_of reading) out.texts out.unloaded [] out.no_fault)
+      (ap have_failed out.shelf_is ∙ loads_fail_none (files_of reading) out.texts out.unloaded out.saves out.no_fault ∙ (out_tells out).none_failed)
       (λ e. omega (arith, e, out.status_is))
   shelf_fails (inr (inl failed)) = (λ e. ap have_failed failed.shelf_is ∙ loads_fail (files_of reading) failed.texts failed.few, λ h. failed.status_is)
   shelf_fails (inr (inr a)) = go a.hands
     where
       go : Handed a → n ≡ 73 ↔ IsTrue (have_failed shelf)
-      go (inl h) = no_fault (answered_failed a ∙ (saves_tell a.saves a.said.outputs (all_handed a h.1).0).none_failed)
-          (λ e. answer_not n (answer_is a h.0) (inr (inl e)))
-      go (inr (inl f)) = (λ e. answered_failed a ∙ (failures_tell a.saves a.said.outputs (not_saved a f.1).0).failed, λ h. f.0)
-      go (inr (inr f)) = no_fault (answered_failed a ∙ (saves_tell a.saves a.said.outputs (not_put a f.1).0).none_failed) (λ e. omega (arith, e, f.0))
+      go (inl h) = no_fault (answered_failed a ∙ (whole_tells a h).none_failed) (λ e. answer_not n (answer_is a h) (inr (inl e)))
+      go (inr (inl f)) = (λ e. answered_failed a ∙ (unsaved_tells a f).failed, λ h. f.status_is)
+      go (inr (inr f)) = no_fault (answered_failed a ∙ (unput_tells a f).none_failed) (λ e. omega (arith, e, f.status_is))
 
-  none_put : sink ≡ [] → (n ≡ 74 → ⊥) → n ≡ 74 ↔ IsTrue (have_failed sink)
-  none_put none other = (λ e. absurd (other e), λ failed. absurd (true≢false (sym failed ∙ ap have_failed none)))
+  all_put : have_failed sink ≡ false → (n ≡ 74 → ⊥) → n ≡ 74 ↔ IsTrue (have_failed sink)
+  all_put none other = (λ e. absurd (other e), λ failed. absurd (true≢false (sym failed ∙ none)))
 
   pub sink_fails : Does reading n shelf sink → n ≡ 74 ↔ IsTrue (have_failed sink)
-  sink_fails (inl out) = none_put (only_loads out).1 (λ e. omega (arith, e, out.status_is))
-  sink_fails (inr (inl failed)) = none_put failed.sink_is (λ e. omega (arith, e, failed.status_is))
+  sink_fails (inl out) = all_put (parts_tell out.parts out.saves sink out.hands).none_failed (λ e. omega (arith, e, out.status_is))
+  sink_fails (inr (inl failed)) = all_put (ap have_failed failed.sink_is) (λ e. omega (arith, e, failed.status_is))
   sink_fails (inr (inr a)) = go a.hands
     where
       go : Handed a → n ≡ 74 ↔ IsTrue (have_failed sink)
-      go (inl h) = (λ e. absurd (answer_not n (answer_is a h.0) (inr (inr e))), λ failed. absurd (true≢false (sym failed ∙ ap have_failed (all_handed a h.1).1)))
-      go (inr (inl f)) = none_put (not_saved a f.1).1 (λ e. omega (arith, e, f.0))
-      go (inr (inr f)) = (λ e. ap have_failed (not_put a f.1).1.sink_is, λ h. f.0)
+      go (inl h) = all_put (parts_tell a.parts a.saves sink h.hands).none_failed (λ e. answer_not n (answer_is a h) (inr (inr e)))
+      go (inr (inl f)) = all_put (unsaved_tell a.parts a.saves sink f.hands).none_failed (λ e. omega (arith, e, f.status_is))
+      go (inr (inr f)) = (λ e. (unput_tell a.parts a.saves sink f.hands).failed, λ h. f.status_is)
 
   -- ---- the promises
 
@@ -232,13 +258,14 @@ no_command (Refused fault) n shelf sink (inl out) (inr (inl e)) = absurd (omega 
 no_command (Refused fault) n shelf sink (inr (inl failed)) (inr (inl e)) = absurd (omega (arith, failed.few))
 no_command (Refused fault) n shelf sink (inr (inr a)) (inr (inl e)) = go a.hands
   where
-    none : FailToSaveAll a.saves a.said.outputs → ⊥
-    none fails = subst (λ (os : List Output). FailToSaveAll a.saves os) a.answers.2 fails
+    none : (outputs : List Output) → AreSomeOf (names_of outputs) [] → FailToSaveAll a.saves outputs → ⊥
+    none [] named fails = fails
+    none (first ∷ outputs) named fails = named
 
     go : Handed (Refused fault) n shelf sink a → IfNoCommand (Refused fault) n shelf sink
-    go (inl h) = absurd (omega (arith, e, h.0, a.answers.0))
-    go (inr (inl f)) = absurd (none (not_saved a f.1).0)
-    go (inr (inr f)) = absurd (omega (arith, e, f.0))
+    go (inl h) = absurd (answer_not n (answer_is (Refused fault) n shelf sink a h) (inr (inl e)))
+    go (inr (inl f)) = absurd (none (outputs_of a.parts) (decided_named (Refused fault) a.texts a.parts f.decided) (unsaved_tell a.parts a.saves sink f.hands).failed)
+    go (inr (inr f)) = absurd (omega (arith, e, f.status_is))
 no_command (Read meaning) n shelf sink went broken = tt
 
 pub refused : ReadAsSpelled → ReadingsAreSpelled → (reading : Reading) (n : ℕ) (shelf sink : List Call) → Does reading n shelf sink → RefusalHolds (outcome_by reading n shelf sink)
@@ -252,58 +279,65 @@ refused maps boards reading n shelf sink does = promise reading n shelf sink Ref
 
 -- ---- what is saved and printed
 
-abbrev pub names_of : List Output → List (List ℕ)
-names_of outputs = map (λ (o : Output). o.name) outputs
-
 none_begun : (reading : Reading) (outputs : List Output) → outputs ≡ [] → AreSomeOf (names_of outputs) (saved_names reading)
 none_begun reading outputs none = subst (λ (os : List Output). AreSomeOf (names_of os) (saved_names reading)) (sym none) tt
 
 module _ (reading : Reading) (n : ℕ) (shelf sink : List Call) where
-  no_outputs_out : (out : RunsOut reading n shelf sink) → outputs_in shelf ≡ []
-  no_outputs_out out = ap outputs_in ((only_loads out).0 ∙ sym (append-nil (load_calls (files_of reading) out.texts out.unloaded))) ∙ loads_save_none (files_of reading) out.texts out.unloaded []
-
   no_outputs_failed : (failed : FailsToLoad reading n shelf sink) → outputs_in shelf ≡ []
   no_outputs_failed failed = ap outputs_in (failed.shelf_is ∙ sym (append-nil (load_calls (files_of reading) failed.texts (Some Failed)))) ∙ loads_save_none (files_of reading) failed.texts (Some Failed) []
 
   abbrev pub AreNamed : Type 0
   AreNamed = AreSomeOf (names_of (outputs_in shelf)) (saved_names reading)
 
+  named_as : (outputs : List Output) → outputs_in shelf ≡ outputs → AreSomeOf (names_of outputs) (saved_names reading) → AreNamed
+  named_as outputs is some = subst (λ (os : List Output). AreSomeOf (names_of os) (saved_names reading)) (sym is) some
+
+  -- the first files of parts that are decided have names that the words give
+  first_named : (begun : List Output) (rest : List (List ℕ)) (parts : List AnswerPart) → names_of (outputs_of parts) ≡ names_of begun ++ rest
+      → AreSomeOf (names_of (outputs_of parts)) (saved_names reading) → AreSomeOf (names_of begun) (saved_names reading)
+  first_named begun rest parts is due = first_are_some (names_of begun) rest (saved_names reading) (subst (λ (ns : List (List ℕ)). AreSomeOf ns (saved_names reading)) is due)
+
+  names_joined : (first rest : List Output) → names_of (first ++ rest) ≡ names_of first ++ names_of rest
+  names_joined [] rest = refl
+  names_joined (one ∷ first) rest = ap (λ (ns : List (List ℕ)). one.name ∷ ns) (names_joined first rest)
+
+  -- of a part whose piece isn't put the files are saved
+  unput_named : (a : HasAnswered reading n shelf sink) (f : BreaksOffPutting reading a.texts a.parts n a.saves sink)
+      → AreSomeOf (names_of (unput_tell a.parts a.saves sink f.hands).first) (saved_names reading)
+  unput_named a f =
+      let tell = unput_tell a.parts a.saves sink f.hands in
+      first_named tell.first (names_of tell.rest) a.parts (ap names_of tell.outputs_are ∙ names_joined tell.first tell.rest) (decided_named reading a.texts a.parts f.decided)
+
   pub outputs_are_named : Does reading n shelf sink → AreNamed
-  outputs_are_named (inl out) = none_begun reading (outputs_in shelf) (no_outputs_out out)
+  outputs_are_named (inl out) = named_as (outputs_of out.parts) (out_outputs reading n shelf sink out) out.parts_are.named
   outputs_are_named (inr (inl failed)) = none_begun reading (outputs_in shelf) (no_outputs_failed failed)
   outputs_are_named (inr (inr a)) = go a.hands
     where
-      due : AreSomeOf (names_of a.said.outputs) (saved_names reading)
-      due = told.outputs_are_named a.texts a.said reading a.answers
-
-      named_as : (outputs : List Output) → outputs_in shelf ≡ outputs → AreSomeOf (names_of outputs) (saved_names reading) → AreNamed
-      named_as outputs is some = subst (λ (os : List Output). AreSomeOf (names_of os) (saved_names reading)) (sym is) some
-
-      whole : SaveAll a.saves a.said.outputs → AreNamed
-      whole saves = named_as a.said.outputs (answered_outputs reading n shelf sink a ∙ (saves_tell a.saves a.said.outputs saves).saved) due
-
       go : Handed reading n shelf sink a → AreNamed
-      go (inl h) = whole (all_handed a h.1).0
+      go (inl h) = named_as (outputs_of a.parts) (answered_outputs reading n shelf sink a ∙ (whole_tells reading n shelf sink a h).saved)
+          (decided_named reading a.texts a.parts (inl (h.said, h.answers, h.parts_are)))
       go (inr (inl f)) =
-          let tell = failures_tell a.saves a.said.outputs (not_saved a f.1).0 in
+          let tell = unsaved_tells reading n shelf sink a f in
           named_as (outputs_in a.saves) (answered_outputs reading n shelf sink a)
-          (first_are_some (names_of (outputs_in a.saves)) tell.rest (saved_names reading) (subst (λ (ns : List (List ℕ)). AreSomeOf ns (saved_names reading)) tell.named due))
-      go (inr (inr f)) = whole (not_put a f.1).0
+          (first_named (outputs_in a.saves) tell.rest a.parts tell.named (decided_named reading a.texts a.parts f.decided))
+      go (inr (inr f)) = named_as (unput_tell a.parts a.saves sink f.hands).first (answered_outputs reading n shelf sink a ∙ (unput_tells reading n shelf sink a f).saved) (unput_named a f)
 
-  pub nothing_saved : Does reading n shelf sink → n ≡ 71 → outputs_in shelf ≡ []
-  nothing_saved (inl out) e = no_outputs_out out
-  nothing_saved (inr (inl failed)) e = no_outputs_failed failed
-  nothing_saved (inr (inr a)) e = go a.hands
+  -- ---- if one part is asked for
+
+  pub nothing_saved : asks_one_part reading ≡ true → Does reading n shelf sink → n ≡ 71 → outputs_in shelf ≡ []
+  nothing_saved one (inl out) e = out_outputs reading n shelf sink out ∙ ap outputs_of (out.parts_are.none one)
+  nothing_saved one (inr (inl failed)) e = no_outputs_failed failed
+  nothing_saved one (inr (inr a)) e = go a.hands
     where
       go : Handed reading n shelf sink a → outputs_in shelf ≡ []
-      go (inl h) = absurd (answer_not n (answer_is reading n shelf sink a h.0) (inl e))
-      go (inr (inl f)) = absurd (omega (arith, e, f.0))
-      go (inr (inr f)) = absurd (omega (arith, e, f.0))
+      go (inl h) = absurd (answer_not n (answer_is reading n shelf sink a h) (inl e))
+      go (inr (inl f)) = absurd (omega (arith, e, f.status_is))
+      go (inr (inr f)) = absurd (omega (arith, e, f.status_is))
 
-  pub silent : Does reading n shelf sink → (n ≡ 71) ⊎ (n ≡ 73) → put_bytes sink ≡ []
-  silent (inl out) e = ap put_bytes (only_loads out).1
-  silent (inr (inl failed)) e = ap put_bytes failed.sink_is
-  silent (inr (inr a)) e = go a.hands
+  pub silent : asks_one_part reading ≡ true → Does reading n shelf sink → (n ≡ 71) ⊎ (n ≡ 73) → put_bytes sink ≡ []
+  silent one (inl out) e = ap put_bytes (none_before reading one out.parts out.saves sink out.parts_are out.hands).1
+  silent one (inr (inl failed)) e = ap put_bytes failed.sink_is
+  silent one (inr (inr a)) e = go a.hands
     where
       broken : (n ≡ 71) ⊎ (n ≡ 73) → IsBroken n
       broken (inl h) = inl h
@@ -314,64 +348,67 @@ module _ (reading : Reading) (n : ℕ) (shelf sink : List Call) where
       not_printed (inr h) f = omega (arith, h, f)
 
       go : Handed reading n shelf sink a → put_bytes sink ≡ []
-      go (inl h) = absurd (answer_not n (answer_is reading n shelf sink a h.0) (broken e))
-      go (inr (inl f)) = ap put_bytes (not_saved a f.1).1
-      go (inr (inr f)) = absurd (not_printed e f.0)
+      go (inl h) = absurd (answer_not n (answer_is reading n shelf sink a h) (broken e))
+      go (inr (inl f)) = ap put_bytes (unsaved_is_silent reading one a.texts a.parts a.saves sink f.decided f.hands)
+      go (inr (inr f)) = absurd (not_printed e f.status_is)
 
   -- ---- where the shelf tells its files
 
   module _ (files files' : Option Files) where
     pub does : GoesBy reading n files files' shelf sink → Does reading n shelf sink
-    does (inl (out, kept)) = inl out
+    does (inl (out, saved)) = inl out
     does (inr (inl (failed, kept))) = inr (inl failed)
     does (inr (inr (a, loaded, hands))) = inr (inr a)
 
     pub texts_loaded : GoesBy reading n files files' shelf sink → IsAnswer n → AreLoaded files (files_of reading) (loaded_texts shelf)
-    texts_loaded (inl (out, kept)) is = absurd (answer_not n is (inl out.status_is))
+    texts_loaded (inl (out, saved)) is = absurd (answer_not n is (inl out.status_is))
     texts_loaded (inr (inl (failed, kept))) is = absurd (answer_not n is (inr (inl failed.status_is)))
     texts_loaded (inr (inr (a, loaded, hands))) is = go a.hands
       where
         go : Handed reading n shelf sink a → AreLoaded files (files_of reading) (loaded_texts shelf)
-        go (inl h) = subst (AreLoaded files (files_of reading)) (sym (made_is reading n shelf sink a h.0 h.1).0) loaded
-        go (inr (inl f)) = absurd (answer_not n is (inr (inl f.0)))
-        go (inr (inr f)) = absurd (answer_not n is (inr (inr f.0)))
+        go (inl h) = subst (AreLoaded files (files_of reading)) (sym (made_is reading n shelf sink a h).0) loaded
+        go (inr (inl f)) = absurd (answer_not n is (inr (inl f.status_is)))
+        go (inr (inr f)) = absurd (answer_not n is (inr (inr f.status_is)))
 
-    saved_by : (a : HasAnswered reading n shelf sink) → SaveAll a.saves a.said.outputs → IfTold files files' (SavesIn a.said.outputs) → IfTold files files' (SavesIn (outputs_in shelf))
-    saved_by a saves told_it = subst (λ (os : List Output). IfTold files files' (SavesIn os)) (sym (answered_outputs reading n shelf sink a ∙ (saves_tell a.saves a.said.outputs saves).saved)) told_it
+    saved_as : (outputs : List Output) → outputs_in shelf ≡ outputs → IfTold files files' (SavesIn outputs) → IfTold files files' (SavesIn (outputs_in shelf))
+    saved_as outputs is told_it = subst (λ (os : List Output). IfTold files files' (SavesIn os)) (sym is) told_it
 
-    pub files_saved : GoesBy reading n files files' shelf sink → IsAnswer n ⊎ (n ≡ 74) → IfTold files files' (SavesIn (outputs_in shelf))
-    files_saved (inl (out, kept)) is = absurd (saved_not n is (inl out.status_is))
-    files_saved (inr (inl (failed, kept))) is = absurd (saved_not n is (inr failed.status_is))
+    pub files_saved : GoesBy reading n files files' shelf sink → IsAnswer n ⊎ ((n ≡ 71) ⊎ (n ≡ 74)) → IfTold files files' (SavesIn (outputs_in shelf))
+    files_saved (inl (out, saved)) is = saved_as (outputs_of out.parts) (out_outputs reading n shelf sink out) saved
+    files_saved (inr (inl (failed, kept))) is = absurd (saved_not n is failed.status_is)
     files_saved (inr (inr (a, loaded, hands))) is = go a.hands hands
       where
-        go : (h : Handed reading n shelf sink a) → TellsHands a.said a.parts n a.saves sink files files' h → IfTold files files' (SavesIn (outputs_in shelf))
-        go (inl h) told_it = saved_by a (all_handed a h.1).0 told_it
-        go (inr (inl f)) told_it = absurd (saved_not n is (inr f.0))
-        go (inr (inr f)) told_it = saved_by a (not_put a f.1).0 told_it
+        go : (h : Handed reading n shelf sink a) → TellsHands reading a.texts a.parts n a.saves sink files files' h → IfTold files files' (SavesIn (outputs_in shelf))
+        go (inl h) told_it = saved_as (outputs_of a.parts) (answered_outputs reading n shelf sink a ∙ (whole_tells reading n shelf sink a h).saved) told_it
+        go (inr (inl f)) told_it = absurd (saved_not n is f.status_is)
+        go (inr (inr f)) told_it = saved_as (outputs_in a.saves) (answered_outputs reading n shelf sink a) told_it
 
-    pub files_kept : GoesBy reading n files files' shelf sink → n ≡ 71 → IfTold files files' KeepsAll
-    files_kept (inl (out, kept)) e = kept
-    files_kept (inr (inl (failed, kept))) e = kept
-    files_kept (inr (inr (a, loaded, hands))) e = go a.hands
+    pub files_kept : asks_one_part reading ≡ true → GoesBy reading n files files' shelf sink → n ≡ 71 → IfTold files files' KeepsAll
+    files_kept one (inl (out, saved)) e =
+        told_as files files' (SavesIn []) KeepsAll
+        (subst (λ (parts : List AnswerPart). IfTold files files' (SavesIn (outputs_of parts))) (out.parts_are.none one) saved)
+        (λ x y h. h)
+    files_kept one (inr (inl (failed, kept))) e = kept
+    files_kept one (inr (inr (a, loaded, hands))) e = go a.hands
       where
         go : Handed reading n shelf sink a → IfTold files files' KeepsAll
-        go (inl h) = absurd (answer_not n (answer_is reading n shelf sink a h.0) (inl e))
-        go (inr (inl f)) = absurd (omega (arith, e, f.0))
-        go (inr (inr f)) = absurd (omega (arith, e, f.0))
+        go (inl h) = absurd (answer_not n (answer_is reading n shelf sink a h) (inl e))
+        go (inr (inl f)) = absurd (omega (arith, e, f.status_is))
+        go (inr (inr f)) = absurd (omega (arith, e, f.status_is))
 
     pub files_left : GoesBy reading n files files' shelf sink → n ≡ 73 → IfTold files files' (λ before after. KeepsAll before after ⊎ LeavesPart reading (loaded_texts shelf) before after)
-    files_left (inl (out, kept)) e = absurd (omega (arith, e, out.status_is))
+    files_left (inl (out, saved)) e = absurd (omega (arith, e, out.status_is))
     files_left (inr (inl (failed, kept))) e = told_as files files' KeepsAll _ kept (λ x y h. inl h)
     files_left (inr (inr (a, loaded, hands))) e = go a.hands hands
       where
-        go : (h : Handed reading n shelf sink a) → TellsHands a.said a.parts n a.saves sink files files' h
+        go : (h : Handed reading n shelf sink a) → TellsHands reading a.texts a.parts n a.saves sink files files' h
             → IfTold files files' (λ before after. KeepsAll before after ⊎ LeavesPart reading (loaded_texts shelf) before after)
-        go (inl h) told_it = absurd (answer_not n (answer_is reading n shelf sink a h.0) (inr (inl e)))
+        go (inl h) told_it = absurd (answer_not n (answer_is reading n shelf sink a h) (inr (inl e)))
         go (inr (inl f)) told_it =
-            let none = (failures_tell a.saves a.said.outputs (not_saved a f.1).0).none_loaded in
-            let answers = subst (λ (ts : List (List ℕ)). AnswersReading reading ts a.said) (sym (answered_texts reading n shelf sink a none)) a.answers in
-            told_as files files' (SavesPartIn a.said.outputs) _ told_it (λ x y part. inr (a.said, answers, part))
-        go (inr (inr f)) told_it = absurd (omega (arith, e, f.0))
+            let texts_are = answered_texts reading n shelf sink a (unsaved_tells reading n shelf sink a f).none_loaded in
+            let decided = subst (λ (ts : List (List ℕ)). AreDecided reading ts a.parts) (sym texts_are) f.decided in
+            told_as files files' (SavesPartIn (outputs_of a.parts)) _ told_it (λ x y part. inr (a.parts, decided, part))
+        go (inr (inr f)) told_it = absurd (omega (arith, e, f.status_is))
 
     -- ---- files under other names
 
@@ -384,18 +421,24 @@ module _ (reading : Reading) (n : ℕ) (shelf sink : List Call) where
     stay_in_part (first ∷ outputs) x y other h (inl (part, others)) = others other h.0
     stay_in_part (first ∷ outputs) x y other h (inr (between, here, others, more)) = stay_in_part outputs between y other h.1 more ∙ others other h.0
 
+    -- files that are saved have names that the words give, so all others stay
+    unnamed_stay : (outputs : List Output) → AreSomeOf (names_of outputs) (saved_names reading) → IfTold files files' (SavesIn outputs) → IfTold files files' (KeepsUnnamed reading)
+    unnamed_stay outputs named told_it = told_as files files' (SavesIn outputs) (KeepsUnnamed reading) told_it
+        (λ x y saves other none. stay_in outputs x y other (none_of_some (names_of outputs) (saved_names reading) other named none) saves)
+
     pub others_stay : GoesBy reading n files files' shelf sink → IfTold files files' (KeepsUnnamed reading)
-    others_stay (inl (out, kept)) = told_as files files' KeepsAll (KeepsUnnamed reading) kept (λ x y h other none. h other)
+    others_stay (inl (out, saved)) = unnamed_stay (outputs_of out.parts) out.parts_are.named saved
     others_stay (inr (inl (failed, kept))) = told_as files files' KeepsAll (KeepsUnnamed reading) kept (λ x y h other none. h other)
     others_stay (inr (inr (a, loaded, hands))) = go a.hands hands
       where
-        none_due : (other : List ℕ) → IsNoneOf (saved_names reading) other → IsNoneOf (names_of a.said.outputs) other
-        none_due other none = none_of_some (names_of a.said.outputs) (saved_names reading) other (told.outputs_are_named a.texts a.said reading a.answers) none
-
-        go : (h : Handed reading n shelf sink a) → TellsHands a.said a.parts n a.saves sink files files' h → IfTold files files' (KeepsUnnamed reading)
-        go (inl h) told_it = told_as files files' (SavesIn a.said.outputs) (KeepsUnnamed reading) told_it (λ x y saves other none. stay_in a.said.outputs x y other (none_due other none) saves)
-        go (inr (inl f)) told_it = told_as files files' (SavesPartIn a.said.outputs) (KeepsUnnamed reading) told_it (λ x y part other none. stay_in_part a.said.outputs x y other (none_due other none) part)
-        go (inr (inr f)) told_it = told_as files files' (SavesIn a.said.outputs) (KeepsUnnamed reading) told_it (λ x y saves other none. stay_in a.said.outputs x y other (none_due other none) saves)
+        go : (h : Handed reading n shelf sink a) → TellsHands reading a.texts a.parts n a.saves sink files files' h → IfTold files files' (KeepsUnnamed reading)
+        go (inl h) told_it = unnamed_stay (outputs_of a.parts) (decided_named reading a.texts a.parts (inl (h.said, h.answers, h.parts_are))) told_it
+        go (inr (inl f)) told_it =
+            let named = decided_named reading a.texts a.parts f.decided in
+            told_as files files' (SavesPartIn (outputs_of a.parts)) (KeepsUnnamed reading) told_it
+            (λ x y part other none. stay_in_part (outputs_of a.parts) x y other (none_of_some (names_of (outputs_of a.parts)) (saved_names reading) other named none) part)
+        go (inr (inr f)) told_it = unnamed_stay (outputs_in a.saves)
+            (subst (λ (os : List Output). AreSomeOf (names_of os) (saved_names reading)) (sym (unput_tells reading n shelf sink a f).saved) (unput_named a f)) told_it
 
     same_texts : (loads : Option (List (List ℕ))) (a b : List (List ℕ)) → loads ≡ Some a → loads ≡ Some b → a ≡ b
     same_texts loads a b x y = cc

@@ -1,11 +1,12 @@
 -- What is asked of files and output in memory is that they have room.
-use Rattle.std.proofs.Common.{◌≡◌, inl, inr, ℕ, Some, List, [], ◌∷◌}
+use Rattle.std.proofs.Common.{◌≡◌, inl, inr, ℕ, Some, List, [], ◌∷◌, ◌++◌}
 use Rattle.pb_outside.specs.Memory.{ShelfView, SinkView, file_of, HasFile, HasRoom, CanTake}
 use Rattle.pb_command.specs.Meaning.{Reading}
 use Rattle.pb_answer.specs.Outputs.{Output}
+use Rattle.pb_answer.specs.Parts.{AnswerPart, outputs_of}
 use Rattle.pb_run.specs.Asked.{Wanted, files_of, CanLoad}
 use Rattle.pb_run.specs.Calls.{CanHold}
-use Rattle.pb_run.specs.Served.{IsHandedOutIfItFits, AnswersWhatFits}
+use Rattle.pb_run.specs.Served.{CanTakeAll, PartsFit, IsHandedOutIfItFits, AnswersWhatFits}
 use Rattle.pb_run.specs.InMemory.{HaveFiles, HasRoomFor, HasRoomToPut}
 
 module _ (shelf : ShelfView) (sink : SinkView) (listed : shelf.calls.listed ≡ [])
@@ -19,6 +20,17 @@ module _ (shelf : ShelfView) (sink : SinkView) (listed : shelf.calls.listed ≡ 
   can_hold [] holds = tt
   can_hold (first ∷ outputs) holds = ((listed, holds.0), can_hold outputs holds.1)
 
+  can_take : (before : List ℕ) (parts : List AnswerPart) → CanTakeAll (HasRoomToPut sink) before parts
+      → CanTakeAll (CanTake sink) before parts
+  can_take before [] takes = tt
+  can_take before (part ∷ parts) takes =
+      ((sink_listed, takes.0), can_take (before ++ part.report) parts takes.1)
+
+  parts_fit : (parts : List AnswerPart) → PartsFit (HasRoomFor shelf) (HasRoomToPut sink) parts
+      → PartsFit (HasRoom shelf) (CanTake sink) parts
+  parts_fit parts fit =
+      record { held = can_hold (outputs_of parts) fit.held; taken = can_take [] parts fit.taken }
+
   pub handed_out_if_it_fits : (reading : Reading) (status : ℕ) → HaveFiles shelf (files_of reading)
       → AnswersWhatFits reading status (Some (file_of shelf)) (HasFile shelf) (HasRoom shelf)
       (CanTake sink)
@@ -28,10 +40,23 @@ module _ (shelf : ShelfView) (sink : SinkView) (listed : shelf.calls.listed ≡ 
       go : IsHandedOutIfItFits reading (file_of shelf) status (HasRoom shelf) (CanTake sink)
           → IsHandedOutIfItFits reading (file_of shelf) status (HasRoomFor shelf) (HasRoomToPut sink)
       go (inl memory) = inl memory
-      go (inr (texts, loaded, said, answers, all)) = inr (
+      go (inr (texts, loaded, inl it)) = inr (
         texts,
         loaded,
-        said,
-        answers,
-        λ holds takes. all (can_hold said.outputs holds) (sink_listed, takes),
+        inl (record {
+          said = it.said;
+          answers = it.answers;
+          parts = it.parts;
+          parts_are = it.parts_are;
+          if_they_fit = λ fit. it.if_they_fit (parts_fit it.parts fit);
+        }),
+      )
+      go (inr (texts, loaded, inr it)) = inr (
+        texts,
+        loaded,
+        inr (record {
+          parts = it.parts;
+          parts_are = it.parts_are;
+          do_not_fit = λ fit. it.do_not_fit (parts_fit it.parts fit);
+        }),
       )

@@ -7,6 +7,10 @@ mod Told
 mod CallLists
 mod Loading
 mod Handed
+mod Fitting
+mod PartByPart
+mod AtOnce
+mod FallingParts
 mod Doing
 mod Handing
 mod ByKind

@@ -132,5 +132,5 @@ module _ (reads : ReadAsSpelled) (make : MakeMeaning) (shelf : ShelfView) (sink 
 
 pub makes_are_served : ReadAsSpelled → MakesAreServed
 makes_are_served reads make shelf sink has =
-    serves (Read (Make make)) shelf sink [] has
+    serves (Read (Make make)) shelf sink [] has refl
     (λ said answers. made_fits reads make shelf sink has said answers)

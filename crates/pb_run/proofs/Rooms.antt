@@ -1,6 +1,6 @@
 -- A `check` of a valid certificate and a `journal` of a legal one are served with little room. What
 -- all such laws share is here too.
-use Rattle.std.proofs.Common.{◌≡◌, inl, inr, ℕ, ◌^◌, ◌<◌, ◌≤◌, Option, None, Some, List, [], ◌∷◌, ◌++◌, length, Result, codes, sym, ap, subst, ◌∙◌, arith, mul-le-mul_right}
+use Rattle.std.proofs.Common.{◌≡◌, inl, inr, ℕ, ◌^◌, ◌<◌, ◌≤◌, true, Option, None, Some, List, [], ◌∷◌, ◌++◌, length, Result, codes, refl, sym, ap, subst, ◌∙◌, arith, mul-le-mul_right}
 use Rattle.std.specs.Fmt.{decimal}
 use Rattle.std.proofs.lemmas.List.{length-append}
 use Rattle.pb_model.specs.Plan.{Plan}
@@ -22,10 +22,13 @@ use Rattle.pb_answer.specs.Journals.{IsJournalOf}
 use Rattle.pb_answer.specs.Answer.{Said, IsChecked, IsJudged, OrRefused}
 use Rattle.pb_run.specs.Asked.{files_of}
 use Rattle.pb_run.specs.Calls.{CanHold}
+use Rattle.pb_run.specs.Answers.{AnswersReading}
+use Rattle.pb_run.specs.Parted.{asks_one_part}
 use Rattle.pb_run.specs.Served.{CanHandOut, CanServe}
 use Rattle.pb_run.specs.InMemory.{HasRoomFor}
 use Rattle.pb_run.specs.Rooms.{HasTextsAndLine, ChecksAreServed, JournalsAreServed}
 use Rattle.pb_run.proofs.InMemory.{can_load, can_hold}
+use Rattle.pb_run.proofs.Fitting.{one_part_fits}
 use Rattle.pb_run.proofs.Lengths.{line_long, spaced_long, number_long}
 
 -- ---- how long reports are
@@ -98,13 +101,17 @@ same_texts texts others e = cc
 
 module _ (reading : Reading) (shelf : ShelfView) (sink : SinkView) (texts : List (List ℕ))
     (has : HasTextsAndLine reading shelf sink texts) where
-  pub serves : CanHandOut reading texts (HasRoom shelf) (CanTake sink)
+  -- one part is asked for, and what is answered fits
+  pub serves : asks_one_part reading ≡ true
+      → ((said : Said) → AnswersReading reading texts said
+      → CanHold (HasRoom shelf) said.outputs × CanTake sink (length said.report))
       → CanServe reading (Some (file_of shelf)) (HasFile shelf) (HasRoom shelf) (CanTake sink)
-  serves hands = (
+  serves one fits = (
     can_load shelf sink has.none_fails has.none_fails_to_put (files_of reading) has.files,
     λ others loaded.
         subst (λ (ts : List (List ℕ)). CanHandOut reading ts (HasRoom shelf) (CanTake sink))
-        (same_texts texts others (sym has.texts_are ∙ loaded)) hands,
+        (same_texts texts others (sym has.texts_are ∙ loaded))
+        (one_part_fits reading texts (HasRoom shelf) (CanTake sink) one fits),
   )
 
   pub takes : (n : ℕ) → n ≤ 64 → CanTake sink n
@@ -133,7 +140,7 @@ module _ (law : BoundsAreLeast) (check : CheckMeaning) (shelf : ShelfView) (sink
 
 pub checks_are_served : BoundsAreLeast → ChecksAreServed
 checks_are_served law check shelf sink texts parts certificate verdict has task is room =
-    serves (Read (Check check)) shelf sink texts has
+    serves (Read (Check check)) shelf sink texts has refl
     (λ said answers.
     verdict_fits law check shelf sink texts parts certificate verdict has is room said
     (subst (λ (t : Result (TaskParts × List ℕ) (List ℕ)).
@@ -156,7 +163,7 @@ module _ (journal : JournalMeaning) (shelf : ShelfView) (sink : SinkView) (texts
 
 pub journals_are_served : JournalsAreServed
 journals_are_served journal shelf sink texts parts text events has task is short =
-    serves (Read (Journal journal)) shelf sink texts has
+    serves (Read (Journal journal)) shelf sink texts has refl
     (λ said answers.
     count_fits journal shelf sink texts parts text events has is short said
     (subst (λ (t : Result (TaskParts × List ℕ) (List ℕ)).

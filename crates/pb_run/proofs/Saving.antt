@@ -21,17 +21,17 @@ none_saved old = ([], sym (append-nil old), refl)
 
 -- ---- the calls
 
-save_joined : (outputs more : List Output) (calls rest : List Call) → SaveAll calls outputs → SaveAll rest more → SaveAll (calls ++ rest) (outputs ++ more)
+pub save_joined : (outputs more : List Output) (calls rest : List Call) → SaveAll calls outputs → SaveAll rest more → SaveAll (calls ++ rest) (outputs ++ more)
 save_joined [] more calls rest is saves = subst (λ (c : List Call). SaveAll (c ++ rest) more) (sym is) saves
 save_joined (first ∷ outputs) more calls rest (own, others, is, text, later) saves =
     (own, others ++ rest, ap (λ (c : List Call). c ++ rest) is ∙ append_assoc own others rest, text, save_joined outputs more others rest later saves)
 
-fail_joined : (outputs more : List Output) (calls rest : List Call) → SaveAll calls outputs → FailToSaveAll rest more → FailToSaveAll (calls ++ rest) (outputs ++ more)
+pub fail_joined : (outputs more : List Output) (calls rest : List Call) → SaveAll calls outputs → FailToSaveAll rest more → FailToSaveAll (calls ++ rest) (outputs ++ more)
 fail_joined [] more calls rest is fails = subst (λ (c : List Call). FailToSaveAll (c ++ rest) more) (sym is) fails
 fail_joined (first ∷ outputs) more calls rest (own, others, is, text, later) fails =
     inr (own, others ++ rest, ap (λ (c : List Call). c ++ rest) is ∙ append_assoc own others rest, text, fail_joined outputs more others rest later fails)
 
-fail_first : (outputs more : List Output) (calls : List Call) → FailToSaveAll calls outputs → FailToSaveAll calls (outputs ++ more)
+pub fail_first : (outputs more : List Output) (calls : List Call) → FailToSaveAll calls outputs → FailToSaveAll calls (outputs ++ more)
 fail_first [] more calls fails = absurd fails
 fail_first (first ∷ outputs) more calls (inl fails) = inl fails
 fail_first (first ∷ outputs) more calls (inr (own, rest, is, text, later)) = inr (own, rest, is, text, fail_first outputs more rest later)

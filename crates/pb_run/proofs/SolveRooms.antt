@@ -271,7 +271,7 @@ module _ (lengths : JournalTextsAreShort) (solve : SolveMeaning) (shelf : ShelfV
 
 pub solves_are_served : JournalTextsAreShort → SolvesAreServed
 solves_are_served lengths solve shelf sink texts parts longest has task lawful range names room =
-    serves (Read (Solve solve)) shelf sink texts has
+    serves (Read (Solve solve)) shelf sink texts has refl
     (λ said answers.
     found_fits lengths solve shelf sink texts parts longest has lawful range names room said
     (subst (λ (t : Result TaskParts (List ℕ)). OrRefused t (IsFound solve) said) task answers))

@@ -1,6 +1,6 @@
 -- Some of the names of a list, in their order.
 use Rattle.std.proofs.Common.{inl, inr, ℕ, List, [], ◌∷◌, ◌++◌, refl, ◌∙◌}
-use Rattle.pb_run.specs.Served.{AreSomeOf}
+use Rattle.pb_run.specs.Asked.{AreSomeOf}
 use Rattle.pb_run.specs.Contents.{IsNoneOf}
 
 pub all_are_some : (names : List (List ℕ)) → AreSomeOf names names

@@ -10,7 +10,7 @@ use Rattle.pb_tiles.specs.Laws.{ReadingsAreSpelled}
 use Rattle.pb_command.specs.declared.refusal.CommandFault.{CommandFault}
 use Rattle.pb_command.specs.Causes.{IsPrinted}
 use Rattle.pb_command.specs.Meaning.{Reading, Refused, Read, Solve, Check, Journal, Make, SolveMeaning, CheckMeaning, JournalMeaning, MakeMeaning}
-use Rattle.pb_run.specs.Asked.{listed, saved_names}
+use Rattle.pb_run.specs.Asked.{listed, saved_names, AreSomeOf}
 use Rattle.pb_answer.specs.Outputs.{Output}
 use Rattle.pb_cert.specs.Rewritten.{rewritten_text}
 use Rattle.pb_answer.specs.Loaded.{solve_task, check_task, journal_task, OfTexts, RefusesTexts}
@@ -29,7 +29,7 @@ use Rattle.pb_run.specs.Answers.{IsMade, AnswersReading}
 use Rattle.pb_run.specs.Outcome.{Outcome, IsAnswer, AnswersOneOf}
 use Rattle.pb_run.specs.Headline.{PlanIsPlan, NoneIsCheaper, CertificateHolds, NoneMeansNone, StopHasCause}
 use Rattle.pb_run.specs.Commands.{IsOfVerdict, SolveHolds, CheckHolds, JournalHolds, MakeHolds, SolvesHold, ChecksHold, JournalsHold, MakesHold, RefusalHolds}
-use Rattle.pb_run.specs.Served.{AreSomeOf, IsAnswered}
+use Rattle.pb_run.specs.Served.{IsAnswered}
 use Rattle.pb_run.proofs.ByCommand.{of_refused, of_solve, of_check, of_journal, of_make}
 use Rattle.pb_run.proofs.Some.{all_are_some, some_behind, some_with}
 use Rattle.pb_answer.proofs.Callers.{never_refused}

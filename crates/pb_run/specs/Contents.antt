@@ -9,11 +9,11 @@ use Rattle.pb_outside.specs.Saves.{IsPartSaved}
 use Rattle.pb_command.specs.Meaning.{Reading}
 use Rattle.pb_run.specs.Asked.{Wanted, files_of, saved_names}
 use Rattle.pb_answer.specs.Outputs.{Output}
-use Rattle.pb_run.specs.Calls.{put_bytes, load_calls, EndLoads, SaveAll, FailToSaveAll}
+use Rattle.pb_run.specs.Calls.{outputs_in, put_bytes, load_calls, EndLoads, SaveAll, FailToSaveAll}
 use Rattle.pb_run.specs.Loads.{AreLoaded}
 use Rattle.pb_answer.specs.Answer.{Said}
-use Rattle.pb_run.specs.Answers.{AnswersReading}
-use Rattle.pb_answer.specs.Parts.{AnswerPart}
+use Rattle.pb_answer.specs.Parts.{AnswerPart, outputs_of}
+use Rattle.pb_run.specs.Parted.{AreDecided}
 use Rattle.pb_run.specs.Handing.{HandsOutParts}
 use Rattle.pb_run.specs.Course.{RunsOut, FailsToLoad, HasAnswered}
 use Rattle.pb_run.specs.declared.output.Ending.{Ending}
@@ -41,7 +41,8 @@ SavesPartIn (first ∷ outputs) before after =
 -- of what is due for these texts only a part was saved
 abbrev pub LeavesPart : Reading → (texts : List (List ℕ)) → Files → Files → Type 0
 LeavesPart reading texts before after =
-    (said : Said) × AnswersReading reading texts said × SavesPartIn said.outputs before after
+    (parts : List AnswerPart) × AreDecided reading texts parts
+    × SavesPartIn (outputs_of parts) before after
 
 -- it is none of these names
 abbrev pub IsNoneOf : (names : List (List ℕ)) → (other : List ℕ) → Type 0
@@ -94,24 +95,26 @@ HandsTold said Done files files' = IfTold files files' (SavesIn said.outputs)
 HandsTold said NotSaved files files' = IfTold files files' (SavesPartIn said.outputs)
 HandsTold said NotPrinted files files' = IfTold files files' (SavesIn said.outputs)
 
-abbrev pub TellsHands : (said : Said) (parts : List AnswerPart) (status : ℕ)
-    (saves sink : List Call) → Option Files → Option Files
-    → HandsOutParts said parts status saves sink → Type 0
-TellsHands said parts status saves sink files files' (inl done) =
-    IfTold files files' (SavesIn said.outputs)
-TellsHands said parts status saves sink files files' (inr (inl failed)) =
-    IfTold files files' (SavesPartIn said.outputs)
-TellsHands said parts status saves sink files files' (inr (inr failed)) =
-    IfTold files files' (SavesIn said.outputs)
+-- how parts were handed out, with what that means for the known files of the shelf
+abbrev pub TellsHands : (reading : Reading) (texts : List (List ℕ)) (parts : List AnswerPart)
+    (status : ℕ) (saves sink : List Call) → Option Files → Option Files
+    → HandsOutParts reading texts parts status saves sink → Type 0
+TellsHands reading texts parts status saves sink files files' (inl done) =
+    IfTold files files' (SavesIn (outputs_of parts))
+TellsHands reading texts parts status saves sink files files' (inr (inl failed)) =
+    IfTold files files' (SavesPartIn (outputs_of parts))
+TellsHands reading texts parts status saves sink files files' (inr (inr failed)) =
+    IfTold files files' (SavesIn (outputs_in saves))
 
 -- what was done, with what that means for the known files of the shelf
 abbrev pub GoesBy : Reading → (status : ℕ) → Option Files → Option Files → (shelf sink : List Call)
     → Type 0
 GoesBy reading status files files' shelf sink =
-    (RunsOut reading status shelf sink × IfTold files files' KeepsAll)
+    ((out : RunsOut reading status shelf sink)
+    × IfTold files files' (SavesIn (outputs_of out.parts)))
     ⊎ ((FailsToLoad reading status shelf sink × IfTold files files' KeepsAll)
     ⊎ ((a : HasAnswered reading status shelf sink) × AreLoaded files (files_of reading) a.texts
-    × TellsHands a.said a.parts status a.saves sink files files' a.hands))
+    × TellsHands reading a.texts a.parts status a.saves sink files files' a.hands))
 
 abbrev pub Goes : Reading → (status : ℕ) → Option Files → Option Files
     → (shelf shelf' sink sink' : List Call) → Type 0

@@ -7,13 +7,12 @@ use Rattle.pb_outside.specs.Calls.{Call, IsNoFault}
 use Rattle.pb_command.specs.Meaning.{Reading}
 use Rattle.pb_run.specs.Asked.{files_of}
 use Rattle.pb_run.specs.Calls.{calls_since, load_calls, EndLoads}
-use Rattle.pb_answer.specs.Answer.{Said}
-use Rattle.pb_run.specs.Answers.{AnswersReading}
-use Rattle.pb_answer.specs.Parts.{AnswerPart, AreAnswerParts}
-use Rattle.pb_run.specs.Handing.{HandsOutAll, HandsOutParts, ArePartsBefore}
+use Rattle.pb_answer.specs.Parts.{AnswerPart}
+use Rattle.pb_run.specs.Parted.{AreFirstParts}
+use Rattle.pb_run.specs.Handing.{HandsOutAll, HandsOutParts}
 
 -- Memory ran out, after these parts were handed out. Some of the loads were done, and at most one
--- failed, not by a fault.
+-- failed, not by a fault. No part is handed out before the loads come to their end.
 pub record RunsOut (reading : Reading) (status : ℕ) (shelf sink : List Call) : Type 0 where
   pub texts : List (List ℕ)
   pub unloaded : Option Load
@@ -21,7 +20,8 @@ pub record RunsOut (reading : Reading) (status : ℕ) (shelf sink : List Call) :
   pub no_fault : IfSome unloaded IsNoFault
   pub status_is : status ≡ 71
   pub parts : List AnswerPart
-  pub parts_are : ArePartsBefore parts
+  pub parts_are : AreFirstParts reading parts
+  pub loaded : (parts ≡ []) ⊎ EndLoads (files_of reading) texts unloaded
   pub saves : List Call
   pub shelf_is : shelf ≡ load_calls (files_of reading) texts unloaded ++ saves
   pub hands : HandsOutAll parts saves sink
@@ -40,13 +40,10 @@ pub record HasAnswered (reading : Reading) (status : ℕ) (shelf sink : List Cal
   pub texts : List (List ℕ)
   pub unloaded : Option Load
   pub ends : EndLoads (files_of reading) texts unloaded
-  pub said : Said
-  pub answers : AnswersReading reading texts said
   pub parts : List AnswerPart
-  pub parts_are : AreAnswerParts said parts
   pub saves : List Call
   pub shelf_is : shelf ≡ load_calls (files_of reading) texts unloaded ++ saves
-  pub hands : HandsOutParts said parts status saves sink
+  pub hands : HandsOutParts reading texts parts status saves sink
 
 -- The calls on the shelf and the sink are a beginning of one sequence. The files are loaded in the
 -- order of the words. Then, part by part, the answer to their texts is saved and printed. Each call

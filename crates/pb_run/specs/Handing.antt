@@ -4,7 +4,10 @@ use Rattle.std.specs.Prelude.{◌≡◌, ◌⊎◌, ℕ, ◌≤◌, List, [], �
 use Rattle.pb_outside.specs.Calls.{Call, Put, PutFailed}
 use Rattle.pb_answer.specs.Answer.{Said}
 use Rattle.pb_answer.specs.Parts.{AnswerPart}
+use Rattle.pb_command.specs.Meaning.{Reading}
 use Rattle.pb_run.specs.Calls.{SaveAll, FailToSaveAll}
+use Rattle.pb_run.specs.Answers.{AnswersReading}
+use Rattle.pb_run.specs.Parted.{AreAllParts, AreDecided}
 
 -- these calls hand out one part, and the other calls come after them
 pub record HandsOutOne (part : AnswerPart) (saves sink saves' sink' : List Call) : Type 0 where
@@ -42,14 +45,33 @@ FailsInPuts (part ∷ parts) saves sink =
     ⊎ ((saves' : List Call) × (sink' : List Call) × HandsOutOne part saves sink saves' sink'
     × FailsInPuts parts saves' sink')
 
--- all parts are handed out, with the status of the answer; or up to a call that fails
-abbrev pub HandsOutParts : Said → List AnswerPart → (status : ℕ) → (saves sink : List Call) → Type 0
-HandsOutParts said parts status saves sink =
-    ((status ≡ said.status) × HandsOutAll parts saves sink)
-    ⊎ (((status ≡ 73) × FailsInSaves parts saves sink)
-    ⊎ ((status ≡ 74) × FailsInPuts parts saves sink))
+-- all parts of an answer are handed out, and the status is that of the answer
+pub record HandsOutAnswer (reading : Reading) (texts : List (List ℕ)) (parts : List AnswerPart)
+    (status : ℕ) (saves sink : List Call) : Type 0 where
+  pub said : Said
+  pub answers : AnswersReading reading texts said
+  pub parts_are : AreAllParts reading said parts
+  pub status_is : status ≡ said.status
+  pub hands : HandsOutAll parts saves sink
 
--- The parts that may be handed out before memory runs out: none. If parts are decided one after
--- another, they are the first ones of an answer.
-abbrev pub ArePartsBefore : List AnswerPart → Type 0
-ArePartsBefore parts = parts ≡ []
+-- the parts that are decided are handed out, up to a file that the shelf fails to save
+pub record BreaksOffSaving (reading : Reading) (texts : List (List ℕ)) (parts : List AnswerPart)
+    (status : ℕ) (saves sink : List Call) : Type 0 where
+  pub status_is : status ≡ 73
+  pub decided : AreDecided reading texts parts
+  pub hands : FailsInSaves parts saves sink
+
+-- the parts that are decided are handed out, up to a piece that the sink fails to take
+pub record BreaksOffPutting (reading : Reading) (texts : List (List ℕ)) (parts : List AnswerPart)
+    (status : ℕ) (saves sink : List Call) : Type 0 where
+  pub status_is : status ≡ 74
+  pub decided : AreDecided reading texts parts
+  pub hands : FailsInPuts parts saves sink
+
+-- an answer is handed out in parts, or up to a call that fails
+abbrev pub HandsOutParts : Reading → (texts : List (List ℕ)) → List AnswerPart → (status : ℕ)
+    → (saves sink : List Call) → Type 0
+HandsOutParts reading texts parts status saves sink =
+    HandsOutAnswer reading texts parts status saves sink
+    ⊎ (BreaksOffSaving reading texts parts status saves sink
+    ⊎ BreaksOffPutting reading texts parts status saves sink)

@@ -1,5 +1,5 @@
 -- Completeness: what is answered if the shelf and the sink can do what is asked of them.
-use Rattle.std.specs.Prelude.{◌≡◌, ◌⊎◌, ℕ, ⊤, Option, None, Some, List, [], ◌∷◌, length, Ok, IfSome}
+use Rattle.std.specs.Prelude.{◌≡◌, ◌⊎◌, ℕ, ⊤, Option, None, Some, List, [], ◌∷◌, ◌++◌, length, Ok, IfSome}
 use Rattle.pb_task.specs.declared.parts.TaskParts.{TaskParts}
 use Rattle.pb_check.specs.declared.fault.Verdict.{Verdict}
 use Rattle.pb_check.specs.Shown.{IsAccepted}
@@ -11,24 +11,28 @@ use Rattle.pb_run.specs.Loads.{loads_of}
 use Rattle.pb_answer.specs.Loaded.{solve_task, check_task, journal_task}
 use Rattle.pb_answer.specs.Journals.{IsJournalOf}
 use Rattle.pb_answer.specs.Answer.{Said}
+use Rattle.pb_answer.specs.Parts.{AnswerPart, outputs_of}
 use Rattle.pb_run.specs.Answers.{AnswersReading}
+use Rattle.pb_run.specs.Parted.{AreAllParts, AreFirstParts, AreDecided}
 
--- these are some of the names, in their order
-abbrev pub AreSomeOf : (begun names : List (List ℕ)) → Type 0
-AreSomeOf [] names = ⊤
-AreSomeOf (name ∷ begun) [] = ⊥
-AreSomeOf (name ∷ begun) (first ∷ names) =
-    ((name ≡ first) × AreSomeOf begun names) ⊎ AreSomeOf (name ∷ begun) names
+-- the sink can take the pieces of these parts one after another, after what was put before
+abbrev pub CanTakeAll : (can_take : ℕ → Type 0) → (before : List ℕ) → List AnswerPart → Type 0
+CanTakeAll can_take before [] = ⊤
+CanTakeAll can_take before (part ∷ parts) =
+    can_take (length (before ++ part.report)) × CanTakeAll can_take (before ++ part.report) parts
 
--- ---- completeness
+-- the shelf can hold the files of these parts, and the sink can take their pieces
+pub record PartsFit (can_hold : List ℕ → ℕ → Type 0) (can_take : ℕ → Type 0)
+    (parts : List AnswerPart) : Type 0 where
+  pub held : CanHold can_hold (outputs_of parts)
+  pub taken : CanTakeAll can_take [] parts
 
--- whatever is answered of the texts, the shelf can hold what is to be saved, and the sink can take
--- what is to be printed
+-- whatever parts are decided of the texts, the shelf can hold what is to be saved, and the sink can
+-- take what is to be printed
 abbrev pub CanHandOut : Reading → (texts : List (List ℕ)) → (can_hold : List ℕ → ℕ → Type 0)
     → (can_take : ℕ → Type 0) → Type 0
 CanHandOut reading texts can_hold can_take =
-    (said : Said) → AnswersReading reading texts said → CanHold can_hold said.outputs
-    × can_take (length said.report)
+    (parts : List AnswerPart) → AreDecided reading texts parts → PartsFit can_hold can_take parts
 
 -- What is answered, unless memory ran out:
 -- - of words that are no command line, their refusal;
@@ -61,16 +65,33 @@ CanServe reading (Some told) can_load can_hold can_take =
     × ((texts : List (List ℕ)) → loads_of told (files_of reading) ≡ Some texts
     → CanHandOut reading texts can_hold can_take)
 
+-- these texts have an answer, and the status is its own if its parts fit
+pub record AnswersIfPartsFit (reading : Reading) (texts : List (List ℕ)) (status : ℕ)
+    (can_hold : List ℕ → ℕ → Type 0) (can_take : ℕ → Type 0) : Type 0 where
+  pub said : Said
+  pub answers : AnswersReading reading texts said
+  pub parts : List AnswerPart
+  pub parts_are : AreAllParts reading said parts
+  pub if_they_fit : PartsFit can_hold can_take parts → status ≡ said.status
+
+-- first parts of an answer don't fit
+pub record PartsDoNotFit (reading : Reading) (can_hold : List ℕ → ℕ → Type 0)
+    (can_take : ℕ → Type 0) : Type 0 where
+  pub parts : List AnswerPart
+  pub parts_are : AreFirstParts reading parts
+  pub do_not_fit : PartsFit can_hold can_take parts → ⊥
+
 -- What is answered of the texts of these files fits: unless memory ran out, they have one answer
 -- that is handed out if the shelf can hold what it saves and the sink can take its report. So what
--- is asked of both is the length of that answer alone.
+-- is asked of both is the length of that answer alone. Where more than one part is asked for, it may
+-- break off at parts that don't fit.
 abbrev pub IsHandedOutIfItFits : Reading → Files → (status : ℕ) → (can_hold : List ℕ → ℕ → Type 0)
     → (can_take : ℕ → Type 0) → Type 0
 IsHandedOutIfItFits reading told status can_hold can_take =
     (status ≡ 71)
     ⊎ ((texts : List (List ℕ)) × (loads_of told (files_of reading) ≡ Some texts)
-    × (said : Said) × AnswersReading reading texts said
-    × (CanHold can_hold said.outputs → can_take (length said.report) → status ≡ said.status))
+    × (AnswersIfPartsFit reading texts status can_hold can_take
+    ⊎ PartsDoNotFit reading can_hold can_take))
 
 -- It is so if the shelf's files are known, and it can load those that the words name.
 abbrev pub AnswersWhatFits : Reading → (status : ℕ) → Option Files → (can_load : List ℕ → Type 0)

@@ -1,15 +1,16 @@
 -- What holds of every call, whatever its command: the sequence of its calls, completeness, what is
 -- left out where nothing is answered, and the contents of files and output.
-use Rattle.std.specs.Prelude.{◌≡◌, ◌⊎◌, ◌↔◌, ℕ, ◌≤◌, IsTrue, false, Option, List, [], map}
+use Rattle.std.specs.Prelude.{◌≡◌, ◌⊎◌, ◌↔◌, ℕ, ◌≤◌, IsTrue, true, false, Option, List, [], map}
 use Rattle.pb_outside.specs.Outside.{Files, IfTold, Appends, Rose, KeepsAll}
 use Rattle.pb_outside.specs.Calls.{Call}
 use Rattle.pb_answer.specs.Outputs.{Output}
-use Rattle.pb_run.specs.Asked.{files_of, saved_names}
+use Rattle.pb_run.specs.Asked.{files_of, saved_names, AreSomeOf}
 use Rattle.pb_command.specs.Meaning.{reading_of_words}
 use Rattle.pb_run.specs.Calls.{calls_since, loaded_texts, outputs_in, have_failed}
 use Rattle.pb_run.specs.Loads.{AreLoaded}
 use Rattle.pb_run.specs.Contents.{SavesIn, LeavesPart, KeepsUnnamed}
-use Rattle.pb_run.specs.Served.{AreSomeOf, IsAnswered, CanServe, AnswersWhatFits, IsComplete}
+use Rattle.pb_run.specs.Served.{IsAnswered, CanServe, AnswersWhatFits, IsComplete}
+use Rattle.pb_run.specs.Parted.{asks_one_part}
 use Rattle.pb_run.specs.Course.{DoesSince}
 use Rattle.pb_run.specs.Outcome.{Outcome, IsAnswer}
 
@@ -47,11 +48,12 @@ pub record AnswersIfServed (words : List (List ℕ)) (status : ℕ) (files : Opt
       → IsServed words status files
   pub fits : AnswersWhatFits (reading_of_words words) status files can_load can_hold can_take
 
--- Where nothing is answered: nothing is printed at 71 and 73, and nothing is saved at 71. The
--- shelf's count of faults rises at 73 and the sink's at 74, and none ever falls.
+-- Where nothing is answered: if one part is asked for, nothing is printed at 71 and 73, and nothing
+-- is saved at 71. The shelf's count of faults rises at 73 and the sink's at 74, and none ever falls.
 pub record BreaksOnlyBy (it : Outcome) (shelf shelf' sink sink' : ℕ) : Type 0 where
-  pub unsaved : it.said.status ≡ 71 → it.said.outputs ≡ []
-  pub silent : (it.said.status ≡ 71) ⊎ (it.said.status ≡ 73) → it.said.report ≡ []
+  pub unsaved : asks_one_part it.asked ≡ true → it.said.status ≡ 71 → it.said.outputs ≡ []
+  pub silent : asks_one_part it.asked ≡ true
+      → (it.said.status ≡ 71) ⊎ (it.said.status ≡ 73) → it.said.report ≡ []
   pub shelf_rose : it.said.status ≡ 73 → Rose shelf shelf'
   pub sink_rose : it.said.status ≡ 74 → Rose sink sink'
   pub shelf_later : shelf ≤ shelf'
@@ -59,17 +61,17 @@ pub record BreaksOnlyBy (it : Outcome) (shelf shelf' sink sink' : ℕ) : Type 0 
 
 -- If the contents of files and output are known:
 -- - `loaded`: the texts are those of the files;
--- - `saved`: what was saved is there;
--- - `kept`, `left`: at 71 all files are as before, and at 73 some files are saved and of the next
---   one a prefix;
+-- - `saved`: unless the shelf failed, what was saved is there;
+-- - `kept`: at 71 all files are as before, if one part is asked for;
+-- - `left`: at 73 some files are saved and of the next one a prefix;
 -- - `others`: files under other names stay;
 -- - `printed`: what was printed follows what was written before.
 pub record ContentsHold (it : Outcome) (files files' : Option Files)
     (written written' : Option (List ℕ)) : Type 0 where
   pub loaded : IsAnswer it.said.status → AreLoaded files (files_of it.asked) it.texts
-  pub saved : IsAnswer it.said.status ⊎ (it.said.status ≡ 74)
+  pub saved : IsAnswer it.said.status ⊎ ((it.said.status ≡ 71) ⊎ (it.said.status ≡ 74))
       → IfTold files files' (SavesIn it.said.outputs)
-  pub kept : it.said.status ≡ 71 → IfTold files files' KeepsAll
+  pub kept : asks_one_part it.asked ≡ true → it.said.status ≡ 71 → IfTold files files' KeepsAll
   pub left : it.said.status ≡ 73 → IfTold files files'
       (λ before after. KeepsAll before after ⊎ LeavesPart it.asked it.texts before after)
   pub others : IfTold files files' (KeepsUnnamed it.asked)

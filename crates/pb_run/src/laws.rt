@@ -4,6 +4,7 @@ ghost use Rattle.pb_run.specs.Laws.{SavedCertificatesAreAccepted, SavedJournalsA
 ghost use Rattle.pb_run.specs.Laws.{SavedJournalsAreShort};
 ghost use Rattle.pb_run.specs.Laws.{CertificatesAreAcceptedByWords, JournalsAreAcceptedByWords};
 ghost use Rattle.pb_run.specs.Laws.{CertificatesStateTheirPattern};
+ghost use Rattle.pb_run.specs.AtOnce.{OnePartIsHandedOutAtOnce};
 ghost use Rattle.pb_run.specs.Rooms.{ChecksAreServed, JournalsAreServed};
 ghost use Rattle.pb_run.specs.Rooms.{MakesAreServed, SolvesAreServed};
 
@@ -100,3 +101,10 @@ pub fn solves_are_served()
 {
     journal_texts_are_short();
 }
+
+/// An answer that is asked for in one part is handed out at once: all its files are saved, and then
+/// the whole report is printed. If memory runs out, nothing was saved or printed. If the shelf
+/// fails, nothing is printed. This follows from the clause `calls`, and holds for each command.
+pub fn one_part_is_handed_out_at_once()
+    ensures { OnePartIsHandedOutAtOnce }
+{}

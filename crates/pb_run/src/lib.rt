@@ -7,6 +7,7 @@
 
 mod answer;
 mod asked;
+mod claims;
 mod laws;
 mod lend;
 mod load;

@@ -1,6 +1,7 @@
 //! Handing out an answer: what is to be saved, and then the report.
 ghost use Rattle.std.specs.Prelude.{◌≡◌, ◌≤◌, ◌++◌, IsSome, IsOk, OnOk, OnErr, length};
 ghost use Rattle.pb_outside.specs.Outside.{IfTold, Rose, HasCause, KeepsHolds};
+ghost use Rattle.pb_outside.specs.Calls.{KeepsTakes};
 ghost use Rattle.pb_run.specs.Calls.{CanHold};
 ghost use Rattle.pb_answer.specs.Answer.{certificates_of, journals_of, said_of};
 ghost use Rattle.pb_run.specs.Contents.{SavesIn, SavesPartIn, Saved, SavedPart, Hands, HandsTold};
@@ -60,6 +61,7 @@ fn save_journal<H: Shelf>(shelf: &mut H, saved: &Option<SavedJournal<'_>>) -> Re
     ensures calls_error { OnErr result (SavedPart (H.calls shelf.old) (H.calls shelf.new) (journals_of saved.now)) }
     ensures sure { IsSome (H.files shelf.old)
         → CanHold (H.can_hold shelf.old) (journals_of saved.now) → IsOk result }
+    ensures holds { KeepsHolds (H.can_hold shelf.old) (H.can_hold shelf.new) }
     ensures cause { HasCause (H.faults shelf.old) (H.faults shelf.new) result }
 {
     match saved {
@@ -80,14 +82,16 @@ fn save<H: Shelf>(shelf: &mut H, answer: &Answer<'_>) -> Result<(), Failed>
         (said_of answer.now).outputs) }
     ensures sure { IsSome (H.files shelf.old)
         → CanHold (H.can_hold shelf.old) (said_of answer.now).outputs → IsOk result }
+    ensures holds { KeepsHolds (H.can_hold shelf.old) (H.can_hold shelf.new) }
     ensures cause { HasCause (H.faults shelf.old) (H.faults shelf.new) result }
 {
     save_certificate(shelf, &answer.certificate)?;
     save_journal(shelf, &answer.journal)
 }
 
-/// Saves the certificate and the journal of an answer, each if it has one, and prints the report.
-/// It takes no memory.
+/// Hands out an answer, or a part of one: saves the certificate and the journal, each if there is
+/// one, and then prints the report. It takes no memory. What the shelf and the sink promise goes on:
+/// so the next part can be handed out if it fits, too.
 pub fn hand_out<H: Shelf, K: Sink>(shelf: &mut H, out: &mut K, answer: &Answer<'_>) -> Ending
     ensures hands { Hands (said_of answer.now) result (H.calls shelf.old) (H.calls shelf.new)
         (K.calls out.old) (K.calls out.new) (K.written out.old) (K.written out.new) }
@@ -95,6 +99,9 @@ pub fn hand_out<H: Shelf, K: Sink>(shelf: &mut H, out: &mut K, answer: &Answer<'
     ensures sure { IsSome (H.files shelf.old)
         → CanHold (H.can_hold shelf.old) (said_of answer.now).outputs
         → K.can_take out.old (length (said_of answer.now).report) → result ≡ Done }
+    ensures holds { KeepsHolds (H.can_hold shelf.old) (H.can_hold shelf.new) }
+    ensures takes { result ≡ Done → KeepsTakes (K.can_take out.old) (K.can_take out.new)
+        (length (said_of answer.now).report) }
     ensures shelf_fault { result ≡ NotSaved → Rose (H.faults shelf.old) (H.faults shelf.new) }
     ensures sink_fault { result ≡ NotPrinted → Rose (K.faults out.old) (K.faults out.new) }
     ensures shelf_later { H.faults shelf.old ≤ H.faults shelf.new }
