@@ -3,8 +3,9 @@ ghost use Rattle.std.specs.Prelude.{◌≡◌, ◌*◌, ◌<◌, ◌≤◌, ◌^
 use crate::packed::Form;
 use crate::{Packed, Words};
 
-// The number in another count of words, if it fits them.
-#[inline]
+// The number in another count of words, if it fits them. It isn't inlined, so that callers whose
+// states fit a word are short.
+#[inline(never)]
 fn fitted<const V: usize, const W: usize>(words: &Words<V>) -> Option<Words<W>>
     ensures some { IfSome result (λ fitted. fitted ≡ words.now) }
     ensures small { IfSome result (λ fitted. fitted < 2 ^ (64 * W)) }
@@ -57,6 +58,8 @@ impl Packed {
     {
         if words.fits(1) {
             Packed::of_word(words.low_word())
+        } else if W <= 4 {
+            Packed::of_few(words.widened::<4>())
         } else {
             Packed::of_words(words.widened::<16>())
         }

@@ -1,5 +1,5 @@
 -- The steps of STRIPS: they are by actions that there are, lead from sets of atoms to sets of atoms, and are those by which an action acts.
-use Rattle.std.proofs.Common.{◌≡◌, ℕ, zero, suc, ◌^◌, ◌<◌, ◌≤◌, ◌↔◌, List, [], ◌∷◌, length, Bool, true, false, not, IsTrue, ◌&&◌, ◌||◌, Option, None, Some, slice_get, if◌then◌else◌, refl, sym, subst, ap, arith, ◌∙◌}
+use Rattle.std.proofs.Common.{◌≡◌, ℕ, zero, suc, ◌*◌, ◌^◌, ◌<◌, ◌≤◌, ◌↔◌, List, [], ◌∷◌, length, Bool, true, false, not, IsTrue, ◌&&◌, ◌||◌, Option, None, Some, slice_get, if◌then◌else◌, refl, sym, subst, ap, arith, ◌∙◌}
 use Rattle.std.proofs.lemmas.Bool.{ltb-true, lt-ltb}
 use Rattle.std.proofs.lemmas.Option.{slice_get_within, get_or_from_slice_get}
 use Rattle.std.proofs.lemmas.List.Elements.{All-get_or}
@@ -158,3 +158,16 @@ state_at strips is from action to small less fits has =
     let act = action_at strips.actions action in
     let known : IsGroundAction strips.atoms act = known_action strips is action act (known_at strips.actions action less) in
     after_is strips.atoms from to act is.atoms known.adds (ltb-true from (2 ^ strips.atoms) small) fits has
+
+-- ---- states and sets of a task whose atoms fit so many words
+
+-- a number that is a set of the task's atoms
+pub fits_words : (count width set number : ℕ) → count ≤ 64 * width → number ≡ set → set < 2 ^ count → number < 2 ^ (64 * width)
+fits_words count width set number few is small = omega (arith, is, small, more_than count (64 * width) few)
+
+pub state_fits : (strips : StripsParts) (width from : ℕ) → strips.atoms ≤ 64 * width → IsTrue (is_atom_set strips.atoms from) → from < 2 ^ (64 * width)
+state_fits strips width from few small = fits_words strips.atoms width from from few refl (ltb-true from (2 ^ strips.atoms) small)
+
+-- the sets of the action of a number are of the task's atoms
+pub action_known : (strips : StripsParts) → IsStrips strips → (action : ℕ) → action < length strips.actions → IsGroundAction strips.atoms (action_at strips.actions action)
+action_known strips is action less = known_action strips is action (action_at strips.actions action) (known_at strips.actions action less)

@@ -1,7 +1,7 @@
-ghost use Rattle.std.specs.Prelude.{◌≡◌, ◌<◌, ◌≤◌, IsTrue, length, vec_capacity};
+ghost use Rattle.std.specs.Prelude.{◌≡◌, ℕ, ◌*◌, ◌<◌, ◌≤◌, ◌↔◌, IsTrue, length, vec_capacity};
 ghost use Rattle.pb_packed.specs.Words.{number_of, AreWords};
 ghost use Rattle.pb_model.specs.Space.{steps};
-ghost use Rattle.pb_task.specs.Strips.{IsStrips, is_atom_set, is_strips_goal, strips_step, strips_space, name_in};
+ghost use Rattle.pb_task.specs.Strips.{IsStrips, action_at, has_atom, is_atom_set, is_strips_goal, strips_step, strips_space, name_in};
 
 use crate::parts::StripsParts;
 use crate::sets;
@@ -23,7 +23,7 @@ pub fn is_goal(strips: &StripsParts, state: &Packed) -> bool
     ensures { result ≡ is_strips_goal strips.now state.now }
 {
     let may_hold = !strips.never;
-    may_hold && sets::is_within(&strips.goal.to_words(), &state.to_words())
+    may_hold && sets::is_subset(&strips.goal, state)
 }
 
 /// How many actions there are.
@@ -34,10 +34,33 @@ pub fn actions(strips: &StripsParts) -> u32
     strips.actions.len() as u32
 }
 
-// The step from the state that these words spell by an action.
-fn step_from(strips: &StripsParts, held: &[u64; sets::WORDS], action: u32) -> Option<(Packed, u64)>
+// Whether all that an action needs holds in the state that these words spell.
+#[inline]
+fn needs_hold<const W: usize>(strips: &StripsParts, held: &[u64; W], action: u32) -> bool
+    requires fits { strips.now.atoms ≤ 64 * W }
     requires strips { IsStrips strips.now }
-    requires held { AreWords 16 held.now }
+    requires held { AreWords W held.now }
+    requires action { action < length strips.now.actions }
+    ensures { IsTrue result ↔ ((atom : ℕ)
+        → IsTrue (has_atom (action_at strips.now.actions action).needs atom)
+        → IsTrue (has_atom (number_of held.now) atom)) }
+{
+    let needs = sets::first_words::<W>(strips.actions.words_of_needs(action as usize));
+    sets::is_within(needs, held)
+}
+
+// The step from the state that these words spell by an action.
+#[inline]
+fn step_from<const W: usize>(
+    strips: &StripsParts,
+    held: &[u64; W],
+    action: u32,
+) -> Option<(Packed, u64)>
+    requires some { 1 ≤ W }
+    requires most { W ≤ 16 }
+    requires fits { strips.now.atoms ≤ 64 * W }
+    requires strips { IsStrips strips.now }
+    requires held { AreWords W held.now }
     requires state { IsTrue (is_atom_set strips.now.atoms (number_of held.now)) }
     ensures { result ≡ strips_step strips.now (number_of held.now) action }
 {
@@ -46,16 +69,54 @@ fn step_from(strips: &StripsParts, held: &[u64; sets::WORDS], action: u32) -> Op
     if actions.len() <= at {
         return None;
     }
-    if sets::is_within(actions.words_of_needs(at), held) {
-        let state = sets::after(
-            actions.words_of_adds(at),
-            actions.words_of_deletes(at),
-            held,
-        );
+    if needs_hold(strips, held, action) {
+        let adds = sets::first_words::<W>(actions.words_of_adds(at));
+        let deletes = sets::first_words::<W>(actions.words_of_deletes(at));
+        let state = sets::after(adds, deletes, held);
         Some((state, actions.cost(at)))
     } else {
         None
     }
+}
+
+// The step from a state by an action, of a task whose atoms fit so many words.
+#[inline]
+fn step_in<const W: usize>(
+    strips: &StripsParts,
+    from: &Packed,
+    action: u32,
+) -> Option<(Packed, u64)>
+    requires some { 1 ≤ W }
+    requires most { W ≤ 16 }
+    requires fits { strips.now.atoms ≤ 64 * W }
+    requires strips { IsStrips strips.now }
+    requires state { IsTrue (is_atom_set strips.now.atoms from.now) }
+    ensures { result ≡ strips_step strips.now from.now action }
+{
+    let held = from.in_words::<W>().to_array();
+    step_from(strips, &held, action)
+}
+
+// The step from a state by an action, in 4 words. Not inline, so that the step in one word is
+// short.
+#[inline(never)]
+fn step_in_few(strips: &StripsParts, from: &Packed, action: u32) -> Option<(Packed, u64)>
+    requires fits { strips.now.atoms ≤ 256 }
+    requires strips { IsStrips strips.now }
+    requires state { IsTrue (is_atom_set strips.now.atoms from.now) }
+    ensures { result ≡ strips_step strips.now from.now action }
+{
+    step_in::<4>(strips, from, action)
+}
+
+// The step from a state by an action, in all 16 words. Not inline either.
+#[inline(never)]
+fn step_in_all(strips: &StripsParts, from: &Packed, action: u32) -> Option<(Packed, u64)>
+    requires strips { IsStrips strips.now }
+    requires state { IsTrue (is_atom_set strips.now.atoms from.now) }
+    ensures { result ≡ strips_step strips.now from.now action }
+{
+    step_in::<16>(strips, from, action)
 }
 
 /// The step from a state by an action.
@@ -64,7 +125,61 @@ pub fn step(strips: &StripsParts, from: &Packed, action: u32) -> Option<(Packed,
     requires state { IsTrue (is_atom_set strips.now.atoms from.now) }
     ensures { result ≡ strips_step strips.now from.now action }
 {
-    step_from(strips, &from.to_words(), action)
+    if strips.atoms <= 64 {
+        step_in::<1>(strips, from, action)
+    } else if strips.atoms <= 256 {
+        step_in_few(strips, from, action)
+    } else {
+        step_in_all(strips, from, action)
+    }
+}
+
+// Replaces the list by all successors of a state, of a task whose atoms fit so many words.
+#[inline]
+fn successors_in<const W: usize>(strips: &StripsParts, from: &Packed, out: &mut Vec<Succ>)
+    requires some { 1 ≤ W }
+    requires most { W ≤ 16 }
+    requires fits { strips.now.atoms ≤ 64 * W }
+    requires strips { IsStrips strips.now }
+    requires state { IsTrue (is_atom_set strips.now.atoms from.now) }
+    requires room { length strips.now.actions ≤ vec_capacity out.old }
+    ensures successors { out.new.items ≡ steps (strips_space strips.now) from.now }
+    ensures room { vec_capacity out.old ≤ vec_capacity out.new }
+{
+    out.clear();
+    let held = from.in_words::<W>().to_array();
+    for action in 0..actions(strips) {
+        if needs_hold(strips, &held, action) {
+            let step = step_from(strips, &held, action);
+            push_step(out, action, step);
+        }
+    }
+}
+
+// Replaces the list by all successors of a state, in 4 words. Not inline, so that the form in one
+// word is short.
+#[inline(never)]
+fn successors_in_few(strips: &StripsParts, from: &Packed, out: &mut Vec<Succ>)
+    requires fits { strips.now.atoms ≤ 256 }
+    requires strips { IsStrips strips.now }
+    requires state { IsTrue (is_atom_set strips.now.atoms from.now) }
+    requires room { length strips.now.actions ≤ vec_capacity out.old }
+    ensures successors { out.new.items ≡ steps (strips_space strips.now) from.now }
+    ensures room { vec_capacity out.old ≤ vec_capacity out.new }
+{
+    successors_in::<4>(strips, from, out);
+}
+
+// Replaces the list by all successors of a state, in all 16 words. Not inline either.
+#[inline(never)]
+fn successors_in_all(strips: &StripsParts, from: &Packed, out: &mut Vec<Succ>)
+    requires strips { IsStrips strips.now }
+    requires state { IsTrue (is_atom_set strips.now.atoms from.now) }
+    requires room { length strips.now.actions ≤ vec_capacity out.old }
+    ensures successors { out.new.items ≡ steps (strips_space strips.now) from.now }
+    ensures room { vec_capacity out.old ≤ vec_capacity out.new }
+{
+    successors_in::<16>(strips, from, out);
 }
 
 /// Replaces the list by all successors of a state, in order of the actions.
@@ -75,11 +190,12 @@ pub fn successors(strips: &StripsParts, from: &Packed, out: &mut Vec<Succ>)
     ensures successors { out.new.items ≡ steps (strips_space strips.now) from.now }
     ensures room { vec_capacity out.old ≤ vec_capacity out.new }
 {
-    out.clear();
-    let held = from.to_words();
-    for action in 0..actions(strips) {
-        let step = step_from(strips, &held, action);
-        push_step(out, action, step);
+    if strips.atoms <= 64 {
+        successors_in::<1>(strips, from, out);
+    } else if strips.atoms <= 256 {
+        successors_in_few(strips, from, out);
+    } else {
+        successors_in_all(strips, from, out);
     }
 }
 
