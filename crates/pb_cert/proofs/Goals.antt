@@ -1,5 +1,5 @@
 -- The first goal among the first entries of a part, and among the rows of the first parts.
-use Rattle.std.proofs.Common.{◌≡◌, ◌⊎◌, inl, inr, ℕ, ◌+◌, ◌<◌, ◌≤◌, ◌^◌, Option, None, Some, IfSome, IfNone, IsTrue, nat_eq, List, length, slice_get, refl, sym, subst, ◌∙◌, arith}
+use Rattle.std.proofs.Common.{◌≡◌, ◌⊎◌, inl, inr, ℕ, ◌+◌, ◌<◌, ◌≤◌, ◌^◌, Option, None, Some, IfSome, IfNone, IsTrue, false, nat_eq, List, length, slice_get, refl, sym, subst, ◌∙◌, arith}
 use Rattle.std.specs.Map.{keys_of}
 use Rattle.std.specs.List.{IsDistinct}
 use Rattle.std.proofs.lemmas.Bool.{cases_lt}
@@ -9,7 +9,7 @@ use Rattle.std.proofs.lemmas.Map.Entries.{lookup_from_place, place_from_lookup}
 use Rattle.pb_model.specs.declared.row.Row.{Row}
 use Rattle.pb_model.specs.Space.{Space}
 use Rattle.pb_model.specs.Store.{Part, Rows}
-use Rattle.pb_model.proofs.Callers.{equal}
+use Rattle.pb_model.proofs.Callers.{equal, not_both}
 use Rattle.pb_lists.specs.Bundle.{row_in}
 use Rattle.pb_cert.specs.declared.goal.Goal.{Goal}
 use Rattle.pb_lists.specs.Store.{HasNoneFrom}
@@ -56,6 +56,24 @@ one_more space entries so_far i first next state row at before kept small here f
   where
     same_entry : (entries : List (ℕ × Row)) (i k : ℕ) (one two : ℕ × Row) → i ≡ k → slice_get entries i ≡ Some one → slice_get entries k ≡ Some two → one ≡ two
     same_entry entries i k one two same at found = let there : slice_get entries k ≡ Some one = subst (λ n. slice_get entries n ≡ Some one) same at in cc
+
+-- the state of this place is no goal
+pub one_past : (space : Space) (entries : List (ℕ × Row)) (so_far : Option Goal) (i : ℕ) (first : Option Goal) (state : ℕ)
+    → ((other : ℕ) (row : Row) → slice_get entries i ≡ Some (other, row) → state ≡ other) → space.is_goal state ≡ false
+    → IsFirstSoFar space entries so_far i first → IsFirstSoFar space entries so_far (i + 1) first
+one_past space entries so_far i first state reads no_goal before =
+    record {
+      kept = before.kept;
+      small = before.small;
+      from = before.from;
+      least = λ k entry below found is_goal. elim (cases_lt k i) [
+        | inl less ↦ before.least k entry less found is_goal
+        | inr past ↦
+            let same : k ≡ i = omega (arith, past, below) in
+            let there : slice_get entries i ≡ Some (entry.0, entry.1) = subst (λ n. slice_get entries n ≡ Some entry) same found in
+            absurd (not_both (space.is_goal state) (subst (λ s. IsTrue (space.is_goal s)) (sym (reads entry.0 entry.1 there)) is_goal) no_goal)
+      ];
+    }
 
 -- after all entries
 module _ (space : Space) (entries : List (ℕ × Row)) (so_far : Option Goal) (i : ℕ) (first : Option Goal) (before : IsFirstSoFar space entries so_far i first) where

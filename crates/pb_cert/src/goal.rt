@@ -42,8 +42,10 @@ fn first_in(task: &Task, so_far: Option<Goal>, bundle: &Bundle) -> Option<Goal>
 {
     let mut first = so_far;
     'rows: for i in 0..bundle.len() {
-        let (state, row) = bundle.at(i);
-        first = first_of(task, first, &state, &row);
+        if task.is_goal(&bundle.state_at(i)) {
+            let (state, row) = bundle.at(i);
+            first = first_of(task, first, &state, &row);
+        }
     }
     first
 }

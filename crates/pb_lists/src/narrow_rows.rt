@@ -123,6 +123,18 @@ impl<const W: usize> NarrowRows<W> {
         }
     }
 
+    // The state that got its row after i others.
+    pub(crate) fn state_at(&self, i: u64) -> Packed
+        requires { i < length self.now.entries }
+        ensures { (state : ℕ) (row : _) → slice_get self.now.entries i ≡ Some (state, row)
+            → result ≡ state }
+    {
+        match self.rows.get_index(i as usize) {
+            Some(entry) => Packed::from_words(entry.0),
+            None => unreachable!(),
+        }
+    }
+
     // The g of the row that came after i others.
     pub(crate) fn g_at(&self, i: u64) -> u64
         requires { i < length self.now.entries }

@@ -107,6 +107,18 @@ impl Rows {
         }
     }
 
+    // The state that got its row after i others.
+    pub(crate) fn state_at(&self, i: u64) -> Packed
+        requires { i < length self.now.entries }
+        ensures { (state : ℕ) (row : _) → slice_get self.now.entries i ≡ Some (state, row)
+            → result ≡ state }
+    {
+        match &self.table {
+            Table::Small(rows) => rows.state_at(i),
+            Table::Wide(rows) => rows.state_at(i),
+        }
+    }
+
     // The g of the row that came after i others.
     pub(crate) fn g_at(&self, i: u64) -> u64
         requires { i < length self.now.entries }

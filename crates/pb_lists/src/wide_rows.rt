@@ -95,6 +95,20 @@ impl WideRows {
         }
     }
 
+    // The state that got its row after i others.
+    #[inline(never)]
+    pub(crate) fn state_at(&self, i: u64) -> Packed
+        requires { i < length (wide_of self.now).entries }
+        ensures { (state : ℕ) (row : _)
+            → slice_get (wide_of self.now).entries i ≡ Some (state, row) → result ≡ state }
+    {
+        match self {
+            WideRows::Few(rows) => rows.state_at(i),
+            WideRows::Many(rows) => rows.state_at(i),
+            WideRows::Any(rows) => rows.state_at(i),
+        }
+    }
+
     // The g of the row that came after i others.
     #[inline(never)]
     pub(crate) fn g_at(&self, i: u64) -> u64
