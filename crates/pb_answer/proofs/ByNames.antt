@@ -1,6 +1,7 @@
 -- What is claimed of a STRIPS task by names follows from what is claimed of its packed task.
 use Rattle.std.proofs.Common.{◌≡◌, ℕ, ◌+◌, ◌*◌, ◌≤◌, Option, None, Some, List, map, slice_get, Result, Ok, Err, refl, sym, ap, ◌∙◌, subst}
-use Rattle.pb_model.specs.Plan.{Plan, IsPlan as IsPackedPlan, HasNoPlan, IsBound}
+use Rattle.pb_model.specs.Weight.{Weight}
+use Rattle.pb_model.specs.Plan.{Plan, IsPlan as IsPackedPlan, NoneCheaper, HasNoPlan, IsBound}
 use Rattle.pb_model.specs.Texts.{plan_report}
 use Rattle.pb_task.specs.declared.parts.TaskParts.{TaskParts}
 use Rattle.pb_task.specs.declared.parts.TaskParts.TheVariants as parts
@@ -22,7 +23,7 @@ use Rattle.pb_strips.specs.Refusals.{first_fault}
 use Rattle.pb_check.specs.declared.fault.Verdict.{Verdict}
 use Rattle.pb_check.specs.declared.fault.Claim.TheVariants.{Bounded, Unsolvable}
 use Rattle.pb_check.specs.Shown.{VerdictHolds}
-use Rattle.pb_report.specs.Texts.{syntax_text, strips_text}
+use Rattle.pb_report.specs.Texts.{syntax_text, strips_text, plan_text}
 use Rattle.pb_command.specs.declared.command.InputOptions.{InputOptions}
 use Rattle.pb_command.specs.Values.{InputNames, Grid, Tiles, Strips}
 use Rattle.pb_command.specs.Meaning.{SolveMeaning, CheckMeaning}
@@ -30,7 +31,7 @@ use Rattle.pb_answer.specs.Searches.{weight_asked}
 use Rattle.pb_answer.specs.Outputs.{Output}
 use Rattle.pb_answer.specs.Loaded.{refused_with, strips_told, problem_told, domain_told, strips_task, input_task, with_text, OfTexts, OfCheckedTexts}
 use Rattle.pb_answer.specs.Claims.{Solves, Accepts}
-use Rattle.pb_answer.specs.Named.{SpellTrees, OfTrees, HasNoNamedPlan, PrintsNamedPlan, NamedVerdict, AcceptsNamed}
+use Rattle.pb_answer.specs.Named.{SpellTrees, OfTrees, NoneBelow, NoneCheaperByNames, HasNoNamedPlan, PrintsNamedPlan, NamedVerdict, AcceptsNamed}
 
 -- ---- the trees of a task
 
@@ -94,7 +95,7 @@ trees_of (Some domain_text) (Some problem_text) task e = at_domain (domain_readi
     at_domain (Err error) reads f = none (syntax_text 1 error) f
 
 -- what follows for every domain and problem from what holds of their task holds of the trees that the texts spell
-by_trees : (P : TaskParts → Type 0) (Q : Domain → Problem → Type 0) → ((domain : Domain) (problem : Problem) → AreTask domain problem → P (parts.Strips (strips_of domain problem)) → Q domain problem)
+pub by_trees : (P : TaskParts → Type 0) (Q : Domain → Problem → Type 0) → ((domain : Domain) (problem : Problem) → AreTask domain problem → P (parts.Strips (strips_of domain problem)) → Q domain problem)
     → (input : InputNames) (options : InputOptions) (first : ℕ) (texts : List (List ℕ)) (task : TaskParts) → input_task input options first texts ≡ Ok task → P task → OfTrees input first texts Q
 by_trees P Q f (Grid names) options first texts task is holds = tt
 by_trees P Q f (Tiles board) options first texts task is holds = tt
@@ -127,17 +128,25 @@ module _ (domain : Domain) (problem : Problem) (are : AreTask domain problem) wh
       let packed = plans_are_packed_plans domain problem actions are.accepted is in
       none (record { actions = packed.0; cost = plan_cost domain problem actions }) packed.1
 
-  pub prints_named_plan : (says : List ℕ → Type 0) (saves : List Output → Type 0)
-      (solve : SolveMeaning) → Solves says saves solve task
-      → PrintsNamedPlan says (weight_asked solve) domain problem
-  prints_named_plan says saves solve (plan, bound, text, is, bounded, least, saved, fits) =
-      let weight = weight_asked solve in
+  -- no plan by names costs less than this, if no packed one does
+  pub none_below_by_names : (bound : ℕ) → ((other : Plan) → IsPackedPlan (space_of task) other → bound ≤ other.cost) → NoneBelow domain problem bound
+  none_below_by_names bound least others other_is =
+      let other = packed others other_is in
+      subst (λ n. bound ≤ n) other.2 (least other.0 other.1)
+
+  -- A packed plan of which this is claimed at a weight is one by names, of the same cost and under the
+  -- same text. The same is claimed of it by names.
+  pub plan_by_names : (weight : Weight) (plan : Plan) (bound : ℕ) → IsPackedPlan (space_of task) plan → IsBound weight plan.cost bound → NoneCheaper (space_of task) weight plan.cost
+      → (actions : List NamedAction) × (plan_text task plan bound ≡ plan_report (map (action_bytes domain) actions) (plan_cost domain problem actions) bound)
+      × (plan.cost ≡ plan_cost domain problem actions) × IsPlan domain problem actions × IsBound weight (plan_cost domain problem actions) bound
+      × NoneCheaperByNames domain problem weight (plan_cost domain problem actions)
+  plan_by_names weight plan bound is bounded least =
       let named = packed_plans_are_plans domain problem plan are.accepted is in
       let cost : plan.cost ≡ plan_cost domain problem named.0 = named.3 in
       let names = sym named.2 ∙ names_are_printed domain problem named.0 are.words are.others named.1 in (
         named.0,
-        bound,
-        subst says (ap (λ steps. plan_report steps plan.cost bound) names ∙ ap (λ n. plan_report (map (action_bytes domain) named.0) n bound) cost) text,
+        ap (λ steps. plan_report steps plan.cost bound) names ∙ ap (λ n. plan_report (map (action_bytes domain) named.0) n bound) cost,
+        cost,
         named.1,
         subst (λ n. IsBound weight n bound) cost bounded,
         λ others other_is.
@@ -146,28 +155,39 @@ module _ (domain : Domain) (problem : Problem) (are : AreTask domain problem) wh
             (subst (λ n. weight.den * plan.cost ≤ weight.num * n) other.2 (least other.0 other.1)),
       )
 
+  pub prints_named_plan : (says : List ℕ → Type 0) (saves : List Output → Type 0)
+      (solve : SolveMeaning) → Solves says saves solve task
+      → PrintsNamedPlan says (weight_asked solve) domain problem
+  prints_named_plan says saves solve (plan, bound, text, is, bounded, least, saved, fits) =
+      let named = plan_by_names (weight_asked solve) plan bound is bounded least in
+      (named.0, bound, subst says named.1 text, named.3, named.4, named.5)
+
   pub named_verdict : (verdict : Verdict) → VerdictHolds (space_of task) verdict → NamedVerdict domain problem verdict
   named_verdict Unsolvable none = no_named_plan none
   named_verdict (Bounded cost bound) ((plan, is, costs), least) =
       let named = packed_plans_are_plans domain problem plan are.accepted is in (
         (named.0, named.1, sym named.3 ∙ costs),
-        λ others other_is. let other = packed others other_is in subst (λ n. bound ≤ n) other.2 (least other.0 other.1),
+        none_below_by_names bound least,
       )
 
 -- ---- of what is answered
 
 module _ (texts : List (List ℕ)) where
+  -- what follows by names from what holds of a task that the texts spell
+  pub texts_by_names : (P : TaskParts → Type 0) (Q : Domain → Problem → Type 0) → ((domain : Domain) (problem : Problem) → AreTask domain problem → P (parts.Strips (strips_of domain problem)) → Q domain problem)
+      → (solve : SolveMeaning) → OfTexts solve texts P → OfTrees solve.input 0 texts Q
+  texts_by_names P Q f solve (task, is, holds) = by_trees P Q f solve.input solve.options 0 texts task is holds
+
   pub solved_by_names : (says : List ℕ → Type 0) (saves : List Output → Type 0)
       (solve : SolveMeaning) → OfTexts solve texts (λ parts. Solves says saves solve parts)
       → OfTrees solve.input 0 texts (PrintsNamedPlan says (weight_asked solve))
-  solved_by_names says saves solve (task, is, holds) =
-      by_trees (λ parts. Solves says saves solve parts)
+  solved_by_names says saves solve =
+      texts_by_names (λ parts. Solves says saves solve parts)
       (PrintsNamedPlan says (weight_asked solve))
-      (λ domain problem are solves. prints_named_plan domain problem are says saves solve solves)
-      solve.input solve.options 0 texts task is holds
+      (λ domain problem are solves. prints_named_plan domain problem are says saves solve solves) solve
 
   pub none_by_names : (solve : SolveMeaning) → OfTexts solve texts (λ task. HasNoPlan (space_of task)) → OfTrees solve.input 0 texts HasNoNamedPlan
-  none_by_names solve (task, is, holds) = by_trees (λ t. HasNoPlan (space_of t)) HasNoNamedPlan no_named_plan solve.input solve.options 0 texts task is holds
+  none_by_names = texts_by_names (λ t. HasNoPlan (space_of t)) HasNoNamedPlan no_named_plan
 
   pub accepted_by_names : (says : List ℕ → Type 0) (check : CheckMeaning) → OfCheckedTexts check texts (Accepts says) → OfTrees check.input 1 texts (AcceptsNamed says)
   accepted_by_names says check (task, certificate, is, holds) =

@@ -1,10 +1,8 @@
 -- The first run of a search with falling weights, and each further one.
-use Rattle.std.proofs.Common.{◌≡◌, ◌⊎◌, ◌<◌, ◌≤◌, ◌+◌, ℕ, false, Option, None, Some, IsSome, List, [], ◌∷◌, ◌++◌, length, Result, Ok, Err, IfOk, refl, sym, ap, ◌∙◌, subst, arith}
+use Rattle.std.proofs.Common.{◌≡◌, ◌⊎◌, ◌<◌, ◌≤◌, ◌+◌, ℕ, false, Option, None, Some, List, [], ◌∷◌, ◌++◌, length, Result, Ok, Err, IfOk, refl, sym, ap, ◌∙◌, subst, arith}
 use Rattle.std.specs.List.{AllByRecursion}
-use Rattle.pb_model.specs.Weight.{Weight, IsWeight}
-use Rattle.pb_model.specs.Store.{Store, Rows}
+use Rattle.pb_model.specs.Weight.{Weight}
 use Rattle.pb_model.specs.Plan.{Plan, IsPlan}
-use Rattle.pb_model.specs.Certificate.{IsPlanIfAny}
 use Rattle.pb_machine.specs.declared.event.End.TheVariants.{Quiet, Budget}
 use Rattle.pb_machine.specs.declared.settings.Settings.{Settings}
 use Rattle.pb_machine.specs.Settings.{settings_with}
@@ -27,13 +25,13 @@ use Rattle.pb_workers.specs.Ends.{IsBestEnd}
 use Rattle.pb_workers.proofs.Callers.{store_is}
 use Rattle.pb_search.specs.Ends.{HasSmallCosts, IsLeftBy, IsLeftByRun, IsLeftBySearch}
 use Rattle.pb_check.specs.Spelling.{PlanFits, PlanFitsIfAny}
-use Rattle.pb_falling.specs.Falling.{weight_at, kept_plan, Claim, IsClaim, AfterClaims, HaveWeights}
+use Rattle.pb_falling.specs.Falling.{weight_at, Claim, IsClaim, AfterClaims}
 use Rattle.pb_falling.proofs.Callers.{kept_is_plan, run_after, runs_go_on, weights_fall}
-use Rattle.pb_command.specs.Meaning.{SolveMeaning, IsSolveInRange}
+use Rattle.pb_command.specs.Meaning.{SolveMeaning, IsFallingInRange}
 use Rattle.pb_answer.specs.Searches.{settings_of, choice_asked, weight_asked}
-use Rattle.pb_answer.specs.Falling.{asked_of_run, first_setup, MayBeImproved}
+use Rattle.pb_answer.specs.Falling.{asked_of_run, first_setup, AreOfQuietRuns, MayBeImproved}
 use Rattle.pb_answer.specs.FallingRuns.{FallingValue, weight_now, guide_in, claim_now, KeepsPlan, IsRunOf, IsFalling, IsLastAt, IsLast, GoesOn}
-use Rattle.pb_answer.proofs.FallingRuns.{is_claim, keeps, run_here, weights_are}
+use Rattle.pb_answer.proofs.FallingRuns.{is_claim, keeps, quiet_runs_are, run_here, weights_are}
 
 -- the rows at a quiet end, as its certificate asks for them
 pub quiet_rows_of : (parts : TaskParts) (g : GraphValue) → g.task ≡ parts → IsBestEnd g → HasSmallCosts g → IsQuietEnd (space_of parts) (guide_in g) (home_store g)
@@ -70,7 +68,7 @@ all_made solve parts steps run graph before (Err e) solve_is parts_is steps_is r
 
 -- ---- the first run
 
-module _ (solve : SolveMeaning) (range : IsSolveInRange solve) (parts : TaskParts) (steps : ℕ) (some : 1 ≤ steps) (few : steps ≤ 20) (g : GraphValue) (lawful : IsLeaseGraph g)
+module _ (solve : SolveMeaning) (steps : ℕ) (range : IsFallingInRange (record { solve = solve; steps = steps })) (parts : TaskParts) (g : GraphValue) (lawful : IsLeaseGraph g)
     (task : g.task ≡ parts) (graph_of : IsGraphOf parts g.table.abstraction) (finest : IsFinest parts solve.settings.wish g.table.abstraction.projection)
     (settings : g.table.settings ≡ solve.settings) (choice : g.choice ≡ choice_asked solve) (past : g.table.past ≡ no_past)
     (ended : (g.table.end ≡ Some Quiet) ⊎ (g.table.end ≡ Some Budget))
@@ -90,20 +88,19 @@ module _ (solve : SolveMeaning) (range : IsSolveInRange solve) (parts : TaskPart
 
   first_settings : solve.settings ≡ settings_of (asked_of_run solve steps 0)
   first_settings =
-      let same : (weight_asked solve).num ≡ (weight_at (weight_asked solve) steps 0).num = sym (weights_fall (weight_asked solve) steps 0 range.settings.weight some (omega arith)).1 in
+      let same : (weight_asked solve).num ≡ (weight_at (weight_asked solve) steps 0).num = sym (weights_fall (weight_asked solve) steps 0 range.solve.settings.weight range.some_steps (omega arith)).1 in
       λ i. settings_with solve.settings (record { num = same i; den = solve.settings.den }) solve.settings.pattern
 
   module _ (plan : Option Plan) (kept : KeepsPlan parts g None plan) where
     falls : IsFalling [] here.run.machine (made_of solve parts steps 0 g plan)
     falls = record {
       range = range;
-      some_steps = some;
-      few_steps = few;
       within = omega arith;
       name = refl;
       count = refl;
       weights = tt;
       improvable = tt;
+      quiet_runs = tt;
       runs = record {
         setup_is = λ i. setup_of (task i) g.table.abstraction (choice i) (settings i) (past i).reopenings;
         left = here;
@@ -246,13 +243,12 @@ module _ (before : List Claim) (machine : Machine) (search : FallingValue) (f : 
       → IsFalling (before ++ claim ∷ []) left.run.machine (made_of search.solve search.parts search.steps (search.run + 1) g kept_plan_now)
   goes_on_by kept_plan_now kept = record {
     range = f.range;
-    some_steps = f.some_steps;
-    few_steps = f.few_steps;
     within = more;
     name = refl;
     count = let longer = one_longer before claim in omega (arith, longer, f.count);
     weights = weights_are before machine search f plan plan_is;
     improvable = one_more MayBeImproved before claim f.improvable (λ bound. not_last (subst (λ (p : Option Plan). IsLastAt (weight_now search) p) (sym plan_is) bound));
+    quiet_runs = subst (λ (a : AbstractGraph). AreOfQuietRuns (SetupBy a) (opening_machine (SetupBy a)) (before ++ claim ∷ [])) (sym same_blocks) (quiet_runs_are before machine search f plan plan_is);
     runs = all_runs kept_plan_now kept;
     lawful = lawful;
     task = its_task;

@@ -1,7 +1,6 @@
 -- All that is handed out of a search with falling weights, from what is handed out after each run.
-use Rattle.std.proofs.Common.{◌≡◌, ◌⊎◌, inl, inr, ◌≤◌, ◌+◌, ◌*◌, ℕ, Option, None, Some, List, [], ◌∷◌, ◌++◌, length, refl, sym, ap, ◌∙◌, subst, arith}
+use Rattle.std.proofs.Common.{◌≡◌, ◌⊎◌, inl, inr, ◌≤◌, ◌+◌, ℕ, Option, Some, List, [], ◌∷◌, ◌++◌, length, refl, ap, ◌∙◌, subst, arith}
 use Rattle.std.specs.List.{AllByRecursion}
-use Rattle.pb_model.specs.Weight.{Weight}
 use Rattle.pb_model.specs.Plan.{Plan, IsPlan, NoneCheaper, IsBound}
 use Rattle.pb_machine.specs.Machine.{Machine}
 use Rattle.pb_task.specs.declared.parts.TaskParts.{TaskParts}
@@ -60,10 +59,11 @@ module _ (before : List Claim) (machine : Machine) (search : FallingValue) (f : 
     found = go now;
   }
     where
+      bound : (plan : Plan) → search.plan ≡ Some plan → IsBound (weight_now search) plan.cost plan.cost
+      bound plan is = subst (λ (p : Option Plan). IsLastAt (weight_now search) p) is last
+
       cheapest : (plan : Plan) → search.plan ≡ Some plan → NoneCheaper (space_of search.parts) (weight_now search) plan.cost → (other : Plan) → IsPlan (space_of search.parts) other → plan.cost ≤ other.cost
-      cheapest plan is none other a_plan =
-          let bound : IsBound (weight_now search) plan.cost plan.cost = subst (λ (p : Option Plan). IsLastAt (weight_now search) p) is last in
-          bound.least other.cost (none other a_plan)
+      cheapest plan is none other a_plan = (bound plan is).least other.cost (none other a_plan)
 
       go : SaysNow before machine search said
           → ((all.status ≡ 0) × IsProvedCheapest search.solve search.parts search.graph.table.abstraction search.steps (handed_out ++ part_of said ∷ []))
@@ -78,6 +78,7 @@ module _ (before : List Claim) (machine : Machine) (search : FallingValue) (f : 
               falling,
               claim_handed_out plan (part_of said) says,
               f.improvable,
+              bound plan is,
               cheapest plan is (holds_of_last (λ c. IsPlan (space_of search.parts) c.plan × NoneCheaper (space_of search.parts) c.weight c.plan.cost) before (claim_now search machine plan) falling.hold).1,
             ),
           )

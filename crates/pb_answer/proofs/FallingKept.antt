@@ -1,5 +1,5 @@
 -- The plan that is claimed after a run.
-use Rattle.std.proofs.Common.{◌≡◌, ◌⊎◌, inl, inr, ◌≤◌, ℕ, Bool, true, false, nat_lt, IsTrue, if◌then◌else◌, Option, None, Some, Result, Ok, Err, IfOk, refl, sym, ap, ◌∙◌, subst}
+use Rattle.std.proofs.Common.{◌≡◌, inl, inr, ◌≤◌, ℕ, Bool, true, false, nat_lt, IsTrue, if◌then◌else◌, Option, None, Some, Result, IfOk, sym, subst}
 use Rattle.pb_model.specs.declared.row.Row.{Row}
 use Rattle.pb_model.specs.Plan.{Plan, IsPlan}
 use Rattle.pb_machine.specs.declared.event.End.TheVariants.{Quiet, Budget}

@@ -1,5 +1,5 @@
 -- When a claim is the last one.
-use Rattle.std.proofs.Common.{◌≡◌, ◌≤◌, ◌<◌, ◌+◌, ◌*◌, ℕ, Bool, true, false, nat_lt, ◌==◌, Option, None, Some, IsSome, List, refl, sym, ap, ◌∙◌, subst, arith, le_trans}
+use Rattle.std.proofs.Common.{◌≡◌, ◌≤◌, ◌+◌, ◌*◌, ℕ, Bool, true, nat_lt, ◌==◌, Option, None, Some, IsSome, List, refl, sym, ap, ◌∙◌, subst, arith}
 use Rattle.std.proofs.Math.Nat.{le_of_mul-le-mul_left}
 use Rattle.pb_model.specs.Weight.{Weight, IsWeight}
 use Rattle.pb_model.specs.Plan.{Plan, IsBound}
@@ -10,7 +10,7 @@ use Rattle.pb_machine.specs.Machine.{Machine}
 use Rattle.pb_falling.specs.Falling.{weight_at, Claim}
 use Rattle.pb_falling.proofs.Callers.{weights_fall}
 use Rattle.pb_answer.specs.Searches.{weight_asked}
-use Rattle.pb_answer.specs.FallingRuns.{FallingValue, weight_now, IsFalling, IsAfterRun, IsLastAt, IsLast}
+use Rattle.pb_answer.specs.FallingRuns.{FallingValue, weight_now, IsFalling, IsLastAt, IsLast}
 use Rattle.pb_answer.proofs.FallingRuns.{its_weight, keeps, run_here}
 
 -- one cost has one bound
@@ -34,7 +34,7 @@ module _ (before : List Claim) (machine : Machine) (search : FallingValue) (f : 
   last_weight : search.run ≡ search.steps → (weight_now search).num ≡ (weight_now search).den
   last_weight at =
       ap (λ k. (weight_at (weight_asked search.solve) search.steps k).num) at
-      ∙ (weights_fall (weight_asked search.solve) search.steps search.steps (its_weight before machine search f) f.some_steps (omega arith)).2
+      ∙ (weights_fall (weight_asked search.solve) search.steps search.steps (its_weight before machine search f) f.range.some_steps (omega arith)).2
 
   last_at : (plan : Option Plan) → search.run ≡ search.steps → IsLastAt (weight_now search) plan
   last_at None at = tt
@@ -59,7 +59,7 @@ module _ (before : List Claim) (machine : Machine) (search : FallingValue) (f : 
       go (Some plan) is = (plan, is)
 
   pub next_is_weight : search.run + 1 ≤ search.steps → IsWeight (weight_at (weight_asked search.solve) search.steps (search.run + 1))
-  next_is_weight more = (weights_fall (weight_asked search.solve) search.steps (search.run + 1) (its_weight before machine search f) f.some_steps more).0
+  next_is_weight more = (weights_fall (weight_asked search.solve) search.steps (search.run + 1) (its_weight before machine search f) f.range.some_steps more).0
 
   some_backs : (incumbent : Option ℕ) (plan : Plan) → IsBackedBy incumbent (Some plan) → IsSome incumbent
   some_backs None plan backed = absurd backed

@@ -1,40 +1,43 @@
 -- What a search with falling weights claims after its runs.
-use Rattle.std.proofs.Common.{◌≡◌, ◌⊎◌, inl, inr, ◌<◌, ◌≤◌, ◌+◌, ◌*◌, ◌^◌, ℕ, zero, suc, true, Option, None, Some, IsSome, List, [], ◌∷◌, ◌++◌, length, refl, sym, ap, ◌∙◌, subst, arith}
-use Rattle.std.specs.List.{AllByRecursion}
-use Rattle.pb_model.specs.Weight.{Weight, IsWeight}
+use Rattle.std.proofs.Common.{◌≡◌, ◌≤◌, ◌+◌, ℕ, Option, None, Some, List, [], ◌∷◌, ◌++◌, length, refl, sym, ap, ◌∙◌, subst, arith}
+use Rattle.pb_model.specs.Weight.{IsWeight}
 use Rattle.pb_model.specs.Space.{IsProper}
 use Rattle.pb_model.specs.Store.{Store}
-use Rattle.pb_model.specs.Guide.{Guide, IsAdmissible}
-use Rattle.pb_model.specs.Plan.{Plan, IsPlan, NoneCheaper, IsBound, HasNoPlan, IncumbentHolds}
-use Rattle.pb_model.specs.Certificate.{IsBackedBy, IsPlanIfAny}
+use Rattle.pb_model.specs.Guide.{IsAdmissible}
+use Rattle.pb_model.specs.Plan.{Plan, IsPlan}
+use Rattle.pb_model.specs.Certificate.{IsBackedBy}
 use Rattle.pb_machine.specs.declared.event.End.{End}
-use Rattle.pb_machine.specs.declared.event.End.TheVariants.{Quiet, Budget}
-use Rattle.pb_machine.specs.declared.settings.Settings.{Settings}
+use Rattle.pb_machine.specs.declared.event.End.TheVariants.{Quiet}
 use Rattle.pb_machine.specs.Settings.{weight_of}
 use Rattle.pb_machine.specs.Blocks.{AreBlocks}
 use Rattle.pb_machine.specs.Machine.{Setup, IsSetup, Machine, Move, Runs, opening_machine}
-use Rattle.pb_machine.specs.Lawful.{IsLawful}
+use Rattle.pb_machine.specs.Lawful.{reopened_machine, reopened_setup}
 use Rattle.pb_machine.proofs.Callers.{opening_is_lawful}
 use Rattle.pb_task.specs.declared.parts.TaskParts.{TaskParts}
 use Rattle.pb_task.specs.Parts.{space_of, greatest_cost, IsTask}
 use Rattle.pb_estimate.specs.declared.choice.Choice.{Choice}
 use Rattle.pb_estimate.specs.Estimates.{estimate_by}
 use Rattle.pb_estimate.proofs.Callers.{estimates_are_admissible}
-use Rattle.pb_abstract.specs.Graph.{AbstractGraph, blocks_of}
+use Rattle.pb_abstract.specs.Graph.{blocks_of}
 use Rattle.pb_lease.specs.Leased.{guide_of}
-use Rattle.pb_lease.specs.GraphValue.{setup_in}
 use Rattle.pb_lease.specs.Begins.{home_store}
 use Rattle.pb_lease.proofs.Callers.{setup_is}
 use Rattle.pb_search.specs.Ends.{RunEnds}
-use Rattle.pb_cert.specs.Found.{IsPlanOf}
-use Rattle.pb_falling.specs.Falling.{weight_at, kept_plan, Claim, IsTraced, IsClaim, AreClaims, AfterClaims, HaveWeights}
+use Rattle.pb_falling.specs.Falling.{weight_at, Claim, IsTraced, IsClaim, AreClaims, AfterClaims, HaveWeights}
 use Rattle.pb_falling.specs.Laws.{ClaimsHold}
 use Rattle.pb_falling.proofs.Callers.{all_weights, claims_before, claims_grow, one_more_weight, run_after, some_run}
-use Rattle.pb_command.specs.Meaning.{SolveMeaning}
-use Rattle.pb_answer.specs.Searches.{settings_of, choice_asked, weight_asked}
-use Rattle.pb_answer.specs.Falling.{asked_of_run, first_setup, AreFalling, EndsAfter}
-use Rattle.pb_answer.specs.FallingRuns.{FallingValue, weight_now, guide_in, claim_now, KeepsPlan, IsRunOf, IsFalling, IsLastAt, IsLast}
+use Rattle.pb_answer.specs.Searches.{choice_asked, weight_asked}
+use Rattle.pb_answer.specs.Falling.{first_setup, IsOfQuietRun, AreOfQuietRuns, AreFalling}
+use Rattle.pb_answer.specs.FallingRuns.{FallingValue, weight_now, guide_in, claim_now, KeepsPlan, IsRunOf, IsFalling}
 use Rattle.pb_answer.proofs.Certified.{choice_suits}
+
+-- one more claim, that of a quiet run after the others
+quiet_runs_grow : (setup : Setup) (begin : Machine) (before : Option Plan) (claims : List Claim) (claim : Claim) → AreOfQuietRuns setup begin claims
+    → AfterClaims setup begin before claims claim.weight (λ last from plan. IsOfQuietRun last from claim) → AreOfQuietRuns setup begin (claims ++ claim ∷ [])
+quiet_runs_grow setup begin before [] claim have after = after
+quiet_runs_grow setup begin before (one ∷ []) claim have after = (have, after.1)
+quiet_runs_grow setup begin before (one ∷ two ∷ claims) claim have after =
+    (have.0, quiet_runs_grow (reopened_setup setup two.weight) (reopened_machine setup two.weight one.machine) (Some one.plan) (two ∷ claims) claim have.1 after.1)
 
 module _ (before : List Claim) (machine : Machine) (search : FallingValue) (f : IsFalling before machine search) where
   abbrev setup : Setup
@@ -44,7 +47,7 @@ module _ (before : List Claim) (machine : Machine) (search : FallingValue) (f : 
   its_task = subst IsTask f.task f.lawful.is_task
 
   pub its_weight : IsWeight (weight_asked search.solve)
-  its_weight = f.range.settings.weight
+  its_weight = f.range.solve.settings.weight
 
   -- the weight of the run is that of its settings
   pub weight_is : weight_of search.graph.table.settings ≡ weight_now search
@@ -66,17 +69,17 @@ module _ (before : List Claim) (machine : Machine) (search : FallingValue) (f : 
       }
 
   admissible : IsAdmissible (space_of search.parts) (estimate_by search.parts (choice_asked search.solve))
-  admissible = estimates_are_admissible search.parts (choice_asked search.solve) its_task (choice_suits search.parts search.solve.settings.pattern f.range.settings.pattern)
+  admissible = estimates_are_admissible search.parts (choice_asked search.solve) its_task (choice_suits search.parts search.solve.settings.pattern f.range.solve.settings.pattern)
 
-  falling_by : (claims : List Claim) → AreClaims setup (opening_machine setup) None claims → HaveWeights (weight_asked search.solve) search.steps 0 claims → length claims ≤ search.steps + 1 → ClaimsHold
+  falling_by : (claims : List Claim) → AreClaims setup (opening_machine setup) None claims → AreOfQuietRuns setup (opening_machine setup) claims → HaveWeights (weight_asked search.solve) search.steps 0 claims → length claims ≤ search.steps + 1 → ClaimsHold
       → AreFalling search.solve search.parts search.graph.table.abstraction search.steps claims
-  falling_by claims are weights few hold =
+  falling_by claims are quiet_runs weights few hold =
       let all = hold setup greatest_cost (opening_machine setup) claims is_setup admissible (opening_is_lawful setup greatest_cost is_setup refl)
-      (all_weights (weight_asked search.solve) search.steps 0 claims its_weight f.some_steps (omega (arith, few)) weights) are in
-      record { are = are; weights = weights; hold = all.0; fall = all.1 }
+      (all_weights (weight_asked search.solve) search.steps 0 claims its_weight f.range.some_steps (omega (arith, few)) weights) are in
+      record { are = are; quiet_runs = quiet_runs; few = few; weights = weights; hold = all.0; fall = all.1 }
 
   pub claims_before_fall : ClaimsHold → AreFalling search.solve search.parts search.graph.table.abstraction search.steps before
-  claims_before_fall = falling_by before (claims_before (IsRunOf search machine) setup (opening_machine setup) None before (weight_now search) f.runs) f.weights (omega (arith, f.count, f.within))
+  claims_before_fall = falling_by before (claims_before (IsRunOf search machine) setup (opening_machine setup) None before (weight_now search) f.runs) f.quiet_runs f.weights (omega (arith, f.count, f.within))
 
   one_longer : (claims : List Claim) (one : Claim) → length (claims ++ one ∷ []) ≡ length claims + 1
   one_longer [] one = refl
@@ -112,9 +115,25 @@ module _ (before : List Claim) (machine : Machine) (search : FallingValue) (f : 
     claims_are = claims_grow setup (opening_machine setup) None before claim
         (run_after (IsRunOf search machine) (λ last begin old. IsClaim last begin old claim) is_claim setup (opening_machine setup) None before (weight_now search) f.runs)
 
+    -- the run of the claim, which came to this end
+    abbrev RunTo : Setup → (begin : Machine) → End → Type 0
+    RunTo last begin end = (spent : ℕ) × (moves : List Move) × (run : RunEnds last spent begin end moves) × (run.machine ≡ machine)
+
+    is_of_quiet_run : (last : Setup) (begin : Machine) (old : Option Plan) → IsRunOf search machine last begin old → IsOfQuietRun last begin claim
+    is_of_quiet_run last begin old run =
+        let kept = keeps last begin old run in
+        subst (λ (e : End). RunTo last begin e) (same_end run.left.end (sym run.left.end_is ∙ kept.4)) (search.graph.table.past.spent, run.left.moves, run.left.run, run.machine_is)
+      where
+        same_end : (end : End) → ◌≡◌ {A = Option End} (Some end) (Some Quiet) → end ≡ Quiet
+        same_end end e = cc
+
+    pub quiet_runs_are : AreOfQuietRuns setup (opening_machine setup) (before ++ claim ∷ [])
+    quiet_runs_are = quiet_runs_grow setup (opening_machine setup) None before claim f.quiet_runs
+        (run_after (IsRunOf search machine) (λ last begin old. IsOfQuietRun last begin claim) is_of_quiet_run setup (opening_machine setup) None before (weight_now search) f.runs)
+
     pub weights_are : HaveWeights (weight_asked search.solve) search.steps 0 (before ++ claim ∷ [])
     weights_are = one_more_weight (weight_asked search.solve) search.steps 0 before claim f.weights
         (let count : search.run ≡ 0 + length before = omega (arith, f.count) in λ i. weight_at (weight_asked search.solve) search.steps (count i))
 
     pub all_falling : ClaimsHold → AreFalling search.solve search.parts search.graph.table.abstraction search.steps (before ++ claim ∷ [])
-    all_falling = falling_by (before ++ claim ∷ []) claims_are weights_are (let longer = one_longer before claim in omega (arith, longer, f.count, f.within))
+    all_falling = falling_by (before ++ claim ∷ []) claims_are quiet_runs_are weights_are (let longer = one_longer before claim in omega (arith, longer, f.count, f.within))

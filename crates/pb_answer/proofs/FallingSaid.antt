@@ -1,16 +1,14 @@
 -- What is handed out after a run of a search with falling weights.
-use Rattle.std.proofs.Common.{◌≡◌, ◌⊎◌, inl, inr, ◌≤◌, ◌<◌, ◌+◌, ◌*◌, ℕ, false, Option, None, Some, List, [], ◌∷◌, ◌++◌, length, refl, sym, ap, ◌∙◌, subst, arith, append-nil}
+use Rattle.std.proofs.Common.{◌≡◌, ◌⊎◌, inl, inr, ◌≤◌, ◌<◌, ℕ, false, Option, None, Some, List, [], ◌∷◌, ◌++◌, length, refl, sym, ap, ◌∙◌, subst, arith, append-nil}
 use Rattle.std.proofs.lemmas.List.Elements.{All-from_recursion}
 use Rattle.pb_model.specs.Weight.{Weight}
 use Rattle.pb_model.specs.Store.{Store}
-use Rattle.pb_model.specs.Guide.{Guide}
 use Rattle.pb_model.specs.Plan.{Plan, IsPlan, IsBound, HasNoPlan, IncumbentHolds}
-use Rattle.pb_model.specs.Certificate.{IsBackedBy, IsPlanIfAny}
+use Rattle.pb_model.specs.Certificate.{IsBackedBy}
 use Rattle.pb_model.specs.Texts.{none_report, stopped_report}
 use Rattle.pb_machine.specs.declared.event.End.{End}
 use Rattle.pb_machine.specs.declared.event.End.TheVariants.{Quiet, Budget}
 use Rattle.pb_machine.specs.declared.settings.Settings.{Settings}
-use Rattle.pb_machine.specs.Settings.{AreInRange, settings_with}
 use Rattle.pb_machine.specs.Machine.{Setup, Machine, Move, opening_machine}
 use Rattle.pb_task.specs.declared.parts.TaskParts.{TaskParts}
 use Rattle.pb_task.specs.Parts.{space_of, greatest_cost}
@@ -19,11 +17,10 @@ use Rattle.pb_estimate.specs.declared.choice.Choice.{Choice}
 use Rattle.pb_estimate.specs.Estimates.{estimate_by}
 use Rattle.pb_lists.specs.Store.{guide_with, IsQuietEnd}
 use Rattle.pb_abstract.specs.Graph.{home_of}
-use Rattle.pb_lease.specs.Leased.{guide_of}
 use Rattle.pb_lease.specs.Begins.{home_store}
 use Rattle.pb_search.specs.Ends.{searched_guide, RunEnds}
 use Rattle.pb_cert.proofs.Callers.{walk_actions}
-use Rattle.pb_falling.specs.Falling.{weight_at, kept_plan, Claim, AfterClaims}
+use Rattle.pb_falling.specs.Falling.{weight_at, Claim, AfterClaims}
 use Rattle.pb_falling.specs.Laws.{ClaimsHold}
 use Rattle.pb_falling.proofs.Callers.{claim_runs, kept_costs, kept_is_plan, run_after, weights_fall}
 use Rattle.pb_report.specs.Texts.{AreActions, claim_text}
@@ -35,7 +32,7 @@ use Rattle.pb_answer.specs.Claims.{IsCertificate}
 use Rattle.pb_answer.specs.Ended.{guide_asked, CanBeCertified}
 use Rattle.pb_answer.specs.Answer.{Said}
 use Rattle.pb_answer.specs.Falling.{asked_of_run, first_setup, EndsAfter}
-use Rattle.pb_answer.specs.FallingRuns.{FallingValue, weight_now, guide_in, claim_now, KeepsPlan, IsRunOf, IsFalling, SaysClaimNow, SaysNoneNow, SaysStopNow}
+use Rattle.pb_answer.specs.FallingRuns.{FallingValue, weight_now, KeepsPlan, IsRunOf, IsFalling, SaysClaimNow, SaysNoneNow, SaysStopNow}
 use Rattle.pb_answer.proofs.FallingRuns.{all_falling, claims_before_fall, its_task, its_weight, keeps, run_here}
 
 -- what a certificate of a task shows that has another name, and of a plan
@@ -57,12 +54,12 @@ module _ (before : List Claim) (machine : Machine) (search : FallingValue) (f : 
 
   pub asked_in_range : IsSolveInRange (asked_now search)
   asked_in_range =
-      let settings = f.range.settings in
+      let settings = f.range.solve.settings in
       record {
-        row = f.range.row;
+        row = f.range.solve.row;
         settings = record {
           workers = settings.workers;
-          weight = (weights_fall (weight_asked search.solve) search.steps search.run (its_weight before machine search f) f.some_steps f.within).0;
+          weight = (weights_fall (weight_asked search.solve) search.steps search.run (its_weight before machine search f) f.range.some_steps f.within).0;
           budget = settings.budget;
           lot = settings.lot;
           wish = settings.wish;
@@ -136,6 +133,7 @@ module _ (before : List Claim) (machine : Machine) (search : FallingValue) (f : 
       record {
         bound = bound;
         bounded = bounded;
+        fits = let small = (can_be_stated plan plan_is).fits.cost in omega (arith, small);
         report = report ∙ ap (λ (s : SolveMeaning). claim_text search.parts (weight_asked s) plan bound) words;
         outputs = subst (λ (o : List Output). IsCertificate (asked_now search).certificate search.parts (choice_asked search.solve) (weight_now search)
             (searched_guide search.parts search.graph.table.abstraction (settings_of search.solve)) machine.store (Some plan) o) (sym (saved ∙ append-nil outputs))
@@ -199,7 +197,7 @@ module _ (before : List Claim) (machine : Machine) (search : FallingValue) (f : 
         → IsCertificate (asked_of_run search.solve search.steps 0).certificate search.parts (choice_asked search.solve) (weight_asked search.solve) (searched_guide search.parts search.graph.table.abstraction (settings_of search.solve)) machine.store None outputs
     none_certificate first outputs is =
         let none : search.run ≡ 0 = sym f.count ∙ ap (λ (c : List Claim). length c) first in
-        let top : (weight_at (weight_asked search.solve) search.steps 0).num ≡ (weight_asked search.solve).num = (weights_fall (weight_asked search.solve) search.steps 0 (its_weight before machine search f) f.some_steps (omega arith)).1 in
+        let top : (weight_at (weight_asked search.solve) search.steps 0).num ≡ (weight_asked search.solve).num = (weights_fall (weight_asked search.solve) search.steps 0 (its_weight before machine search f) f.range.some_steps (omega arith)).1 in
         let whole : weight_at (weight_asked search.solve) search.steps 0 ≡ weight_asked search.solve = λ i. record { num = top i; den = search.solve.settings.den } in
         subst (λ (w : Weight). IsCertificate (asked_of_run search.solve search.steps 0).certificate search.parts (choice_asked search.solve) w (searched_guide search.parts search.graph.table.abstraction (settings_of search.solve)) machine.store None outputs) whole
         (subst (λ n. IsCertificate (asked_of_run search.solve search.steps n).certificate search.parts (choice_asked search.solve) (weight_at (weight_asked search.solve) search.steps n) (searched_guide search.parts search.graph.table.abstraction (settings_of search.solve)) machine.store None outputs) none is)

@@ -18,3 +18,5 @@ mod FallingBegins
 mod FallingLast
 mod FallingSaid
 mod FallingFound
+mod FallingNames
+mod FallingClaims

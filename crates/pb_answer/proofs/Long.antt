@@ -3,7 +3,7 @@ use Rattle.std.proofs.Common.{◌≡◌, ℕ, Some, Err, List, [], ◌∷◌, ap
 use Rattle.pb_command.specs.declared.command.InputOptions.{InputOptions}
 use Rattle.pb_command.specs.Values.{InputNames, Grid, Tiles, Strips}
 use Rattle.pb_command.specs.Files.{input_files}
-use Rattle.pb_command.specs.Meaning.{Solve, Check, Journal, Make}
+use Rattle.pb_command.specs.Meaning.{Solve, Falling, Check, Journal, Make}
 use Rattle.pb_answer.specs.Loaded.{input_task, with_text}
 use Rattle.pb_answer.specs.Long.{fault_of, LongFilesAreRefused}
 
@@ -35,6 +35,7 @@ behind (Strips names) options text (one ∷ (two ∷ rest)) report is = cc
 
 pub long_files_are_refused : LongFilesAreRefused
 long_files_are_refused (Solve solve) texts report is = alone solve.input solve.options texts report is
+long_files_are_refused (Falling falling) texts report is = alone falling.solve.input falling.solve.options texts report is
 long_files_are_refused (Check check) [] report is = ap Err (same _ report is)
 long_files_are_refused (Check check) (text ∷ texts) report is = ap (with_text (Some text)) (behind check.input check.options text texts report is)
 long_files_are_refused (Journal journal) [] report is = ap Err (same _ report is)

@@ -23,7 +23,7 @@ use Rattle.pb_strips.proofs.Callers.{no_fault}
 use Rattle.pb_report.specs.Texts.{input_text, tiles_text}
 use Rattle.pb_command.specs.declared.command.InputOptions.{InputOptions}
 use Rattle.pb_command.specs.Values.{InputNames, Grid, Tiles, Strips}
-use Rattle.pb_command.specs.Meaning.{Reading, Refused, Read, Solve, Check, Journal, Make}
+use Rattle.pb_command.specs.Meaning.{Reading, Refused, Read, Solve, Falling, Check, Journal, Make}
 use Rattle.pb_answer.specs.Loaded.{refused_with, grid_told, grid_task, tiles_told, tiles_task, strips_told, problem_told, domain_told, strips_task, input_task, with_text, RefusesTexts}
 use Rattle.pb_answer.specs.Named.{SpellTrees}
 use Rattle.pb_answer.specs.Spelled.{OfGrid, OfTiles, SpellInput, SpellBehind, SpellTask}
@@ -76,6 +76,10 @@ module _ (maps : ReadAsSpelled) (boards : ReadingsAreSpelled) where
   pub never_refused : (reading : Reading) (texts : List (List ℕ)) → SpellTask reading texts → (report : List ℕ) → RefusesTexts reading texts report → ⊥
   never_refused (Refused fault) texts spelled report refused = absurd spelled
   never_refused (Read (Solve solve)) texts spelled report refused =
+      let reads = input_reads solve.input solve.options 0 texts spelled in
+      apart (input_task solve.input solve.options 0 texts) reads.0 report reads.1 refused
+  never_refused (Read (Falling falling)) texts spelled report refused =
+      let solve = falling.solve in
       let reads = input_reads solve.input solve.options 0 texts spelled in
       apart (input_task solve.input solve.options 0 texts) reads.0 report reads.1 refused
   never_refused (Read (Check check)) texts spelled report refused =

@@ -1,14 +1,14 @@
 -- A search with falling weights, and what is claimed after each of its runs.
-use Rattle.std.specs.Prelude.{◌≡◌, ◌⊎◌, ◌+◌, ◌<◌, ◌≤◌, ℕ, ⊤, IsFalse, Option, None, Some, List, [], ◌∷◌, ◌++◌, codes, length, option_map}
+use Rattle.std.specs.Prelude.{◌≡◌, ◌⊎◌, ◌+◌, ◌<◌, ◌≤◌, ◌^◌, ℕ, ⊤, None, Some, List, [], ◌∷◌, ◌++◌, codes, length, option_map}
 use Rattle.std.specs.Fmt.{decimal}
 use Rattle.std.specs.List.{AllByRecursion}
-use Rattle.pb_model.specs.Weight.{Weight}
 use Rattle.pb_model.specs.Plan.{Plan, IsPlan, NoneCheaper, IsBound, HasNoPlan}
 use Rattle.pb_model.specs.Texts.{none_report, stopped_report}
 use Rattle.pb_machine.specs.declared.event.End.{End}
 use Rattle.pb_machine.specs.declared.event.End.TheVariants.{Quiet, Budget}
 use Rattle.pb_machine.specs.Settings.{settings_with}
 use Rattle.pb_machine.specs.Machine.{Setup, Machine, Move, opening_machine}
+use Rattle.pb_machine.specs.Lawful.{reopened_machine, reopened_setup}
 use Rattle.pb_task.specs.declared.parts.TaskParts.{TaskParts}
 use Rattle.pb_task.specs.Parts.{space_of}
 use Rattle.pb_abstract.specs.Projection.{IsFinest}
@@ -45,13 +45,34 @@ first_setup solve parts abstraction = search_of parts abstraction (settings_of s
 
 -- ---- the claims
 
+-- The claim is that of a run that began with this machine. The run came to a quiet end, as a search
+-- by leases does. Earlier runs had spent so much of the budget.
+abbrev pub IsOfQuietRun : Setup → (begin : Machine) → Claim → Type 0
+IsOfQuietRun setup begin claim =
+    (spent : ℕ) × (moves : List Move) × (run : RunEnds setup spent begin Quiet moves)
+    × (run.machine ≡ claim.machine)
+
+-- The claims are those of such runs. Each run after the first begins where the one before ended,
+-- with the rows opened again at its weight.
+abbrev pub AreOfQuietRuns : Setup → (begin : Machine) → List Claim → Type 0
+AreOfQuietRuns setup begin [] = ⊤
+AreOfQuietRuns setup begin (claim ∷ []) = IsOfQuietRun setup begin claim
+AreOfQuietRuns setup begin (claim ∷ next ∷ claims) =
+    IsOfQuietRun setup begin claim
+    × AreOfQuietRuns (reopened_setup setup next.weight)
+    (reopened_machine setup next.weight claim.machine) (next ∷ claims)
+
 -- These are the claims of the first runs of a search by leases, as the words ask for it, over these
--- blocks. The weight falls in so many steps. Each claim is at the weight of its run. Its plan is a
--- plan of the task, and no plan costs less than it divided by that weight. The costs never rise.
+-- blocks. The weight falls in so many steps, and there is at most one claim more than steps. Each
+-- run came to a quiet end. Each claim is at the weight of its run. Its plan is a plan of the task,
+-- and no plan costs less than it divided by that weight. The costs never rise.
 pub record AreFalling (solve : SolveMeaning) (parts : TaskParts) (abstraction : AbstractGraph)
     (steps : ℕ) (claims : List Claim) : Type 0 where
   pub are : AreClaims (first_setup solve parts abstraction)
       (opening_machine (first_setup solve parts abstraction)) None claims
+  pub quiet_runs : AreOfQuietRuns (first_setup solve parts abstraction)
+      (opening_machine (first_setup solve parts abstraction)) claims
+  pub few : length claims ≤ steps + 1
   pub weights : HaveWeights (weight_asked solve) steps 0 claims
   pub hold : AllByRecursion (λ claim. IsPlan (space_of parts) claim.plan
       × NoneCheaper (space_of parts) claim.weight claim.plan.cost) claims
@@ -77,12 +98,14 @@ EndsAfter solve parts abstraction steps claims end =
 -- ---- what is handed out
 
 -- The part says this claim, that of the run of this number. It is printed with its weight, its plan
--- and the least whole number that is no less than the plan's cost divided by the weight. With a name
--- the certificate of its rows is saved, which has its plan and its weight and is accepted.
+-- and the least whole number that is no less than the plan's cost divided by the weight. The cost
+-- is a number of 64 bits. With a name the certificate of its rows is saved. It has the claim's plan
+-- and its weight, states the estimate of the words, and is accepted.
 pub record SaysClaim (solve : SolveMeaning) (parts : TaskParts) (abstraction : AbstractGraph)
     (steps run : ℕ) (claim : Claim) (part : AnswerPart) : Type 0 where
   pub bound : ℕ
   pub bounded : IsBound claim.weight claim.plan.cost bound
+  pub fits : claim.plan.cost < 2 ^ 64
   pub report : part.report ≡ claim_text parts claim.weight claim.plan bound
   pub outputs : IsCertificate (asked_of_run solve steps run).certificate parts
       (choice_asked solve) claim.weight
@@ -119,8 +142,8 @@ SaysStop solve parts abstraction steps claims part =
 
 -- ---- all that is handed out of one search
 
--- Each part says a claim. No plan of the task is cheaper than that of the last one. Of no claim
--- before it is the bound the cost.
+-- Each part says a claim. The bound of the last one is its cost, so no plan of the task is cheaper.
+-- Of no claim before it is the bound the cost.
 abbrev pub IsProvedCheapest : SolveMeaning → TaskParts → AbstractGraph → (steps : ℕ)
     → List AnswerPart → Type 0
 IsProvedCheapest solve parts abstraction steps handed_out =
@@ -128,6 +151,7 @@ IsProvedCheapest solve parts abstraction steps handed_out =
     × AreFalling solve parts abstraction steps (claims ++ last ∷ [])
     × SayClaims solve parts abstraction steps 0 (claims ++ last ∷ []) handed_out
     × AllByRecursion MayBeImproved claims
+    × IsBound last.weight last.plan.cost last.plan.cost
     × ((plan : Plan) → IsPlan (space_of parts) plan → last.plan.cost ≤ plan.cost)
 
 -- The one part says that there is no plan.
@@ -147,6 +171,19 @@ IsFallingStop solve parts abstraction steps handed_out =
     × AllByRecursion MayBeImproved claims
     × SaysStop solve parts abstraction steps claims last
     × (handed_out ≡ said ++ last ∷ [])
+
+-- What is handed out first, before it is known what comes after it: each part says a claim, and of
+-- none is the bound the cost, so another run is due. The blocks are those of the task, and the
+-- finest that are no more than the words wish for.
+pub record AreClaimParts (solve : SolveMeaning) (parts : TaskParts) (steps : ℕ)
+    (handed_out : List AnswerPart) : Type 0 where
+  pub abstraction : AbstractGraph
+  pub graph_of : IsGraphOf parts abstraction
+  pub finest : IsFinest parts solve.settings.wish abstraction.projection
+  pub claims : List Claim
+  pub falling : AreFalling solve parts abstraction steps claims
+  pub say : SayClaims solve parts abstraction steps 0 claims handed_out
+  pub improvable : AllByRecursion MayBeImproved claims
 
 -- All that is handed out of a search with falling weights, part by part, if nothing fails. The
 -- blocks are those of the task, and the finest that are no more than the words wish for.

@@ -2,11 +2,9 @@
 use Rattle.std.specs.Prelude.{◌≡◌, ◌⊎◌, ◌<◌, ◌≤◌, ℕ, ⊤, IsFalse, Option, None, Some, List, [], ◌∷◌, ◌++◌, length}
 use Rattle.std.specs.List.{AllByRecursion}
 use Rattle.pb_model.specs.Weight.{Weight}
-use Rattle.pb_model.specs.Store.{Store}
 use Rattle.pb_model.specs.Guide.{Guide}
 use Rattle.pb_model.specs.Plan.{Plan, IsBound}
 use Rattle.pb_model.specs.Certificate.{IsPlanIfAny}
-use Rattle.pb_machine.specs.declared.event.End.{End}
 use Rattle.pb_machine.specs.declared.event.End.TheVariants.{Quiet, Budget}
 use Rattle.pb_machine.specs.Machine.{Setup, Machine, opening_machine}
 use Rattle.pb_task.specs.declared.parts.TaskParts.{TaskParts}
@@ -22,11 +20,11 @@ use Rattle.pb_search.specs.Ends.{IsLeftBy}
 use Rattle.pb_cert.specs.Found.{IsPlanOf}
 use Rattle.pb_check.specs.Spelling.{PlanFits, PlanFitsIfAny}
 use Rattle.pb_falling.specs.Falling.{weight_at, kept_plan, Claim, AfterClaims, HaveWeights}
-use Rattle.pb_command.specs.Meaning.{SolveMeaning, IsSolveInRange}
+use Rattle.pb_command.specs.Meaning.{SolveMeaning, IsFallingInRange}
 use Rattle.pb_answer.specs.Searches.{settings_of, choice_asked, weight_asked}
 use Rattle.pb_answer.specs.Answer.{Said}
 use Rattle.pb_answer.specs.Parts.{AnswerPart}
-use Rattle.pb_answer.specs.Falling.{asked_of_run, first_setup, AreFalling, MayBeImproved, SaysClaim, SaysNone, SaysStop}
+use Rattle.pb_answer.specs.Falling.{asked_of_run, first_setup, AreOfQuietRuns, AreFalling, MayBeImproved, SaysClaim, SaysNone, SaysStop}
 
 -- what callers see of a search with falling weights after one of its runs
 pub record FallingValue : Type 0 where
@@ -77,15 +75,17 @@ pub record IsRunOf (search : FallingValue) (machine : Machine) (setup : Setup) (
 -- is as the run left it, and all rows are at home.
 pub record IsFalling (before : List Claim) (machine : Machine) (search : FallingValue) : Type 0
   where
-    pub range : IsSolveInRange search.solve
-    pub some_steps : 1 ≤ search.steps
-    pub few_steps : search.steps ≤ 20
+    pub range : IsFallingInRange (record { solve = search.solve; steps = search.steps })
     pub within : search.run ≤ search.steps
     pub name : search.name ≡ (asked_of_run search.solve search.steps search.run).certificate
     -- the runs
     pub count : length before ≡ search.run
     pub weights : HaveWeights (weight_asked search.solve) search.steps 0 before
     pub improvable : AllByRecursion MayBeImproved before
+    pub quiet_runs : AreOfQuietRuns
+        (first_setup search.solve search.parts search.graph.table.abstraction)
+        (opening_machine
+        (first_setup search.solve search.parts search.graph.table.abstraction)) before
     pub runs : AfterClaims (first_setup search.solve search.parts search.graph.table.abstraction)
         (opening_machine
         (first_setup search.solve search.parts search.graph.table.abstraction)) None before

@@ -16,3 +16,4 @@ pub mod Answer
 pub mod Parts
 pub mod Falling
 pub mod FallingRuns
+pub mod FallingBegins

@@ -21,7 +21,7 @@ use Rattle.pb_report.specs.Texts.{input_text, tiles_text, syntax_text, strips_te
 use Rattle.pb_command.specs.Files.{too_long as fault_line}
 use Rattle.pb_command.specs.declared.command.InputOptions.{InputOptions}
 use Rattle.pb_command.specs.Values.{InputNames, Grid, Tiles, Strips}
-use Rattle.pb_command.specs.Meaning.{Reading, Refused, Read, Solve, Check, Journal, Make, SolveMeaning, CheckMeaning, JournalMeaning}
+use Rattle.pb_command.specs.Meaning.{Reading, Refused, Read, Solve, Falling, Check, Journal, Make, SolveMeaning, CheckMeaning, JournalMeaning}
 
 -- ---- what the texts spell: a task, or the report with which they are refused
 
@@ -132,6 +132,7 @@ IsErr result report = result ≡ Err report
 abbrev pub RefusesTexts : Reading → (texts : List (List ℕ)) → (report : List ℕ) → Type 0
 RefusesTexts (Refused fault) texts report = ⊥
 RefusesTexts (Read (Solve solve)) texts report = IsErr (solve_task solve texts) report
+RefusesTexts (Read (Falling falling)) texts report = IsErr (solve_task falling.solve texts) report
 RefusesTexts (Read (Check check)) texts report = IsErr (check_task check texts) report
 RefusesTexts (Read (Journal journal)) texts report = IsErr (journal_task journal texts) report
 RefusesTexts (Read (Make make)) texts report = ⊥

@@ -11,7 +11,7 @@ use Rattle.pb_lifted.specs.Typing.{IsWellTyped}
 use Rattle.pb_strips.specs.Refusals.{IsWithinLimits}
 use Rattle.pb_command.specs.declared.command.InputOptions.{InputOptions}
 use Rattle.pb_command.specs.Values.{InputNames, Grid, Tiles, Strips}
-use Rattle.pb_command.specs.Meaning.{Reading, Refused, Read, Solve, Check, Journal, Make}
+use Rattle.pb_command.specs.Meaning.{Reading, Refused, Read, Solve, Falling, Check, Journal, Make}
 use Rattle.pb_answer.specs.Named.{SpellTrees}
 
 -- the texts of a map and a scenario spell a grid, and P holds of it
@@ -48,6 +48,8 @@ SpellBehind input options texts =
 abbrev pub SpellTask : Reading → (texts : List (List ℕ)) → Type 0
 SpellTask (Refused fault) texts = ⊥
 SpellTask (Read (Solve solve)) texts = SpellInput solve.input solve.options 0 texts
+SpellTask (Read (Falling falling)) texts =
+    SpellInput falling.solve.input falling.solve.options 0 texts
 SpellTask (Read (Check check)) texts = SpellBehind check.input check.options texts
 SpellTask (Read (Journal journal)) texts = SpellBehind journal.input journal.options texts
 SpellTask (Read (Make make)) texts = ⊥

@@ -80,8 +80,8 @@ impl<'a> Answer<'a> {
     }
 }
 
-// The answer to input that is refused.
-fn refuse_input<'a>(report: Report) -> Answer<'a>
+/// The answer to input that is refused.
+pub(crate) fn refuse_input<'a>(report: Report) -> Answer<'a>
     ensures { IsRefused report (said_of result) }
 {
     Answer::without_files(Status::InputRefused, report)

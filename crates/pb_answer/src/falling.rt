@@ -11,8 +11,8 @@ ghost use Rattle.pb_lease.specs.Choices.{is_out_in};
 ghost use Rattle.pb_lease.specs.Begins.{home_store};
 ghost use Rattle.pb_check.specs.Spelling.{PlanFitsIfAny};
 ghost use Rattle.pb_falling.specs.Falling.{Claim};
-ghost use Rattle.pb_command.specs.Meaning.{IsInRange, Solve};
-ghost use Rattle.pb_command.specs.Causes.{solve_meant};
+ghost use Rattle.pb_command.specs.Meaning.{IsInRange, Falling};
+ghost use Rattle.pb_command.specs.Causes.{solve_meant, falling_meant};
 ghost use Rattle.pb_answer.specs.Answer.{said_of};
 ghost use Rattle.pb_answer.specs.Falling.{asked_of_run};
 ghost use Rattle.pb_answer.specs.FallingRuns.{guide_in, weight_now, KeepsPlan, IsFalling, IsAfterRun, IsLast, SaysNow, SaysClaimNow, SaysNoneNow, SaysStopNow, GoesOn};
@@ -22,7 +22,7 @@ use crate::ended::{bound_of, certify};
 use crate::kept::{claimed_plan, copy_plan, numbered_name, numerator_at};
 use crate::status::Status;
 use pb_cert::Plan;
-use pb_command::SolveCommand;
+use pb_command::{FallingCommand, SolveCommand};
 use pb_falling::claims_hold;
 use pb_lease::LeaseGraph;
 use pb_machine::End;
@@ -71,28 +71,26 @@ impl<'a> Model for FallingSearch<'a> {
 }
 
 impl<'a> FallingSearch<'a> {
-    /// Searches a task by leases, for the first time, at the weight of the words. The weight is to
-    /// fall to 1 in so many steps. An error is out of memory.
+    /// Searches a task by leases, for the first time, at the weight of the words. An error is out of
+    /// memory.
     pub fn start<R: Threads + Wait + Sync, G: Gate>(
         rt: &R,
         alloc: Global,
         task: &Arc<Task>,
-        solve: SolveCommand<'a>,
-        steps: u64,
+        falling: FallingCommand<'a>,
         gate: &G,
     ) -> Result<FallingSearch<'a>, AllocError>
-        requires range { IsInRange (Solve (solve_meant solve)) }
-        requires some_steps { 1 ≤ steps }
-        requires few_steps { steps ≤ 20 }
-        ensures solve { IfOk result (λ s. s.solve ≡ solve_meant solve.entry) }
+        requires { IsInRange (Falling (falling_meant falling)) }
+        ensures solve { IfOk result (λ s. s.solve ≡ solve_meant falling.entry.solve) }
         ensures task { IfOk result (λ s. s.parts ≡ arc_value task.now) }
-        ensures steps { IfOk result (λ s. s.steps ≡ steps) }
+        ensures steps { IfOk result (λ s. s.steps ≡ falling.entry.steps) }
         ensures run { IfOk result (λ s. s.run ≡ 0) }
         ensures falling { IfOk result (λ s. (machine : Machine) × IsFalling [] machine s) }
     {
-        let graph = search(rt, alloc, task, solve.settings, gate)?;
+        let graph = search(rt, alloc, task, falling.solve.settings, gate)?;
         let _lawful = graph.abstraction();
-        FallingSearch::after_run(alloc, Arc::clone(task)?, solve, steps, 0, graph, None)
+        let task = Arc::clone(task)?;
+        FallingSearch::after_run(alloc, task, falling.solve, falling.steps, 0, graph, None)
     }
 
     /// Searches on with the same rows, opened again at the next weight. The budget is one for all

@@ -4,6 +4,7 @@
 #![tactic(auto)]
 
 mod answer;
+mod begin;
 mod check;
 mod checking;
 mod ended;
@@ -23,6 +24,7 @@ pub use answer::{
     Answer, CertificateText, SavedCertificate, SavedJournal, answer_check, answer_journal,
     answer_solve,
 };
+pub use begin::{FallingBegin, begin_falling};
 pub use falling::FallingSearch;
 pub use laws::long_files_are_refused;
 pub use status::Status;

@@ -1,5 +1,5 @@
 -- What is found for the options and the words of a command, also after the defaults of flags.
-use Rattle.std.proofs.Common.{◌≡◌, ◌∙◌, ◌||◌, ◌&&◌, Bool, true, false, List, [], ◌∷◌, Option, None, Some, refl, sym, ap, codes}
+use Rattle.std.proofs.Common.{◌≡◌, ◌∙◌, ◌||◌, ◌&&◌, ℕ, Bool, true, false, List, [], ◌∷◌, Option, None, Some, refl, sym, ap, codes}
 use Rattle.std.specs.Prelude.{is_some, option_map, if◌then◌else◌}
 use Rattle.std.specs.List.{AllByRecursion}
 use Rattle.std.specs.Str.{bytes_eq}
@@ -7,10 +7,11 @@ use Rattle.clap.specs.Walk.{Row as MatchRow, Text, with_default, with_values, ha
 use Rattle.clap.specs.declared.builder.value_parser.Reading.TheVariants.{AsWritten}
 use Rattle.clap.specs.declared.parser.matches.ValueSource.TheVariants.{DefaultValue}
 use Rattle.pb_command.specs.declared.table.ValuedOption.{ValuedOption}
+use Rattle.pb_command.specs.declared.table.ValuedOption.TheVariants.{Falling}
 use Rattle.pb_command.specs.declared.table.FlagOption.{FlagOption}
-use Rattle.pb_command.specs.Table.{Form, Number, FileName, OneOf, option_name, option_form}
-use Rattle.pb_command.specs.Values.{InputNames, Grid, Tiles, Strips, flag_of, fits, text_by, option_fits, values_fit, number_read, number_at}
-use Rattle.pb_command.specs.Options.{is_same, has, Argument, Placed, Valued, Flag, placed_words, value_given, flag_given, number_given, number_by, IsArgumentOf, is_value_of}
+use Rattle.pb_command.specs.Table.{Form, Number, OptionalNumber, FileName, OneOf, option_name, option_form}
+use Rattle.pb_command.specs.Values.{InputNames, Grid, Tiles, Strips, flag_of, fits, text_by, option_fits, values_fit, number_in, number_read, number_at, optional_number_at}
+use Rattle.pb_command.specs.Options.{is_same, has, Argument, Placed, Valued, Flag, placed_words, value_given, flag_given, number_given, number_by, number_of, falling_given, IsArgumentOf, is_value_of}
 use Rattle.pb_command.proofs.Walking.{Place, place_id, option_id, flag_id, match_row, flag_rule, same_option, flag_no_option, flag_no_place, same_flag_itself}
 use Rattle.pb_command.proofs.Arguments.{row_of, rows_for, word_at, found_option, found_place, has_row_is}
 
@@ -125,12 +126,19 @@ one_read rows id (Some value) found = rw found refl
 read_by : (f : Form) (given : Option Text) → fits f given ≡ true → number_read f given ≡ number_by f given
 read_by (Number range) None fit = refl
 read_by (Number range) (Some value) fit = rw fit refl
+read_by (OptionalNumber least most) given fit = refl
 read_by FileName given fit = refl
 read_by (OneOf words) given fit = refl
+
+-- also where there is no default
+read_without : (least most : ℕ) (given : Option Text) → fits (OptionalNumber least most) given ≡ true → number_in least most None given ≡ option_map number_of given
+read_without least most None fit = refl
+read_without least most (Some value) fit = rw fit refl
 
 module _ (places : List Place) (arguments : List Argument) (rows : List MatchRow) (found : Finds places arguments rows) where
   text_as_given : (f : Form) (o : ValuedOption) → text_by f (option_name o) rows ≡ value_given o arguments
   text_as_given (Number range) o = one_read rows (option_name o) (value_given o arguments) (found.option o)
+  text_as_given (OptionalNumber least most) o = one_read rows (option_name o) (value_given o arguments) (found.option o)
   text_as_given FileName o = text_read rows (option_name o) (value_given o arguments) (found.option o)
   text_as_given (OneOf words) o = text_read rows (option_name o) (value_given o arguments) (found.option o)
 
@@ -165,6 +173,10 @@ module _ (takes : ValuedOption → Bool) (takes_flag : FlagOption → Bool) (pla
   -- the number of each option is the one that was given, or its default
   pub numbers_read : (o : ValuedOption) → number_at rows o ≡ number_given o arguments
   numbers_read o = ap (number_read (option_form o)) (read_as_given o) ∙ read_by (option_form o) (value_given o arguments) (given_fits o)
+
+  -- and so is the number of steps, if it was given
+  pub falling_read : optional_number_at rows Falling ≡ falling_given arguments
+  falling_read = ap (number_in 1 20 None) (read_as_given Falling) ∙ read_without 1 20 (value_given Falling arguments) (given_fits Falling)
 
   -- and all are of their forms
   pub all_fit : (options : List ValuedOption) → values_fit options rows ≡ true

@@ -1,7 +1,7 @@
 -- What `solve` reads of its arguments.
-use Rattle.std.proofs.Common.{◌≡◌, ◌∙◌, ◌≤◌, ◌<◌, Bool, true, false, List, [], ◌∷◌, Option, None, Some, refl, sym, ap, ap₂, subst, codes}
+use Rattle.std.proofs.Common.{◌≡◌, ◌∙◌, ◌≤◌, ◌<◌, ℕ, Bool, true, false, List, [], ◌∷◌, Option, None, Some, refl, sym, ap, ap₂, subst, codes}
 use mathlib.Core.Path.{fun_ext}
-use Rattle.std.specs.Prelude.{fold, map}
+use Rattle.std.specs.Prelude.{fold, map, option_map}
 use Rattle.std.specs.List.{AllByRecursion}
 use Rattle.std.specs.Str.{bytes_eq}
 use Rattle.std.proofs.lemmas.Bool.{le-ltb, lt-ltb}
@@ -12,17 +12,17 @@ use Rattle.pb_machine.specs.declared.settings.Settings.{Settings}
 use Rattle.pb_command.specs.declared.command.Engine.{Engine}
 use Rattle.pb_command.specs.declared.command.Engine.TheVariants.{Leases, Owners}
 use Rattle.pb_command.specs.declared.command.InputOptions.{InputOptions}
-use Rattle.pb_command.specs.declared.table.ValuedOption.TheVariants.{Engine as EngineOption, Num, Den, Certificate, Journal}
+use Rattle.pb_command.specs.declared.table.ValuedOption.TheVariants.{Engine as EngineOption, Num, Den, Certificate, Journal, Falling as FallingOption}
 use Rattle.pb_command.specs.declared.table.FlagOption.{FlagOption}
 use Rattle.pb_command.specs.declared.table.FlagOption.TheVariants.{Plain, Swamp}
 use Rattle.pb_command.specs.Table.{solve_options, solve_flags}
-use Rattle.pb_command.specs.Values.{InputNames, Grid, Tiles, Strips, kind_of_text, are_one_name, is_journal_of_owners, flag_of, values_fit, number_at, flag_at, text_at, engine_of, engine_at}
-use Rattle.pb_command.specs.Meaning.{Read, Refused, Solve, SolveMeaning, reading_of_words, unless_faulty, solve_of, with_kind, if_fit, options_by, settings_by, solve_with, solve_tested}
-use Rattle.pb_command.specs.Options.{number_given, options_given, settings_given, engine_given, Argument, words_of, placed_words, value_given, flag_given, AreDistinct, IsArgumentOf, is_of_solve, is_flag_of_solve, kind_word, file_words, AreOfSolve, HaveTwoNames, HaveKeptJournal}
+use Rattle.pb_command.specs.Values.{InputNames, Grid, Tiles, Strips, kind_of_text, are_one_name, is_journal_of_owners, is_falling_of_owners, is_journal_of_falling, flag_of, values_fit, number_at, optional_number_at, flag_at, text_at, engine_of, engine_at}
+use Rattle.pb_command.specs.Meaning.{Read, Refused, Solve, Falling, SolveMeaning, reading_of_words, unless_faulty, solve_of, with_kind, if_fit, options_by, settings_by, solve_with, solve_in_steps, solve_tested}
+use Rattle.pb_command.specs.Options.{number_given, options_given, settings_given, engine_given, Argument, words_of, placed_words, value_given, flag_given, AreDistinct, IsArgumentOf, is_of_solve, is_flag_of_solve, number_of, kind_word, file_words, falling_given, solve_given, AreOfSolve, HaveOneRun, HaveTwoNames, HaveKeptJournal}
 use Rattle.pb_command.specs.declared.refusal.CommandFault.TheVariants as fault
 use Rattle.pb_command.proofs.Walking.{Place, Kind, FirstFile, SecondFile, flag_id, match_row, flag_rule, defaults_last, last_default_fault, flags_default_fault}
 use Rattle.pb_command.proofs.Arguments.{row_of, rows_for, word_at, FitPlaces, IsWalkedWhole, found_flag, walks_all, rows_are, no_fault_at_all}
-use Rattle.pb_command.proofs.Found.{first_file, Finds, finds, finds_with, row_beside_flag, flag_read, flag_read_beside, text_read, numbers_read, all_fit}
+use Rattle.pb_command.proofs.Found.{first_file, Finds, finds, finds_with, row_beside_flag, flag_read, flag_read_beside, text_read, numbers_read, falling_read, all_fit}
 use Rattle.pb_command.proofs.Shapes.{solve_shape, plainless_rules, solve_takes, by_words, ToSolve, no_default_in_solve, rules_of_solve}
 
 abbrev pub solve_places : List Place
@@ -70,14 +70,15 @@ flags_read : (arguments : List Argument) (f : FlagOption) → flag_at (rows_with
 flags_read arguments Plain = plain_read arguments
 flags_read arguments Swamp = swamp_read arguments
 
-solve_values : (rows : List MatchRow) (kind first second certificate journal : Option Text) (options : InputOptions) (settings : Settings) (engine : Engine)
+solve_values : (rows : List MatchRow) (kind first second certificate journal : Option Text) (falling : Option ℕ) (options : InputOptions) (settings : Settings) (engine : Engine)
     → values_fit solve_options rows ≡ true
     → first_of (codes "KIND") rows ≡ kind → first_of (codes "FIRST_FILE") rows ≡ first → first_of (codes "SECOND_FILE") rows ≡ second
     → options_by (number_at rows) (flag_at rows) ≡ options → settings_by (number_at rows) (flag_at rows) ≡ settings → engine_at rows ≡ engine
     → text_at rows Certificate ≡ certificate → text_at rows Journal ≡ journal
-    → solve_of rows ≡ with_kind (kind_of_text kind) (solve_with first second options settings engine certificate journal)
-solve_values rows kind first second certificate journal options settings engine fit a b c d e f g h =
-    λ i. if_fit (fit i) (with_kind (kind_of_text (a i)) (solve_with (b i) (c i) (d i) (e i) (f i) (g i) (h i)))
+    → optional_number_at rows FallingOption ≡ falling
+    → solve_of rows ≡ with_kind (kind_of_text kind) (solve_with first second options settings engine certificate journal falling)
+solve_values rows kind first second certificate journal falling options settings engine fit a b c d e f g h k =
+    λ i. if_fit (fit i) (with_kind (kind_of_text (a i)) (solve_with (b i) (c i) (d i) (e i) (f i) (g i) (h i) (k i)))
 
 -- clap takes what it has walked over, and the values are those that it found
 pub solve_is_read : (arguments : List Argument) → IsWalkedWhole solve_shape solve_places arguments
@@ -95,7 +96,7 @@ solve_is_read arguments w kind first kind_is first_is =
 pub solve_is : (arguments : List Argument) → AllByRecursion (IsArgumentOf is_of_solve is_flag_of_solve) arguments → AreDistinct arguments → FitPlaces solve_places (placed_words arguments)
     → (kind first : Text) → word_at Kind solve_places (placed_words arguments) ≡ Some kind → word_at FirstFile solve_places (placed_words arguments) ≡ Some first
     → reading_of_words (codes "solve" ∷ words_of arguments) ≡ with_kind (kind_of_text (Some kind))
-    (solve_with (Some first) (word_at SecondFile solve_places (placed_words arguments)) (options_given arguments) (settings_given arguments) (engine_given arguments) (value_given Certificate arguments) (value_given Journal arguments))
+    (solve_with (Some first) (word_at SecondFile solve_places (placed_words arguments)) (options_given arguments) (settings_given arguments) (engine_given arguments) (value_given Certificate arguments) (value_given Journal arguments) (falling_given arguments))
 solve_is arguments all distinct fit kind first kind_is first_is =
     let w = solve_walk arguments all distinct fit in
     let rows = rows_with_flags arguments in
@@ -105,7 +106,7 @@ solve_is arguments all distinct fit kind first kind_is first_is =
     let numbers : number_at rows ≡ (λ o. number_given o arguments) = fun_ext (numbers_read is_of_solve is_flag_of_solve solve_places arguments rows all found) in
     let flags : flag_at rows ≡ (λ f. flag_given f arguments) = fun_ext (flags_read arguments) in
     solve_is_read arguments w kind first kind_is first_is
-    ∙ solve_values rows (Some kind) (Some first) (word_at SecondFile solve_places (placed_words arguments)) (value_given Certificate arguments) (value_given Journal arguments) (options_given arguments) (settings_given arguments)
+    ∙ solve_values rows (Some kind) (Some first) (word_at SecondFile solve_places (placed_words arguments)) (value_given Certificate arguments) (value_given Journal arguments) (falling_given arguments) (options_given arguments) (settings_given arguments)
     (engine_given arguments)
     (all_fit is_of_solve is_flag_of_solve solve_places arguments rows all found solve_options)
     (text_read rows (codes "KIND") (Some kind) kind_row) (text_read rows (codes "FIRST_FILE") (Some first) first_row)
@@ -114,6 +115,7 @@ solve_is arguments all distinct fit kind first kind_is first_is =
     (ap engine_of (text_read rows (codes "engine") (value_given EngineOption arguments) (found.option EngineOption)))
     (text_read rows (codes "cert") (value_given Certificate arguments) (found.option Certificate))
     (text_read rows (codes "trace") (value_given Journal arguments) (found.option Journal))
+    (falling_read is_of_solve is_flag_of_solve solve_places arguments rows all found)
 
 -- the first of the files
 pub files_fit : (input : InputNames) → FitPlaces solve_places (kind_word input ∷ file_words input)
@@ -131,21 +133,10 @@ first_at (Grid names) = refl
 first_at (Tiles board) = refl
 first_at (Strips names) = refl
 
--- what `solve` asks for before its tests
-abbrev pub meant_by : InputNames → List Argument → SolveMeaning
-meant_by input arguments = record {
-  input = input;
-  options = options_given arguments;
-  settings = settings_given arguments;
-  engine = engine_given arguments;
-  certificate = value_given Certificate arguments;
-  journal = value_given Journal arguments;
-}
-
 tested : (input : InputNames) (arguments : List Argument)
     → with_kind (kind_of_text (Some (kind_word input)))
     (solve_with (Some (first_file input)) (word_at SecondFile solve_places (kind_word input ∷ file_words input)) (options_given arguments) (settings_given arguments) (engine_given arguments)
-    (value_given Certificate arguments) (value_given Journal arguments)) ≡ solve_tested (meant_by input arguments)
+    (value_given Certificate arguments) (value_given Journal arguments) (falling_given arguments)) ≡ solve_tested (falling_given arguments) (solve_given input arguments)
 tested (Grid names) arguments = refl
 tested (Tiles board) arguments = refl
 tested (Strips names) arguments = refl
@@ -155,27 +146,41 @@ solve_fits input arguments are = subst (FitPlaces solve_places) (sym are.placed)
 
 -- the arguments of `solve` with the files of its kind are tested
 pub solve_is_tested : (input : InputNames) (arguments : List Argument) → AreOfSolve input arguments
-    → reading_of_words (codes "solve" ∷ words_of arguments) ≡ solve_tested (meant_by input arguments)
+    → reading_of_words (codes "solve" ∷ words_of arguments) ≡ solve_tested (falling_given arguments) (solve_given input arguments)
 solve_is_tested input arguments are =
     solve_is arguments are.each are.distinct (solve_fits input arguments are) (kind_word input) (first_file input)
     (ap (word_at Kind solve_places) are.placed ∙ kind_at input) (ap (word_at FirstFile solve_places) are.placed ∙ first_at input)
     ∙ (ap (λ ws. with_kind (kind_of_text (Some (kind_word input)))
     (solve_with (Some (first_file input)) (word_at SecondFile solve_places ws) (options_given arguments) (settings_given arguments) (engine_given arguments)
-    (value_given Certificate arguments) (value_given Journal arguments))) are.placed ∙ tested input arguments)
+    (value_given Certificate arguments) (value_given Journal arguments) (falling_given arguments))) are.placed ∙ tested input arguments)
 
 -- ---- the tests
 
-pub passes : (m : SolveMeaning) → m.settings.den ≤ m.settings.num → are_one_name m.certificate m.journal ≡ false → is_journal_of_owners m.engine m.journal ≡ false → solve_tested m ≡ Read (Solve m)
-passes m weight names kept = rw (le-ltb m.settings.num m.settings.den weight, names, kept) refl
+module _ (m : SolveMeaning) where
+  pub low_weight : (falling : Option ℕ) → m.settings.num < m.settings.den → solve_tested falling m ≡ Refused fault.Weight
+  low_weight falling weight = rw (lt-ltb m.settings.num m.settings.den weight) refl
 
-pub low_weight : (m : SolveMeaning) → m.settings.num < m.settings.den → solve_tested m ≡ Refused fault.Weight
-low_weight m weight = rw (lt-ltb m.settings.num m.settings.den weight) refl
+  module _ (falling : Option ℕ) (weight : m.settings.den ≤ m.settings.num) where
+    pub one_name : are_one_name m.certificate m.journal ≡ true → solve_tested falling m ≡ Refused fault.Names
+    one_name names = rw (le-ltb m.settings.num m.settings.den weight, names) refl
 
-pub one_name : (m : SolveMeaning) → m.settings.den ≤ m.settings.num → are_one_name m.certificate m.journal ≡ true → solve_tested m ≡ Refused fault.Names
-one_name m weight names = rw (le-ltb m.settings.num m.settings.den weight, names) refl
+    pub other_engine : are_one_name m.certificate m.journal ≡ false → is_journal_of_owners m.engine m.journal ≡ true → solve_tested falling m ≡ Refused fault.Engine
+    other_engine names lost = rw (le-ltb m.settings.num m.settings.den weight, names, lost) refl
 
-pub other_engine : (m : SolveMeaning) → m.settings.den ≤ m.settings.num → are_one_name m.certificate m.journal ≡ false → is_journal_of_owners m.engine m.journal ≡ true → solve_tested m ≡ Refused fault.Engine
-other_engine m weight names lost = rw (le-ltb m.settings.num m.settings.den weight, names, lost) refl
+    pub passes : are_one_name m.certificate m.journal ≡ false → is_journal_of_owners m.engine m.journal ≡ false → is_falling_of_owners m.engine falling ≡ false
+        → is_journal_of_falling falling m.journal ≡ false → solve_tested falling m ≡ Read (solve_in_steps m falling)
+    passes names kept leases alone = rw (le-ltb m.settings.num m.settings.den weight, names, kept, leases, alone) refl
+
+    -- falling weights of owners are refused, whether a journal of them is asked for or not
+    pub falling_of_owners : are_one_name m.certificate m.journal ≡ false → is_falling_of_owners m.engine falling ≡ true → solve_tested falling m ≡ Refused fault.Engine
+    falling_of_owners names owners = by (is_journal_of_owners m.engine m.journal) refl where
+      by : (b : Bool) → is_journal_of_owners m.engine m.journal ≡ b → solve_tested falling m ≡ Refused fault.Engine
+      by true lost = other_engine names lost
+      by false kept = rw (le-ltb m.settings.num m.settings.den weight, names, kept, owners) refl
+
+    pub journal_of_falling : are_one_name m.certificate m.journal ≡ false → is_journal_of_owners m.engine m.journal ≡ false → is_falling_of_owners m.engine falling ≡ false
+        → is_journal_of_falling falling m.journal ≡ true → solve_tested falling m ≡ Refused fault.Falling
+    journal_of_falling names kept leases noted = rw (le-ltb m.settings.num m.settings.den weight, names, kept, leases, noted) refl
 
 pub kept_journal : (e : Engine) (journal : Option Text) → (e ≡ Owners → journal ≡ None) → is_journal_of_owners e journal ≡ false
 kept_journal Leases journal kept = refl
@@ -198,10 +203,61 @@ two_names (Some x) (Some y) apart = by (bytes_eq x y) refl where
 pub same_names : (a b : Option Text) (name : Text) → a ≡ Some name → b ≡ Some name → are_one_name a b ≡ true
 same_names a b name e f = rw (e, f) ((bytes_eq-Decides name name).1 refl)
 
--- the law
-pub solve_reads : (input : InputNames) (arguments : List Argument) → AreOfSolve input arguments → number_given Den arguments ≤ number_given Num arguments → HaveTwoNames arguments
-    → HaveKeptJournal arguments
-    → reading_of_words (codes "solve" ∷ words_of arguments) ≡ Read (Solve (meant_by input arguments))
-solve_reads input arguments are weight names kept =
-    solve_is_tested input arguments are ∙ passes (meant_by input arguments) weight (two_names (value_given Certificate arguments) (value_given Journal arguments) names)
-    (kept_journal (engine_given arguments) (value_given Journal arguments) kept)
+-- without falling weights
+no_falling : (e : Engine) → is_falling_of_owners e None ≡ false
+no_falling Leases = refl
+no_falling Owners = refl
+
+no_journal_of_falling : (journal : Option Text) → is_journal_of_falling None journal ≡ false
+no_journal_of_falling None = refl
+no_journal_of_falling (Some name) = refl
+
+two_names_with_none : (a : Option Text) → are_one_name a None ≡ false
+two_names_with_none None = refl
+two_names_with_none (Some name) = refl
+
+-- the laws
+pub solve_reads : (input : InputNames) (arguments : List Argument) → AreOfSolve input arguments → HaveOneRun arguments → number_given Den arguments ≤ number_given Num arguments
+    → HaveTwoNames arguments → HaveKeptJournal arguments
+    → reading_of_words (codes "solve" ∷ words_of arguments) ≡ Read (Solve (solve_given input arguments))
+solve_reads input arguments are once weight names kept =
+    solve_is_tested input arguments are
+    ∙ (ap (λ given. solve_tested (option_map number_of given) (solve_given input arguments)) once
+    ∙ passes (solve_given input arguments) None weight (two_names (value_given Certificate arguments) (value_given Journal arguments) names)
+    (kept_journal (engine_given arguments) (value_given Journal arguments) kept) (no_falling (engine_given arguments)) (no_journal_of_falling (value_given Journal arguments)))
+
+-- the engine by leases keeps each journal and has falling weights
+pub leases_keep : (e : Engine) (journal : Option Text) → e ≡ Leases → is_journal_of_owners e journal ≡ false
+leases_keep e journal is = rw is refl
+
+pub leases_fall : (e : Engine) (falling : Option ℕ) → e ≡ Leases → is_falling_of_owners e falling ≡ false
+leases_fall e falling is = rw is refl
+
+pub falling_reads : (input : InputNames) (steps : Text) (arguments : List Argument) → AreOfSolve input arguments → value_given FallingOption arguments ≡ Some steps
+    → number_given Den arguments ≤ number_given Num arguments → engine_given arguments ≡ Leases → value_given Journal arguments ≡ None
+    → reading_of_words (codes "solve" ∷ words_of arguments) ≡ Read (Falling (record { solve = solve_given input arguments; steps = number_of steps }))
+falling_reads input steps arguments are given weight engine journal =
+    solve_is_tested input arguments are
+    ∙ (ap (λ x. solve_tested (option_map number_of x) (solve_given input arguments)) given
+    ∙ passes (solve_given input arguments) (Some (number_of steps)) weight
+    (ap (are_one_name (value_given Certificate arguments)) journal ∙ two_names_with_none (value_given Certificate arguments))
+    (leases_keep (engine_given arguments) (value_given Journal arguments) engine) (leases_fall (engine_given arguments) (Some (number_of steps)) engine)
+    (ap (is_journal_of_falling (Some (number_of steps))) journal))
+
+pub falling_of_owners_refused : (input : InputNames) (steps : Text) (arguments : List Argument) → AreOfSolve input arguments → number_given Den arguments ≤ number_given Num arguments
+    → HaveTwoNames arguments → value_given EngineOption arguments ≡ Some (codes "hda") → value_given FallingOption arguments ≡ Some steps
+    → reading_of_words (codes "solve" ∷ words_of arguments) ≡ Refused fault.Engine
+falling_of_owners_refused input steps arguments are weight names engine given =
+    solve_is_tested input arguments are
+    ∙ falling_of_owners (solve_given input arguments) (falling_given arguments) weight (two_names (value_given Certificate arguments) (value_given Journal arguments) names)
+    (rw (engine, given) refl)
+
+pub falling_with_journal_refused : (input : InputNames) (steps name : Text) (arguments : List Argument) → AreOfSolve input arguments
+    → number_given Den arguments ≤ number_given Num arguments → HaveTwoNames arguments → engine_given arguments ≡ Leases
+    → value_given FallingOption arguments ≡ Some steps → value_given Journal arguments ≡ Some name
+    → reading_of_words (codes "solve" ∷ words_of arguments) ≡ Refused fault.Falling
+falling_with_journal_refused input steps name arguments are weight names engine given noted =
+    solve_is_tested input arguments are
+    ∙ journal_of_falling (solve_given input arguments) (falling_given arguments) weight (two_names (value_given Certificate arguments) (value_given Journal arguments) names)
+    (leases_keep (engine_given arguments) (value_given Journal arguments) engine) (leases_fall (engine_given arguments) (falling_given arguments) engine)
+    (rw (given, noted) refl)

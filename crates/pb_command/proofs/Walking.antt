@@ -25,7 +25,7 @@ use Rattle.pb_command.specs.declared.table.ValuedOption.{ValuedOption}
 use Rattle.pb_command.specs.declared.table.ValuedOption.TheVariants.{Row}
 use Rattle.pb_command.specs.declared.table.FlagOption.{FlagOption}
 use Rattle.pb_command.specs.declared.table.FlagOption.TheVariants.{Plain, Swamp}
-use Rattle.pb_command.specs.Table.{Form, Number, FileName, OneOf, option_name, option_form, flag_name, is_value, solve_options, solve_flags, check_options, check_flags, journal_options, make_options}
+use Rattle.pb_command.specs.Table.{Form, Number, OptionalNumber, FileName, OneOf, option_name, option_form, flag_name, is_value, solve_options, solve_flags, check_options, check_flags, journal_options, make_options}
 use Rattle.pb_command.specs.Options.{option_word, is_same, is_value_of, flag_word, is_same_flag}
 
 -- ---- the words that their place tells
@@ -65,6 +65,7 @@ option_id o = option_name o
 
 abbrev pub parser_by : Form → ValueParser
 parser_by (Number range) = vp.Unsigned range.least range.most
+parser_by (OptionalNumber least most) = vp.Unsigned least most
 parser_by FileName = vp.String
 parser_by (OneOf words) = vp.String
 
@@ -178,6 +179,7 @@ long_word _ = refl
 
 reading_by_form : (f : Form) → reading_of (parser_by f) ≡ AsWritten
 reading_by_form (Number range) = refl
+reading_by_form (OptionalNumber least most) = refl
 reading_by_form FileName = refl
 reading_by_form (OneOf words) = refl
 
@@ -196,6 +198,7 @@ place_reading Size = refl
 -- clap takes each value of a form, and of numbers no other
 form_accepts : (f : Form) (value : Text) → is_value f value ≡ true → accepts false (parser_by f) value ≡ true
 form_accepts (Number range) value is = is
+form_accepts (OptionalNumber least most) value is = is
 form_accepts FileName value is = refl
 form_accepts (OneOf words) value is = refl
 

@@ -1,12 +1,13 @@
 -- What the answers of the reader mean.
 use Rattle.std.specs.Prelude.{◌≡◌, ◌≤◌, ◌++◌, ◌∷◌, ◌-◌, ℕ, List, [], Some, Result, MatchResult, codes, length, option_map, slice_get}
 use Rattle.pb_command.specs.Values.{InputNames, GridNames, StripsNames, Grid, Tiles, Strips}
-use Rattle.pb_command.specs.Meaning.{Meaning, Solve, Check, Journal, Make, SolveMeaning, CheckMeaning, JournalMeaning, MakeMeaning, Reading, Read, Refused}
+use Rattle.pb_command.specs.Meaning.{Meaning, Solve, Falling, Check, Journal, Make, SolveMeaning, FallingMeaning, CheckMeaning, JournalMeaning, MakeMeaning, Reading, Read, Refused}
 use Rattle.pb_command.specs.declared.command.GridFiles.{GridFiles}
 use Rattle.pb_command.specs.declared.command.StripsFiles.{StripsFiles}
 use Rattle.pb_command.specs.declared.command.Input.{Input}
 use Rattle.pb_command.specs.declared.command.Input.TheVariants as kinds
 use Rattle.pb_command.specs.declared.command.SolveCommand.{SolveCommand}
+use Rattle.pb_command.specs.declared.command.FallingCommand.{FallingCommand}
 use Rattle.pb_command.specs.declared.command.CheckCommand.{CheckCommand}
 use Rattle.pb_command.specs.declared.command.JournalCommand.{JournalCommand}
 use Rattle.pb_command.specs.declared.command.MakeCommand.{MakeCommand}
@@ -38,6 +39,9 @@ solve_meant s = record {
   journal = option_map (λ t. t.now) s.journal;
 }
 
+abbrev pub falling_meant : FallingCommand → FallingMeaning
+falling_meant s = record { solve = solve_meant s.solve; steps = s.steps }
+
 abbrev pub check_meant : CheckCommand → CheckMeaning
 check_meant s =
     record {
@@ -57,6 +61,7 @@ make_meant s = record { kind = s.kind; seed = s.seed; size = s.size; workers = s
 
 abbrev pub meaning_of : CommandLine → Meaning
 meaning_of (command.Solve s) = Solve (solve_meant s)
+meaning_of (command.Falling s) = Falling (falling_meant s)
 meaning_of (command.Check s) = Check (check_meant s)
 meaning_of (command.Journal s) = Journal (journal_meant s)
 meaning_of (command.Make s) = Make (make_meant s)
@@ -92,6 +97,7 @@ IsPrinted fault.Files text = IsLine (codes "words files") text
 IsPrinted fault.Weight text = IsLine (codes "words weight") text
 IsPrinted fault.Names text = IsLine (codes "words names") text
 IsPrinted fault.Engine text = IsLine (codes "words engine") text
+IsPrinted fault.Falling text = IsLine (codes "words falling") text
 IsPrinted fault.Size text = IsLine (codes "words size") text
 IsPrinted fault.Form text = IsErrorText text
 IsPrinted fault.Kind text = IsErrorText text

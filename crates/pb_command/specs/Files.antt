@@ -4,7 +4,7 @@
 use Rattle.std.specs.Prelude.{ℕ, List, [], ◌∷◌, map, codes}
 use Rattle.clap.specs.Words.{Text}
 use Rattle.pb_command.specs.Values.{InputNames}
-use Rattle.pb_command.specs.Meaning.{Meaning, Solve, Check, Journal, Make}
+use Rattle.pb_command.specs.Meaning.{Meaning, Solve, Falling, Check, Journal, Make}
 use Rattle.pb_command.specs.Options.{file_words}
 use Rattle.pb_command.specs.declared.files.LoadedFile.{LoadedFile as FileOfCode}
 
@@ -41,6 +41,7 @@ input_files input = map input_file (file_words input)
 
 abbrev pub loaded_files : Meaning → List LoadedFile
 loaded_files (Solve solve) = input_files solve.input
+loaded_files (Falling falling) = input_files falling.solve.input
 loaded_files (Check check) = record_file check.certificate ∷ input_files check.input
 loaded_files (Journal journal) = record_file journal.journal ∷ input_files journal.input
 loaded_files (Make make) = []

@@ -44,6 +44,12 @@ NamesComeBeforeEngine = (board : List ℕ) → IsName board
     → reading_of_words (codes "solve" ∷ codes "tiles" ∷ board ∷ codes "--engine" ∷ codes "hda"
     ∷ codes "--cert" ∷ codes "c" ∷ codes "--trace" ∷ codes "c" ∷ []) ≡ Refused fault.Names
 
+-- the engine is tested before the journal of falling weights
+abbrev pub EngineComesBeforeFalling : Type 0
+EngineComesBeforeFalling = (board : List ℕ) → IsName board
+    → reading_of_words (codes "solve" ∷ codes "tiles" ∷ board ∷ codes "--engine" ∷ codes "hda"
+    ∷ codes "--falling" ∷ codes "2" ∷ codes "--trace" ∷ codes "c" ∷ []) ≡ Refused fault.Engine
+
 abbrev pub WeightOfOneHalfIsRefused : Type 0
 WeightOfOneHalfIsRefused = (map scenario : List ℕ) → IsName map → IsName scenario
     → reading_of_words (codes "solve" ∷ codes "grid" ∷ map ∷ scenario ∷ codes "--num" ∷ codes "1"

@@ -6,15 +6,15 @@ use Rattle.pb_machine.specs.declared.settings.Settings.{Settings}
 use Rattle.pb_machine.specs.Settings.{AreInRange}
 use Rattle.pb_task.specs.declared.kind.Kind.{Kind}
 use Rattle.pb_command.specs.declared.command.Engine.{Engine}
-use Rattle.pb_command.specs.declared.command.Engine.TheVariants.{Owners}
+use Rattle.pb_command.specs.declared.command.Engine.TheVariants.{Leases, Owners}
 use Rattle.pb_command.specs.declared.command.InputOptions.{InputOptions}
 use Rattle.pb_command.specs.declared.table.ValuedOption.{ValuedOption}
-use Rattle.pb_command.specs.declared.table.ValuedOption.TheVariants.{Row as ScenarioRow, Workers, Num, Den, Budget, Lot, Blocks, Pattern, Certificate, Journal as JournalName, Rewrite}
+use Rattle.pb_command.specs.declared.table.ValuedOption.TheVariants.{Row as ScenarioRow, Workers, Num, Den, Budget, Lot, Blocks, Pattern, Certificate, Journal as JournalName, Rewrite, Falling as FallingSteps}
 use Rattle.pb_command.specs.declared.table.FlagOption.{FlagOption}
 use Rattle.pb_command.specs.declared.table.FlagOption.TheVariants.{Plain, Swamp}
 use Rattle.pb_command.specs.Parser.{the_program, seed_most}
 use Rattle.pb_command.specs.Table.{IsInRangeOf, solve_options, check_options, journal_options, make_options}
-use Rattle.pb_command.specs.Values.{InputNames, kind_of_text, input_of, values_fit, number_at, text_at, flag_at, engine_at, seed_of, size_of, least_size, most_size, is_size, are_one_name, is_journal_of_owners, is_loaded_name}
+use Rattle.pb_command.specs.Values.{InputNames, kind_of_text, input_of, values_fit, number_at, optional_number_at, text_at, flag_at, engine_at, seed_of, size_of, least_size, most_size, is_size, are_one_name, is_journal_of_owners, is_falling_of_owners, is_journal_of_falling, is_loaded_name}
 use Rattle.pb_command.specs.declared.refusal.CommandFault.{CommandFault}
 use Rattle.pb_command.specs.declared.refusal.CommandFault.TheVariants as fault
 
@@ -27,6 +27,11 @@ pub record SolveMeaning : Type 0 where
   pub engine : Engine
   pub certificate : Option Text
   pub journal : Option Text
+
+-- `solve` with `--falling`: what it is besides, and in how many steps its weight falls
+pub record FallingMeaning : Type 0 where
+  pub solve : SolveMeaning
+  pub steps : ℕ
 
 -- `check`: the task and how its files are read, the certificate's name, and how many workers judge
 -- its rows. The name under which it is saved anew, if one is given.
@@ -52,6 +57,7 @@ pub record MakeMeaning : Type 0 where
 
 pub data Meaning : Type 0 where
   Solve : SolveMeaning → Meaning
+  Falling : FallingMeaning → Meaning
   Check : CheckMeaning → Meaning
   Journal : JournalMeaning → Meaning
   Make : MakeMeaning → Meaning
@@ -97,21 +103,30 @@ settings_by number flag = record {
 
 -- ---- `solve`
 
--- a weight below 1 is a fault, then one name for the certificate and the journal, and then a
--- journal of the engine that keeps none
-abbrev pub solve_tested : SolveMeaning → Reading
-solve_tested solve = if nat_lt solve.settings.num solve.settings.den then Refused fault.Weight
+-- one run, or runs at weights that fall in so many steps
+abbrev pub solve_in_steps : SolveMeaning → (falling : Option ℕ) → Meaning
+solve_in_steps solve None = Solve solve
+solve_in_steps solve (Some steps) = Falling (record { solve = solve; steps = steps })
+
+-- A weight below 1 is a fault, then one name for the certificate and the journal. Then a journal of
+-- the engine that keeps none, or falling weights of the engine that has none, and then a journal of
+-- falling weights.
+abbrev pub solve_tested : (falling : Option ℕ) → SolveMeaning → Reading
+solve_tested falling solve =
+    if nat_lt solve.settings.num solve.settings.den then Refused fault.Weight
     else (if are_one_name solve.certificate solve.journal then Refused fault.Names
     else (if is_journal_of_owners solve.engine solve.journal then Refused fault.Engine
-    else Read (Solve solve)))
+    else (if is_falling_of_owners solve.engine falling then Refused fault.Engine
+    else (if is_journal_of_falling falling solve.journal then Refused fault.Falling
+    else Read (solve_in_steps solve falling)))))
 
 -- clap sees to it that a required word is there
 abbrev pub solve_with : Option Text → Option Text → InputOptions → Settings → Engine
-    → (certificate journal : Option Text) → Kind → Reading
-solve_with None second options settings engine certificate journal kind = Refused fault.Form
-solve_with (Some first) second options settings engine certificate journal kind =
+    → (certificate journal : Option Text) → (falling : Option ℕ) → Kind → Reading
+solve_with None second options settings engine certificate journal falling kind = Refused fault.Form
+solve_with (Some first) second options settings engine certificate journal falling kind =
     with_input (input_of kind first second)
-    (λ input. solve_tested (record {
+    (λ input. solve_tested falling (record {
       input = input;
       options = options;
       settings = settings;
@@ -125,7 +140,8 @@ solve_of rows = if_fit (values_fit solve_options rows)
     (with_kind (kind_of_text (first_of (codes "KIND") rows))
     (solve_with (first_of (codes "FIRST_FILE") rows) (first_of (codes "SECOND_FILE") rows)
     (options_by (number_at rows) (flag_at rows)) (settings_by (number_at rows) (flag_at rows))
-    (engine_at rows) (text_at rows Certificate) (text_at rows JournalName)))
+    (engine_at rows) (text_at rows Certificate) (text_at rows JournalName)
+    (optional_number_at rows FallingSteps)))
 
 -- ---- `check` and `journal`
 
@@ -226,6 +242,15 @@ pub record IsSolveInRange (solve : SolveMeaning) : Type 0 where
   pub names : are_one_name solve.certificate solve.journal ≡ false
   pub engine : solve.engine ≡ Owners → solve.journal ≡ None
 
+-- The same, and the number of steps is from 1 to 20. The engine is the one by leases, and no
+-- journal is asked for.
+pub record IsFallingInRange (falling : FallingMeaning) : Type 0 where
+  pub solve : IsSolveInRange falling.solve
+  pub some_steps : 1 ≤ falling.steps
+  pub few_steps : falling.steps ≤ 20
+  pub engine : falling.solve.engine ≡ Leases
+  pub journal : falling.solve.journal ≡ None
+
 -- the row and the number of workers lie in their ranges
 pub record IsCheckInRange (check : CheckMeaning) : Type 0 where
   pub row : IsInRangeOf ScenarioRow check.options.row
@@ -240,6 +265,7 @@ pub record IsMakeInRange (make : MakeMeaning) : Type 0 where
 -- the values of a command lie in their ranges
 abbrev pub IsInRange : Meaning → Type 0
 IsInRange (Solve solve) = IsSolveInRange solve
+IsInRange (Falling falling) = IsFallingInRange falling
 IsInRange (Check check) = IsCheckInRange check
 IsInRange (Journal journal) = IsInRangeOf ScenarioRow journal.options.row
 IsInRange (Make make) = IsMakeInRange make

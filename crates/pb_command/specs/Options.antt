@@ -1,6 +1,6 @@
 -- What a command reads of its options, in whatever order its words come. Names, ranges and defaults
 -- are those of the table.
-use Rattle.std.specs.Prelude.{◌≡◌, ◌≤◌, ◌<◌, ℕ, List, [], ◌∷◌, ◌++◌, ◌||◌, ◌⊎◌, Bool, true, false, Option, None, Some, if◌then◌else◌, codes}
+use Rattle.std.specs.Prelude.{◌≡◌, ◌≤◌, ◌<◌, ℕ, List, [], ◌∷◌, ◌++◌, ◌||◌, ◌⊎◌, Bool, true, false, Option, None, Some, option_map, if◌then◌else◌, codes}
 use Rattle.std.specs.List.{AllByRecursion, list_any}
 use Rattle.std.specs.Option.{option_map_or}
 use Rattle.std.specs.Str.{bytes_eq}
@@ -16,12 +16,12 @@ use Rattle.pb_command.specs.declared.command.Engine.{Engine}
 use Rattle.pb_command.specs.declared.command.Engine.TheVariants.{Leases, Owners}
 use Rattle.pb_command.specs.declared.command.InputOptions.{InputOptions}
 use Rattle.pb_command.specs.declared.table.ValuedOption.{ValuedOption}
-use Rattle.pb_command.specs.declared.table.ValuedOption.TheVariants.{Row, Workers, Engine as EngineOption, Num, Den, Certificate, Journal, Rewrite}
+use Rattle.pb_command.specs.declared.table.ValuedOption.TheVariants.{Row, Workers, Engine as EngineOption, Num, Den, Certificate, Journal, Rewrite, Falling}
 use Rattle.pb_command.specs.declared.table.FlagOption.{FlagOption}
 use Rattle.pb_command.specs.Names.{IsName}
-use Rattle.pb_command.specs.Table.{Form, Number, FileName, OneOf, option_name, option_form, flag_name, is_value, solve_options, solve_flags, check_options, check_flags, journal_options, make_options}
+use Rattle.pb_command.specs.Table.{Form, Number, OptionalNumber, FileName, OneOf, option_name, option_form, flag_name, is_value, solve_options, solve_flags, check_options, check_flags, journal_options, make_options}
 use Rattle.pb_command.specs.Values.{InputNames, Grid, Tiles, Strips, engine_of}
-use Rattle.pb_command.specs.Meaning.{Read, Refused, Solve, Check, Journal as JournalCommand, Make, options_by, settings_by, reading_of_words}
+use Rattle.pb_command.specs.Meaning.{Read, Refused, Solve, SolveMeaning, Falling as FallingCommand, Check, Journal as JournalCommand, Make, options_by, settings_by, reading_of_words}
 use Rattle.pb_command.specs.declared.refusal.CommandFault.TheVariants as fault
 
 -- the word that an option is given by: `--` before its name
@@ -77,9 +77,11 @@ flag_given flag (Flag other ∷ rest) = is_same_flag flag other || flag_given fl
 abbrev pub number_of : Text → ℕ
 number_of value = digits_value 10 (without_leading_plus value)
 
--- the number that a value of this form writes, and else the default
+-- The number that a value of this form writes, and else the default. The least number stands for
+-- an option that has no default, and `falling_given` reads that one.
 abbrev pub number_by : Form → Option Text → ℕ
 number_by (Number range) given = option_map_or number_of given range.default
+number_by (OptionalNumber least most) given = least
 number_by FileName given = 0
 number_by (OneOf words) given = 0
 
@@ -100,6 +102,10 @@ settings_given arguments =
 -- the engine whose word is given, and else the default
 abbrev pub engine_given : List Argument → Engine
 engine_given arguments = engine_of (value_given EngineOption arguments)
+
+-- in how many steps the weight falls, if that is given
+abbrev pub falling_given : List Argument → Option ℕ
+falling_given arguments = option_map number_of (value_given Falling arguments)
 
 -- no option and no flag is given twice
 abbrev pub AreDistinct : List Argument → Type 0
@@ -180,19 +186,42 @@ HaveTwoNames arguments =
 abbrev pub HaveKeptJournal : List Argument → Type 0
 HaveKeptJournal arguments = engine_given arguments ≡ Owners → value_given Journal arguments ≡ None
 
--- `solve` with the kind and its files, and with options anywhere among them, searches this task
--- with their values.
+-- no falling weights are asked for
+abbrev pub HaveOneRun : List Argument → Type 0
+HaveOneRun arguments = value_given Falling arguments ≡ None
+
+-- what `solve` is given: the task, and the values of its options
+abbrev pub solve_given : InputNames → List Argument → SolveMeaning
+solve_given input arguments = record {
+  input = input;
+  options = options_given arguments;
+  settings = settings_given arguments;
+  engine = engine_given arguments;
+  certificate = value_given Certificate arguments;
+  journal = value_given Journal arguments;
+}
+
+-- `solve` with the kind and its files, and with options other than `--falling` anywhere among them,
+-- searches this task with their values.
 abbrev pub SolveReadsOptions : Type 0
 SolveReadsOptions = (input : InputNames) (arguments : List Argument) → AreOfSolve input arguments
+    → HaveOneRun arguments
     → number_given Den arguments ≤ number_given Num arguments → HaveTwoNames arguments
     → HaveKeptJournal arguments
-    → reading_of_words (codes "solve" ∷ words_of arguments) ≡ Read (Solve (record {
-      input = input;
-      options = options_given arguments;
-      settings = settings_given arguments;
-      engine = engine_given arguments;
-      certificate = value_given Certificate arguments;
-      journal = value_given Journal arguments;
+    → reading_of_words (codes "solve" ∷ words_of arguments)
+    ≡ Read (Solve (solve_given input arguments))
+
+-- With `--falling` among them, for the engine that has falling weights and without a journal, it
+-- searches this task at weights that fall in so many steps.
+abbrev pub FallingReadsOptions : Type 0
+FallingReadsOptions =
+    (input : InputNames) (steps : Text) (arguments : List Argument) → AreOfSolve input arguments
+    → value_given Falling arguments ≡ Some steps
+    → number_given Den arguments ≤ number_given Num arguments → engine_given arguments ≡ Leases
+    → value_given Journal arguments ≡ None
+    → reading_of_words (codes "solve" ∷ words_of arguments) ≡ Read (FallingCommand (record {
+      solve = solve_given input arguments;
+      steps = number_of steps;
     }))
 
 -- Without options, the settings are the standard ones.
@@ -232,6 +261,24 @@ JournalOfOwnersIsRefused =
     → value_given EngineOption arguments ≡ Some (codes "hda")
     → value_given Journal arguments ≡ Some name
     → reading_of_words (codes "solve" ∷ words_of arguments) ≡ Refused fault.Engine
+
+-- And so are falling weights of the engine that has none, whether a journal is asked for or not.
+abbrev pub FallingOfOwnersIsRefused : Type 0
+FallingOfOwnersIsRefused =
+    (input : InputNames) (steps : Text) (arguments : List Argument) → AreOfSolve input arguments
+    → number_given Den arguments ≤ number_given Num arguments → HaveTwoNames arguments
+    → value_given EngineOption arguments ≡ Some (codes "hda")
+    → value_given Falling arguments ≡ Some steps
+    → reading_of_words (codes "solve" ∷ words_of arguments) ≡ Refused fault.Engine
+
+-- And if the engine has falling weights, a journal of them is refused.
+abbrev pub FallingWithJournalIsRefused : Type 0
+FallingWithJournalIsRefused =
+    (input : InputNames) (steps name : Text) (arguments : List Argument)
+    → AreOfSolve input arguments → number_given Den arguments ≤ number_given Num arguments
+    → HaveTwoNames arguments → engine_given arguments ≡ Leases
+    → value_given Falling arguments ≡ Some steps → value_given Journal arguments ≡ Some name
+    → reading_of_words (codes "solve" ∷ words_of arguments) ≡ Refused fault.Falling
 
 -- the name is one of these
 abbrev pub IsAmong : Text → List Text → Type 0

@@ -5,7 +5,7 @@ use Rattle.clap.specs.declared.builder.action.ArgAction.TheVariants.{SetTrue}
 use Rattle.clap.specs.declared.builder.value_parser.ValueParser.TheVariants as vp
 use Rattle.pb_command.specs.declared.table.ValuedOption.{ValuedOption}
 use Rattle.pb_command.specs.declared.table.FlagOption.{FlagOption}
-use Rattle.pb_command.specs.Table.{Form, Number, FileName, OneOf, option_name, option_form, flag_name, solve_options, solve_flags, check_options, check_flags, journal_options, make_options}
+use Rattle.pb_command.specs.Table.{Form, Number, OptionalNumber, FileName, OneOf, option_name, option_form, flag_name, solve_options, solve_flags, check_options, check_flags, journal_options, make_options}
 
 -- `--NAME NUMBER`, a whole number from `least` to `most`
 abbrev pub number_rule : Text → ℕ → ℕ → Rule
@@ -40,6 +40,7 @@ size_word_most = 18446744073709551615
 -- Clap tests a number, and takes any text in the place of a word: its reader tests that.
 abbrev pub rule_by : Text → Form → Rule
 rule_by name (Number range) = number_rule name range.least range.most
+rule_by name (OptionalNumber least most) = number_rule name least most
 rule_by name FileName = text_rule name
 rule_by name (OneOf words) = text_rule name
 

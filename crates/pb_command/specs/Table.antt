@@ -1,6 +1,6 @@
 -- The options of all commands, in one table: the name of each, and what a value of it is. For a
--- number that is its range, and the number if the option isn't given. For a word it is the list of
--- words. After the table stands which command has which options.
+-- number that is its range, and the number that stands for an option that isn't given, if there is
+-- one. For a word it is the list of words. After the table stands which command has which options.
 use Rattle.std.specs.Prelude.{ℕ, ◌≤◌, ⊤, Bool, true, List, [], ◌∷◌, codes}
 use Rattle.std.specs.List.{list_any}
 use Rattle.std.specs.Str.{bytes_eq}
@@ -9,7 +9,7 @@ use Rattle.clap.specs.ValueTests.{is_unsigned_in}
 use Rattle.pb_command.specs.declared.command.Engine.{Engine}
 use Rattle.pb_command.specs.declared.command.Engine.TheVariants.{Leases, Owners}
 use Rattle.pb_command.specs.declared.table.ValuedOption.{ValuedOption}
-use Rattle.pb_command.specs.declared.table.ValuedOption.TheVariants.{Row, Workers, Engine as EngineOption, Num, Den, Budget, Lot, Blocks, Pattern, Certificate, Journal, Rewrite}
+use Rattle.pb_command.specs.declared.table.ValuedOption.TheVariants.{Row, Workers, Engine as EngineOption, Num, Den, Budget, Lot, Blocks, Pattern, Certificate, Journal, Rewrite, Falling}
 use Rattle.pb_command.specs.declared.table.FlagOption.{FlagOption}
 use Rattle.pb_command.specs.declared.table.FlagOption.TheVariants.{Plain, Swamp}
 
@@ -19,9 +19,11 @@ pub record Range : Type 0 where
   pub most : ℕ
   pub default : ℕ
 
--- what a value of an option is: a number in a range, the name of a file, or one of some words
+-- what a value of an option is: a number in a range, with a default or without one, the name of a
+-- file, or one of some words
 pub data Form : Type 0 where
   Number : Range → Form
+  OptionalNumber : (least most : ℕ) → Form
   FileName : Form
   OneOf : List Text → Form
 
@@ -33,6 +35,9 @@ pub record Entry : Type 0 where
 abbrev pub number : Text → (least most default : ℕ) → Entry
 number name least most default =
     record { name = name; form = Number (record { least = least; most = most; default = default }) }
+
+abbrev pub optional_number : Text → (least most : ℕ) → Entry
+optional_number name least most = record { name = name; form = OptionalNumber least most }
 
 abbrev pub file_name : Text → Entry
 file_name name = record { name = name; form = FileName }
@@ -50,7 +55,7 @@ engine_word Owners = codes "hda"
 -- 2^40. How many expansions a lease gets at most, at most 2^20, and how many blocks the abstract
 -- graph has at most. The number of the pattern database, 0 for none. The names under which the
 -- certificate and the journal are saved, and under which a certificate that was accepted is saved
--- anew.
+-- anew. In how many steps the weight falls; without this option there is one run at one weight.
 abbrev pub entry_of : ValuedOption → Entry
 entry_of Row = number (codes "row") 0 1000000 0
 entry_of Workers = number (codes "workers") 1 64 1
@@ -64,6 +69,7 @@ entry_of Pattern = number (codes "pattern") 0 12 0
 entry_of Certificate = file_name (codes "cert")
 entry_of Journal = file_name (codes "trace")
 entry_of Rewrite = file_name (codes "rewrite")
+entry_of Falling = optional_number (codes "falling") 1 20
 
 abbrev pub option_name : ValuedOption → Text
 option_name option = (entry_of option).name
@@ -81,7 +87,7 @@ flag_name Swamp = codes "swamp"
 abbrev pub solve_options : List ValuedOption
 solve_options =
     Row ∷ Workers ∷ EngineOption ∷ Num ∷ Den ∷ Budget ∷ Lot ∷ Blocks ∷ Pattern ∷ Certificate
-    ∷ Journal ∷ []
+    ∷ Journal ∷ Falling ∷ []
 
 abbrev pub solve_flags : List FlagOption
 solve_flags = Plain ∷ Swamp ∷ []
@@ -103,12 +109,14 @@ make_options = Workers ∷ []
 -- whether a text is a value of this form
 abbrev pub is_value : Form → Text → Bool
 is_value (Number range) text = is_unsigned_in range.least range.most text
+is_value (OptionalNumber least most) text = is_unsigned_in least most text
 is_value FileName text = true
 is_value (OneOf words) text = list_any (λ word. bytes_eq word text) words
 
 -- a number is a value of this form
 abbrev pub IsWithin : Form → ℕ → Type 0
 IsWithin (Number range) n = (range.least ≤ n) × (n ≤ range.most)
+IsWithin (OptionalNumber least most) n = (least ≤ n) × (n ≤ most)
 IsWithin FileName n = ⊤
 IsWithin (OneOf words) n = ⊤
 

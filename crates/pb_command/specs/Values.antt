@@ -17,7 +17,7 @@ use Rattle.pb_command.specs.declared.table.ValueForm.{ValueForm}
 use Rattle.pb_command.specs.declared.table.ValueForm.TheVariants as forms
 use Rattle.pb_command.specs.declared.table.TableEntry.{TableEntry}
 use Rattle.pb_command.specs.Parser.{seed_most, size_word_most}
-use Rattle.pb_command.specs.Table.{Form, Number, FileName, OneOf, Entry, engine_word, option_name, option_form, flag_name, is_value}
+use Rattle.pb_command.specs.Table.{Form, Number, OptionalNumber, FileName, OneOf, Entry, engine_word, option_name, option_form, flag_name, is_value}
 
 -- the names of the files of a grid
 pub record GridNames : Type 0 where
@@ -64,15 +64,17 @@ number_in least most default (Some text) =
 abbrev pub form_meant : ValueForm → Form
 form_meant (forms.Number least most default) =
     Number (record { least = least; most = most; default = default })
+form_meant (forms.OptionalNumber least most) = OptionalNumber least most
 form_meant forms.FileName = FileName
 form_meant (forms.OneOf first second) = OneOf (first.now ∷ second.now ∷ [])
 
 abbrev pub entry_meant : TableEntry → Entry
 entry_meant e = record { name = e.name.now; form = form_meant e.form }
 
--- the default lies in the range
+-- the default lies in the range, and a range without a default has a number
 abbrev pub HasDefault : ValueForm → Type 0
 HasDefault (forms.Number least most default) = (least ≤ default) × (default ≤ most)
+HasDefault (forms.OptionalNumber least most) = least ≤ most
 HasDefault forms.FileName = ⊤
 HasDefault (forms.OneOf first second) = ⊤
 
@@ -83,6 +85,7 @@ fits f given = option_map_or (λ text. is_value f text) given true
 -- the text of a value: a number is read from the text by clap, and a name or a word is the text
 abbrev pub text_by : Form → Text → List Row → Option Text
 text_by (Number range) name rows = one_of name rows
+text_by (OptionalNumber least most) name rows = one_of name rows
 text_by FileName name rows = first_of name rows
 text_by (OneOf words) name rows = first_of name rows
 
@@ -102,15 +105,29 @@ number_or default None = default
 number_or default (Some n) = n
 
 -- The number of an option: the one that its value writes, or the default if it isn't given. A value
--- out of the range is refused, and the default stands for it here.
+-- out of the range is refused, and the default stands for it here. An option without a default is
+-- read by `optional_number_at`, and its least number stands for it here.
 abbrev pub number_read : Form → Option Text → ℕ
 number_read (Number range) given =
     number_or range.default (number_in range.least range.most (Some range.default) given)
+number_read (OptionalNumber least most) given = least
 number_read FileName given = 0
 number_read (OneOf words) given = 0
 
 abbrev pub number_at : List Row → ValuedOption → ℕ
 number_at rows option = number_read (option_form option) (one_of (option_name option) rows)
+
+-- The number of an option without a default, if it is given. A value out of the range is refused,
+-- and no number stands for it here.
+abbrev pub optional_number_read : Form → Option Text → Option ℕ
+optional_number_read (OptionalNumber least most) given = number_in least most None given
+optional_number_read (Number range) given = None
+optional_number_read FileName given = None
+optional_number_read (OneOf words) given = None
+
+abbrev pub optional_number_at : List Row → ValuedOption → Option ℕ
+optional_number_at rows option =
+    optional_number_read (option_form option) (one_of (option_name option) rows)
 
 -- the text of an option, if it is given
 abbrev pub text_at : List Row → ValuedOption → Option Text
@@ -164,6 +181,16 @@ are_one_name _ _ = false
 abbrev pub is_journal_of_owners : Engine → (journal : Option Text) → Bool
 is_journal_of_owners Owners (Some name) = true
 is_journal_of_owners _ _ = false
+
+-- whether falling weights are asked for of the engine that has none
+abbrev pub is_falling_of_owners : Engine → (falling : Option ℕ) → Bool
+is_falling_of_owners Owners (Some steps) = true
+is_falling_of_owners _ _ = false
+
+-- whether a journal is asked for of a search with falling weights
+abbrev pub is_journal_of_falling : (falling : Option ℕ) → (journal : Option Text) → Bool
+is_journal_of_falling (Some steps) (Some name) = true
+is_journal_of_falling _ _ = false
 
 -- whether a file of the task has this name
 abbrev pub is_input_name : InputNames → Text → Bool

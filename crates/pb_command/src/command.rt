@@ -71,6 +71,18 @@ pub struct SolveCommand<'a> {
     pub journal: Option<&'a str>,
 }
 
+/// `solve KIND FILE [FILE] --falling S` and its other options: runs at falling weights over the
+/// same rows (Likhachev, Gordon and Thrun, "ARA*: Anytime A* with Provable Bounds on
+/// Sub-Optimality", 2004; Hansen and Zhou, "Anytime Heuristic Search", 2007).
+#[derive(Clone, Copy)]
+pub struct FallingCommand<'a> {
+    /// The task, and what the first run is run with. It is searched by leases, and no journal is
+    /// asked for.
+    pub solve: SolveCommand<'a>,
+    /// `--falling S`: in how many steps the weight falls to 1: 1 to 20.
+    pub steps: u64,
+}
+
 /// `check KIND CERT FILE [FILE]` and its options.
 #[derive(Clone, Copy)]
 pub struct CheckCommand<'a> {
@@ -118,6 +130,8 @@ pub struct MakeCommand {
 pub enum CommandLine<'a> {
     /// Search for a plan.
     Solve(SolveCommand<'a>),
+    /// Search for a plan, and then for better ones.
+    Falling(FallingCommand<'a>),
     /// Check a certificate.
     Check(CheckCommand<'a>),
     /// Check a journal.

@@ -86,6 +86,7 @@ pub fn loaded_files<'a>(
     let mut files = Vec::new(alloc);
     match command {
         CommandLine::Solve(solve) => push_input(&mut files, solve.input)?,
+        CommandLine::Falling(falling) => push_input(&mut files, falling.solve.input)?,
         CommandLine::Check(check) => {
             push_file(&mut files, record_file(check.certificate))?;
             push_input(&mut files, check.input)?;

@@ -1,5 +1,6 @@
 ghost use Rattle.pb_command.specs.Options.{SolveReadsOptions, LowWeightIsRefused, OneNameIsRefused};
-ghost use Rattle.pb_command.specs.Options.{JournalOfOwnersIsRefused};
+ghost use Rattle.pb_command.specs.Options.{JournalOfOwnersIsRefused, FallingReadsOptions};
+ghost use Rattle.pb_command.specs.Options.{FallingOfOwnersIsRefused, FallingWithJournalIsRefused};
 ghost use Rattle.pb_command.specs.Options.{CheckReadsOptions, LoadedNameIsRefused, JournalReadsOptions};
 ghost use Rattle.pb_command.specs.Options.{MakeReadsOptions, OtherSizeIsRefused};
 ghost use Rattle.pb_command.specs.Options.{OutOfRangeIsRefused, GivenTwiceIsRefused};
@@ -9,7 +10,7 @@ ghost use Rattle.pb_command.specs.Options.{EngineHasTwoWords};
 ghost use Rattle.pb_command.specs.Laws.{OneFileIsRefused, TwoBoardsAreRefused};
 ghost use Rattle.pb_command.specs.Laws.{DomainAloneIsRefused, OtherKindIsRefused};
 ghost use Rattle.pb_command.specs.Laws.{FilesComeBeforeWeight, WeightComesBeforeNames};
-ghost use Rattle.pb_command.specs.Laws.{NamesComeBeforeEngine};
+ghost use Rattle.pb_command.specs.Laws.{NamesComeBeforeEngine, EngineComesBeforeFalling};
 ghost use Rattle.pb_command.specs.Laws.{WeightOfOneHalfIsRefused};
 ghost use Rattle.pb_command.specs.Laws.{SideOfZeroIsRefused, SeedOutOfRangeIsRefused};
 
@@ -21,8 +22,8 @@ pub fn options_have_forms()
     ensures words { EngineHasTwoWords }
 {}
 
-/// The options and the flags give `solve` their values, anywhere among the kind and its files. An
-/// option that isn't given has its default.
+/// Without `--falling`, the options and the flags give `solve` their values, anywhere among the
+/// kind and its files. An option that isn't given has its default.
 pub fn solve_reads_options()
     ensures { SolveReadsOptions }
 {}
@@ -33,6 +34,19 @@ pub fn solve_tests_options()
     ensures weight { LowWeightIsRefused }
     ensures names { OneNameIsRefused }
     ensures engine { JournalOfOwnersIsRefused }
+{}
+
+/// With `--falling`, wherever it stands, they give a search at falling weights the same values, and
+/// `--falling` gives it the number of steps.
+pub fn falling_reads_options()
+    ensures { FallingReadsOptions }
+{}
+
+/// Wherever the options of `solve` stand, these are refused, each for its own fault: falling
+/// weights of a search by owners, and a journal of a search with falling weights.
+pub fn falling_tests_options()
+    ensures engine { FallingOfOwnersIsRefused }
+    ensures journal { FallingWithJournalIsRefused }
 {}
 
 /// `--row`, `--workers`, `--rewrite` and `--swamp` give `check` their values, anywhere among the
@@ -71,12 +85,13 @@ pub fn options_out_of_form_are_refused()
     ensures seed { SeedOutOfRangeIsRefused }
 {}
 
-/// The number of files is tested before the weight, the weight before the names, and the names
-/// before the engine.
+/// The number of files is tested before the weight, the weight before the names, the names before
+/// the engine, and the engine before the journal of falling weights.
 pub fn tests_come_in_order()
     ensures files { FilesComeBeforeWeight }
     ensures weight { WeightComesBeforeNames }
     ensures names { NamesComeBeforeEngine }
+    ensures engine { EngineComesBeforeFalling }
 {}
 
 /// Each of these is refused for its own fault: a grid with one file, tiles with two, a domain

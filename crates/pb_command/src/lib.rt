@@ -14,14 +14,14 @@ mod table;
 mod values;
 
 pub use command::{
-    CheckCommand, CommandLine, Engine, GridFiles, Input, InputOptions, JournalCommand, MakeCommand,
-    SolveCommand, StripsFiles,
+    CheckCommand, CommandLine, Engine, FallingCommand, GridFiles, Input, InputOptions,
+    JournalCommand, MakeCommand, SolveCommand, StripsFiles,
 };
 pub use files::{LoadedFile, loaded_files};
 pub use laws::{
-    check_reads_options, check_tests_options, faults_are_found, journal_reads_options,
-    make_reads_options, options_have_forms, options_out_of_form_are_refused, solve_reads_options,
-    solve_tests_options, tests_come_in_order,
+    check_reads_options, check_tests_options, falling_reads_options, falling_tests_options,
+    faults_are_found, journal_reads_options, make_reads_options, options_have_forms,
+    options_out_of_form_are_refused, solve_reads_options, solve_tests_options, tests_come_in_order,
 };
 pub use reader::read_words;
 pub use refusal::{CommandFault, CommandRefusal, Message};

@@ -94,6 +94,9 @@ fn option_arg<'a>(alloc: Global, option: ValuedOption) -> Arg<'a>
 {
     match option.form() {
         ValueForm::Number { least, most, .. } => number_option(alloc, option.name(), least, most),
+        ValueForm::OptionalNumber { least, most } => {
+            number_option(alloc, option.name(), least, most)
+        }
         ValueForm::FileName => text_option(alloc, option.name()),
         // The reader tests the word.
         ValueForm::OneOf(_, _) => text_option(alloc, option.name()),

@@ -1,9 +1,9 @@
 //! The words of the command line, read.
-ghost use Rattle.std.specs.Prelude.{◌≡◌, ◌≢◌, true, map, IfOk, IfErr};
+ghost use Rattle.std.specs.Prelude.{◌≡◌, ◌≢◌, true, map, IfOk, IfErr, IfSome};
 ghost use Rattle.std.specs.String.{string_bytes};
 ghost use Rattle.clap.specs.Words.{found_of, rows_of, kind_of, has_subcommand, subcommand_rows_of};
 ghost use Rattle.clap.specs.declared.error.kind.ErrorKind.TheVariants.{OutOfMemory};
-ghost use Rattle.pb_command.specs.declared.table.ValuedOption.TheVariants.{Row, Workers};
+ghost use Rattle.pb_command.specs.declared.table.ValuedOption.TheVariants.{Row, Workers, Falling};
 ghost use Rattle.pb_command.specs.Table.{IsInRangeOf};
 ghost use Rattle.pb_command.specs.Values.{number_at, flag_at};
 ghost use Rattle.pb_command.specs.Meaning.{reading_of_words, command_met, command_of, solve_of};
@@ -13,7 +13,8 @@ ghost use Rattle.pb_command.specs.Meaning.{Read, Refused, Solve, IsInRange};
 ghost use Rattle.pb_command.specs.Causes.{IsCause, Answers, meaning_of, solve_meant, check_meant};
 
 use crate::command::{
-    CheckCommand, CommandLine, InputOptions, JournalCommand, MakeCommand, SolveCommand,
+    CheckCommand, CommandLine, FallingCommand, InputOptions, JournalCommand, MakeCommand,
+    SolveCommand,
 };
 use crate::parser::program;
 use crate::refusal::{CommandFault, CommandRefusal, form_refusal, refuse};
@@ -21,8 +22,9 @@ use crate::table::{
     CHECK_OPTIONS, FlagOption, JOURNAL_OPTIONS, MAKE_OPTIONS, SOLVE_OPTIONS, ValuedOption,
 };
 use crate::values::{
-    SEED_MOST, SIZE_WORD_MOST, engine_at, flag_at, input_of, is_journal_of_owners, is_loaded_name,
-    is_one_name, is_size, known_kind, number, number_at, text, text_at, values_fit,
+    SEED_MOST, SIZE_WORD_MOST, engine_at, flag_at, input_of, is_falling_of_owners,
+    is_journal_of_falling, is_journal_of_owners, is_loaded_name, is_one_name, is_size, known_kind,
+    number, number_at, optional_number_at, text, text_at, values_fit,
 };
 use clap::{ArgMatches, Error};
 use pb_machine::Settings;
@@ -59,11 +61,16 @@ fn settings(matches: &ArgMatches<'_>) -> Settings
 }
 
 // The command, if its weight is at least 1, its two files have two names, and its engine keeps the
-// journal that is asked for.
-fn tested_solve<'a>(command: SolveCommand<'a>) -> Result<CommandLine<'a>, CommandFault>
+// journal and has the falling weights that are asked for. A search with falling weights keeps no
+// journal.
+fn tested_solve<'a>(
+    command: SolveCommand<'a>,
+    falling: Option<u64>,
+) -> Result<CommandLine<'a>, CommandFault>
     requires row { IsInRangeOf Row command.options.row }
     requires range { AreEachInRange command.settings }
-    ensures read { Answers meaning_of (solve_tested (solve_meant command.entry)) result }
+    requires steps { IfSome falling (IsInRangeOf Falling) }
+    ensures read { Answers meaning_of (solve_tested falling (solve_meant command.entry)) result }
     ensures ranges { IfOk result (λ c. IsInRange (meaning_of c)) }
 {
     if command.settings.num < command.settings.den {
@@ -75,7 +82,19 @@ fn tested_solve<'a>(command: SolveCommand<'a>) -> Result<CommandLine<'a>, Comman
     if is_journal_of_owners(command.engine, command.journal) {
         return Err(CommandFault::Engine);
     }
-    Ok(CommandLine::Solve(command))
+    if is_falling_of_owners(command.engine, falling) {
+        return Err(CommandFault::Engine);
+    }
+    if is_journal_of_falling(falling, command.journal) {
+        return Err(CommandFault::Falling);
+    }
+    match falling {
+        Some(steps) => Ok(CommandLine::Falling(FallingCommand {
+            solve: command,
+            steps,
+        })),
+        None => Ok(CommandLine::Solve(command)),
+    }
 }
 
 // What the values of `solve` ask for.
@@ -91,6 +110,7 @@ fn read_solve<'a>(matches: &ArgMatches<'a>) -> Result<CommandLine<'a>, CommandFa
     let engine = engine_at(matches);
     let certificate = text_at(matches, ValuedOption::Certificate);
     let journal = text_at(matches, ValuedOption::Journal);
+    let falling = optional_number_at(matches, ValuedOption::Falling);
     if !values_fit(matches, &SOLVE_OPTIONS) {
         return Err(CommandFault::Form);
     }
@@ -99,14 +119,17 @@ fn read_solve<'a>(matches: &ArgMatches<'a>) -> Result<CommandLine<'a>, CommandFa
     };
     match first {
         Some(first) => match input_of(kind, first, second) {
-            Some(input) => tested_solve(SolveCommand {
-                input,
-                options,
-                settings,
-                engine,
-                certificate,
-                journal,
-            }),
+            Some(input) => {
+                let command = SolveCommand {
+                    input,
+                    options,
+                    settings,
+                    engine,
+                    certificate,
+                    journal,
+                };
+                tested_solve(command, falling)
+            }
             None => Err(CommandFault::Files),
         },
         None => Err(CommandFault::Form),
@@ -275,7 +298,7 @@ fn parse<'a>(alloc: Global, words: &'a [String]) -> Result<ArgMatches<'a>, Error
 
 /// Reads the words after the program's name: the command that they are, or why they are none, with
 /// what is to be printed of it. The tests come in this order: the form, the kind, the number of
-/// files, the weight, the two names, the engine, the size.
+/// files, the weight, the two names, the engine, the journal of falling weights, the size.
 pub fn read_words<'a>(alloc: Global, words: &'a [String]) -> Result<CommandLine<'a>, CommandRefusal>
     ensures read { IfOk result (λ c. reading_of_words (map string_bytes words.entry.now)
         ≡ Read (meaning_of c)) }

@@ -29,9 +29,11 @@ pub enum CommandFault {
     Weight,
     /// The certificate and the journal would be saved under one name.
     Names,
-    /// A journal is asked for of a search by owners, which keeps none: `--engine hda` stands with
-    /// `--trace`.
+    /// A search by owners keeps no journal and has no falling weights: `--engine hda` stands with
+    /// `--trace` or with `--falling`.
     Engine,
+    /// A journal is asked for of a search with falling weights: `--falling` stands with `--trace`.
+    Falling,
     /// A made task of this kind can't have this size.
     Size,
 }
@@ -238,6 +240,7 @@ pub(crate) fn message_of(
         CommandFault::Weight => Message::of_line(alloc, "words weight"),
         CommandFault::Names => Message::of_line(alloc, "words names"),
         CommandFault::Engine => Message::of_line(alloc, "words engine"),
+        CommandFault::Falling => Message::of_line(alloc, "words falling"),
         CommandFault::Size => Message::of_line(alloc, "words size"),
     }
 }

@@ -1,7 +1,7 @@
 //! The options of all commands, in one table.
 ghost use Rattle.std.specs.Prelude.{◌≡◌, ◌≤◌, ◌∷◌, []};
 ghost use Rattle.pb_command.specs.Table.{engine_word, entry_of, file_name, flag_name, number};
-ghost use Rattle.pb_command.specs.Table.{option_form, option_name, word};
+ghost use Rattle.pb_command.specs.Table.{option_form, option_name, optional_number, word};
 ghost use Rattle.pb_command.specs.Values.{entry_meant, form_meant, HasDefault};
 
 use crate::command::Engine;
@@ -33,6 +33,8 @@ pub enum ValuedOption {
     Journal,
     /// `--rewrite NAME`: the name under which an accepted certificate is saved anew.
     Rewrite,
+    /// `--falling S`: in how many steps the weight of `solve` falls to 1.
+    Falling,
 }
 
 /// An option without a value.
@@ -49,6 +51,8 @@ pub enum FlagOption {
 pub(crate) enum ValueForm<'a> {
     // A whole number in a range, with the number if the option isn't given.
     Number { least: u64, most: u64, default: u64 },
+    // A whole number in a range; if the option isn't given, no number stands for it.
+    OptionalNumber { least: u64, most: u64 },
     // The name of a file.
     FileName,
     // One of two words.
@@ -63,7 +67,7 @@ pub(crate) struct TableEntry<'a> {
 }
 
 // The options of each command, in the order in which clap knows them.
-pub(crate) const SOLVE_OPTIONS: [ValuedOption; 11] = [
+pub(crate) const SOLVE_OPTIONS: [ValuedOption; 12] = [
     ValuedOption::Row,
     ValuedOption::Workers,
     ValuedOption::Engine,
@@ -75,6 +79,7 @@ pub(crate) const SOLVE_OPTIONS: [ValuedOption; 11] = [
     ValuedOption::Pattern,
     ValuedOption::Certificate,
     ValuedOption::Journal,
+    ValuedOption::Falling,
 ];
 
 pub(crate) const SOLVE_FLAGS: [FlagOption; 2] = [FlagOption::Plain, FlagOption::Swamp];
@@ -104,6 +109,18 @@ fn number<'a>(name: &'a str, least: u64, most: u64, default: u64) -> TableEntry<
             most,
             default,
         },
+    }
+}
+
+// An option with a number that has no default.
+fn optional_number<'a>(name: &'a str, least: u64, most: u64) -> TableEntry<'a>
+    requires { least ≤ most }
+    ensures entry { entry_meant result ≡ optional_number name.now least most }
+    ensures default { HasDefault result.form }
+{
+    TableEntry {
+        name,
+        form: ValueForm::OptionalNumber { least, most },
     }
 }
 
@@ -160,6 +177,7 @@ fn entry_of<'a>(option: ValuedOption) -> TableEntry<'a>
         ValuedOption::Certificate => file_name("cert"),
         ValuedOption::Journal => file_name("trace"),
         ValuedOption::Rewrite => file_name("rewrite"),
+        ValuedOption::Falling => optional_number("falling", 1, 20),
     }
 }
 

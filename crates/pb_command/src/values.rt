@@ -1,12 +1,13 @@
 //! What the values of a parse are.
-ghost use Rattle.std.specs.Prelude.{◌≡◌, ◌≤◌, false, None, IfSome, option_map};
+ghost use Rattle.std.specs.Prelude.{◌≡◌, ◌≤◌, false, None, Some, ℕ, IfSome, option_map};
 ghost use Rattle.clap.specs.Words.{first_of, found_of, one_of, rows_of};
 ghost use Rattle.pb_command.specs.Values.{number_in, flag_of, kind_of_text, input_of, is_size};
 ghost use Rattle.pb_command.specs.Values.{are_one_name, option_fits, values_fit, number_at};
-ghost use Rattle.pb_command.specs.Values.{text_at, flag_at, engine_at, is_input_name};
-ghost use Rattle.pb_command.specs.Values.{is_loaded_name, is_journal_of_owners};
+ghost use Rattle.pb_command.specs.Values.{optional_number_at, text_at, flag_at, engine_at};
+ghost use Rattle.pb_command.specs.Values.{is_input_name, is_loaded_name, is_journal_of_owners};
+ghost use Rattle.pb_command.specs.Values.{is_falling_of_owners, is_journal_of_falling};
 ghost use Rattle.pb_command.specs.Table.{IsInRangeOf};
-ghost use Rattle.pb_command.specs.declared.command.Engine.TheVariants.{Owners};
+ghost use Rattle.pb_command.specs.declared.command.Engine.TheVariants.{Leases, Owners};
 ghost use Rattle.pb_command.specs.Causes.{input_meant};
 
 use crate::command::{Engine, GridFiles, Input, StripsFiles};
@@ -76,6 +77,12 @@ fn fits(matches: &ArgMatches<'_>, option: ValuedOption) -> bool
             Some(_) => true,
             None => false,
         },
+        ValueForm::OptionalNumber { least, most } => {
+            match number(matches, option.name(), least, most, Some(least)) {
+                Some(_) => true,
+                None => false,
+            }
+        }
         ValueForm::FileName => true,
         ValueForm::OneOf(first, second) => match text_at(matches, option) {
             Some(word) => first == word || second == word,
@@ -108,8 +115,24 @@ pub(crate) fn number_at(matches: &ArgMatches<'_>, option: ValuedOption) -> u64
             Some(n) => n,
             None => default,
         },
+        ValueForm::OptionalNumber { least, .. } => least,
         ValueForm::FileName => 0,
         ValueForm::OneOf(_, _) => 0,
+    }
+}
+
+// The number of an option without a default, if it is given.
+pub(crate) fn optional_number_at(matches: &ArgMatches<'_>, option: ValuedOption) -> Option<u64>
+    ensures number { result ≡ optional_number_at (rows_of (found_of matches.now)) option }
+    ensures range { IfSome result (IsInRangeOf option) }
+{
+    match option.form() {
+        ValueForm::OptionalNumber { least, most } => {
+            number(matches, option.name(), least, most, None)
+        }
+        ValueForm::Number { .. } => None,
+        ValueForm::FileName => None,
+        ValueForm::OneOf(_, _) => None,
     }
 }
 
@@ -163,6 +186,30 @@ pub(crate) fn is_journal_of_owners(engine: Engine, journal: Option<&str>) -> boo
 {
     match (engine, journal) {
         (Engine::Owners, Some(_)) => true,
+        _ => false,
+    }
+}
+
+// Whether falling weights are asked for of the engine that has none.
+pub(crate) fn is_falling_of_owners(engine: Engine, falling: Option<u64>) -> bool
+    ensures test { result ≡ is_falling_of_owners engine falling }
+    ensures leases { (steps : ℕ) → result ≡ false → falling ≡ Some steps → engine ≡ Leases }
+{
+    match (engine, falling) {
+        (Engine::Owners, Some(_)) => true,
+        _ => false,
+    }
+}
+
+// Whether a journal is asked for of a search with falling weights.
+pub(crate) fn is_journal_of_falling(falling: Option<u64>, journal: Option<&str>) -> bool
+    ensures test { result
+        ≡ is_journal_of_falling falling (option_map (λ t. t.now) journal.entry) }
+    ensures none { (steps : ℕ) → result ≡ false → falling ≡ Some steps
+        → option_map (λ t. t.now) journal.entry ≡ None }
+{
+    match (falling, journal) {
+        (Some(_), Some(_)) => true,
         _ => false,
     }
 }

@@ -201,7 +201,7 @@ served_is status past (inl (inr (inr (inr (inr (inr k)))))) = absurd (omega (ari
 served_is status past (inr k) = inr k
 
 -- an answer that is none of the broken ones is that it is accepted
-accepts_it : (status : ℕ) → (status ≡ 0) ⊎ IsBroken status → AcceptsIt status
+pub accepts_it : (status : ℕ) → (status ≡ 0) ⊎ IsBroken status → AcceptsIt status
 accepts_it status (inl zero) = (inl zero, λ served. inl zero)
 accepts_it status (inr (inl memory)) = (inr (inl memory), λ served. inr memory)
 accepts_it status (inr (inr (inl shelf))) = (inr (inr (inl shelf)), served_is status (omega (arith, shelf)))
@@ -248,7 +248,8 @@ pub certificates_are_accepted_by_words : SolveReadsOptions → CheckReadsOptions
     → CertificatesAreAcceptedByWords
 certificates_are_accepted_by_words solve_reads check_reads input name file text arguments others solved checked matching same_swamp new named kept kept_too answered saved texts =
     certificate_by_words _ _ _ solved checked
-    (solve_reads input arguments matching.solve matching.weight matching.names matching.kept) kept
+    (solve_reads input arguments matching.solve matching.one_run matching.weight matching.names
+    matching.kept) kept
     kept_too _ name
     text (check_reads input file others matching.each matching.distinct matching.placed new) refl
     (ap₂ (λ row swamp. record { row = row; swamp = swamp }) matching.row same_swamp) named answered saved texts
@@ -269,7 +270,8 @@ pub journals_are_accepted_by_words : SavedJournalsAreAccepted → SolveReadsOpti
     → JournalReadsOptions → JournalsAreAcceptedByWords
 journals_are_accepted_by_words law solve_reads journal_reads input name file text arguments others solved judged matching named kept kept_too answered saved texts =
     journal_by_words _ _ _ solved judged
-    (solve_reads input arguments matching.solve matching.weight matching.names matching.kept) kept
+    (solve_reads input arguments matching.solve matching.one_run matching.weight matching.names
+    matching.kept) kept
     kept_too law (by_leases arguments name matching.kept named) _
     name text (journal_reads input file others matching.each matching.distinct matching.placed) refl
     (ap (λ row. record { row = row; swamp = false }) matching.row) named answered saved texts

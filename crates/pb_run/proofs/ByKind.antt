@@ -8,7 +8,7 @@ use Rattle.pb_grid.specs.Laws.{ReadAsSpelled}
 use Rattle.pb_tiles.specs.Laws.{ReadingsAreSpelled}
 use Rattle.pb_command.specs.declared.command.InputOptions.{InputOptions}
 use Rattle.pb_command.specs.Values.{InputNames, Grid, Tiles, Strips}
-use Rattle.pb_command.specs.Meaning.{Reading, Refused, Read, Solve, Check, Journal, Make, SolveMeaning}
+use Rattle.pb_command.specs.Meaning.{Reading, Refused, Read, Solve, Falling, Check, Journal, Make, SolveMeaning}
 use Rattle.pb_answer.specs.Answer.{Says, Saves}
 use Rattle.pb_answer.specs.Claims.{Solves}
 use Rattle.pb_answer.specs.Loaded.{input_task, OfTexts}
@@ -36,6 +36,7 @@ module _ (it : Outcome) where
       → (r : Reading) → IfSolve r (λ solve. SolveHolds solve it) → NoneMeansNone (record it { asked = r }) → IfSolve r P
   both P f (Refused fault) one none = tt
   both P f (Read (Solve solve)) one none = f solve one.one_plan (λ e. (none e).1)
+  both P f (Read (Falling falling)) one none = tt
   both P f (Read (Check check)) one none = tt
   both P f (Read (Journal journal)) one none = tt
   both P f (Read (Make make)) one none = tt
@@ -110,6 +111,7 @@ module _ (it : Outcome) where
     none = λ e. none_by_names it.texts solve (none e).1;
     accepted = tt;
   }
+  named (Read (Falling falling)) one none checks = record { plan = tt; none = tt; accepted = tt }
   named (Read (Check check)) one none checks = record {
     plan = tt;
     none = tt;

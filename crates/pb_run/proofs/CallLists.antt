@@ -129,6 +129,10 @@ pub record TellPartOf (saves : List Call) (outputs : List Output) : Type 0 where
 abbrev pub names_of : List Output → List (List ℕ)
 names_of outputs = map (λ (o : Output). o.name) outputs
 
+pub names_joined : (a b : List Output) → names_of (a ++ b) ≡ names_of a ++ names_of b
+names_joined [] b = refl
+names_joined (o ∷ a) b = ap (λ (ns : List (List ℕ)). o.name ∷ ns) (names_joined a b)
+
 pub failures_tell : (saves : List Call) (outputs : List Output) → FailToSaveAll saves outputs → TellPartOf saves outputs
 failures_tell saves [] is = absurd is
 failures_tell saves (first ∷ outputs) (inl (inl is)) = record {

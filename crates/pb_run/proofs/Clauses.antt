@@ -1,5 +1,5 @@
 -- The clauses of `run`, from how a call of the program goes.
-use Rattle.std.proofs.Common.{◌≡◌, ◌⊎◌, ◌↔◌, ◌∙◌, ℕ, ◌≤◌, IsTrue, false, Option, List, [], sym, subst}
+use Rattle.std.proofs.Common.{◌≡◌, ◌⊎◌, inl, inr, ◌↔◌, ◌∙◌, ℕ, ◌≤◌, IsTrue, false, Option, None, Some, List, [], sym, subst}
 use Rattle.pb_outside.specs.Outside.{Files, IfTold, KeepsAll, Rose}
 use Rattle.pb_outside.specs.Calls.{Call}
 use Rattle.pb_grid.specs.Laws.{ReadAsSpelled}
@@ -14,10 +14,27 @@ use Rattle.pb_run.specs.Outcome.{Outcome, outcome_by, outcome, IsAnswer}
 use Rattle.pb_run.specs.Headline.{PlanIsPlan, NoneIsCheaper, CertificateHolds, NoneMeansNone, StopHasCause}
 use Rattle.pb_run.specs.Kinds.{MapsHold, BoardsHold, NamedHolds}
 use Rattle.pb_run.specs.Commands.{SolvesHold, ChecksHold, JournalsHold, MakesHold, RefusalHolds}
-use Rattle.pb_run.specs.Served.{AnswersWhatFits, CanServe, IsAnswered, IsComplete}
+use Rattle.pb_run.specs.Served.{IsHandedOutIfItFits, AnswersWhatFits, CanServe, IsAnswered, IsComplete}
 use Rattle.pb_run.specs.Whole.{CallsHold, AnswersIfServed, BreaksOnlyBy, ContentsHold}
+use Rattle.pb_run.specs.FallingHeadline.{FallingsHold}
+use Rattle.pb_run.specs.FallingKinds.{FallingMapsHold, FallingBoardsHold, FallingNamedHold}
 use Rattle.pb_run.proofs.ByKind.{maps_hold, boards_hold, named_hold}
+use Rattle.pb_run.proofs.FallingHolds.{calls_give_falling}
+use Rattle.pb_run.proofs.FallingClauses as weights
+use Rattle.pb_run.proofs.Told as told
 use Rattle.pb_run.proofs.Doing as doing
+
+-- whatever is decided fits, so there is an answer, or memory ran out
+sure_if_it_fits : (reading : Reading) (n : ℕ) (files : Option Files) (can_load : List ℕ → Type 0) (can_hold : List ℕ → ℕ → Type 0) (can_take : ℕ → Type 0)
+    → AnswersWhatFits reading n files can_load can_hold can_take → CanServe reading files can_load can_hold can_take → IsAnswer n ⊎ (n ≡ 71)
+sure_if_it_fits reading n None can_load can_hold can_take fits can = absurd can
+sure_if_it_fits reading n (Some told_files) can_load can_hold can_take fits can = go (fits can.0)
+  where
+    go : IsHandedOutIfItFits reading told_files n can_hold can_take → IsAnswer n ⊎ (n ≡ 71)
+    go (inl is) = inr is
+    go (inr (texts, loads, inl all)) =
+        inl (subst IsAnswer (sym (all.if_they_fit (can.1 texts loads all.parts (inl (all.said, all.answers, all.parts_are))))) (told.known texts all.said reading all.answers))
+    go (inr (texts, loads, inr first)) = absurd (first.do_not_fit (can.1 texts loads first.parts (inr first.parts_are)))
 
 module _ (words : List (List ℕ)) (n : ℕ) (files files' : Option Files) (shelf shelf' sink sink' : List Call)
     (goes : Goes (reading_of_words words) n files files' shelf shelf' sink sink') (status : ℕ) (is : status ≡ n) where
@@ -65,6 +82,9 @@ module _ (words : List (List ℕ)) (n : ℕ) (files files' : Option Files) (shel
   pub make : MakesHold it
   make = promised MakesHold (doing.made asked)
 
+  pub falling : FallingsHold it
+  falling = promised FallingsHold (calls_give_falling asked)
+
   pub refused : ReadAsSpelled → ReadingsAreSpelled → RefusalHolds it
   refused maps boards = promised RefusalHolds (doing.refused maps boards asked)
 
@@ -79,6 +99,15 @@ module _ (words : List (List ℕ)) (n : ℕ) (files files' : Option Files) (shel
   pub named : NamedHolds it
   named = named_hold it solve none check
 
+  pub falling_maps : ReadAsSpelled → FallingMapsHold it
+  falling_maps law = weights.falling_maps law it falling
+
+  pub falling_boards : ReadingsAreSpelled → FallingBoardsHold it
+  falling_boards law = weights.falling_boards law it falling
+
+  pub falling_named : FallingNamedHold it
+  falling_named = weights.falling_named it falling
+
   -- ---- of every call
 
   pub calls : CallsHold words status shelf shelf' sink sink'
@@ -90,14 +119,15 @@ module _ (words : List (List ℕ)) (n : ℕ) (files files' : Option Files) (shel
     named = since (λ m own out. doing.AreNamed asked m own out) (λ by. doing.outputs_are_named asked n goes.0 goes.1 (does by));
   }
 
-  pub answered : (can_load : List ℕ → Type 0) (can_hold : List ℕ → ℕ → Type 0) (can_take : ℕ → Type 0) → (CanServe asked files can_load can_hold can_take → IsAnswer n ⊎ (n ≡ 71))
-      → AnswersWhatFits asked n files can_load can_hold can_take
+  pub answered : (can_load : List ℕ → Type 0) (can_hold : List ℕ → ℕ → Type 0) (can_take : ℕ → Type 0) → AnswersWhatFits asked n files can_load can_hold can_take
       → AnswersIfServed words status files can_load can_hold can_take
-  answered can_load can_hold can_take sure fits = record {
-    served = λ can. record {
-      complete = subst (λ (m : ℕ). IsComplete asked files m) (sym is) (doing.complete asked n goes.0 goes.1 files files' goes.4 (sure can));
-      answered = subst (λ (m : ℕ). IsAnswer m ⊎ (m ≡ 71)) (sym is) (sure can);
-    };
+  answered can_load can_hold can_take fits = record {
+    served = λ can.
+        let sure = sure_if_it_fits asked n files can_load can_hold can_take fits can in
+        record {
+          complete = subst (λ (m : ℕ). IsComplete asked files m) (sym is) (doing.complete asked n goes.0 goes.1 files files' goes.4 sure);
+          answered = subst (λ (m : ℕ). IsAnswer m ⊎ (m ≡ 71)) (sym is) sure;
+        };
     fits = subst (λ (m : ℕ). AnswersWhatFits asked m files can_load can_hold can_take) (sym is) fits;
   }
 
@@ -118,7 +148,7 @@ module _ (words : List (List ℕ)) (n : ℕ) (files files' : Option Files) (shel
     loaded = since (λ m own out. IsAnswer m → AreLoaded files (files_of asked) (loaded_texts own)) (λ by. doing.texts_loaded asked n goes.0 goes.1 files files' by);
     saved = since (λ m own out. IsAnswer m ⊎ ((m ≡ 71) ⊎ (m ≡ 74)) → IfTold files files' (SavesIn (outputs_in own))) (λ by. doing.files_saved asked n goes.0 goes.1 files files' by);
     kept = λ one. since (λ m own out. m ≡ 71 → IfTold files files' KeepsAll) (λ by. doing.files_kept asked n goes.0 goes.1 files files' one by);
-    left = since (λ m own out. m ≡ 73 → IfTold files files' (λ before after. KeepsAll before after ⊎ LeavesPart asked (loaded_texts own) before after))
+    left = since (λ m own out. m ≡ 73 → IfTold files files' (λ before after. (KeepsAll before after × (put_bytes out ≡ [])) ⊎ LeavesPart asked (loaded_texts own) (put_bytes out) before after))
         (λ by. doing.files_left asked n goes.0 goes.1 files files' by);
     others = doing.others_stay asked n goes.0 goes.1 files files' goes.4;
     printed = doing.puts_since written written' sink sink' puts;

@@ -25,10 +25,11 @@ use Rattle.pb_run.specs.Outcome.{Outcome, outcome_by, IfRefused, IsAnswer, IsBro
 use Rattle.pb_run.specs.Headline.{PlanIsPlan, NoneIsCheaper, CertificateHolds, NoneMeansNone, StopHasCause}
 use Rattle.pb_run.specs.Commands.{IsOfVerdict, SolvesHold, ChecksHold, JournalsHold, MakesHold, RefusalHolds}
 use Rattle.pb_run.specs.Served.{IsAnswered, IsComplete}
-use Rattle.pb_run.specs.Contents.{IsNoneOf, SavesIn, SavesPartIn, LeavesPart, KeepsUnnamed, TellsHands, GoesBy, Goes, WritesPut}
-use Rattle.pb_run.proofs.CallLists.{names_of, TellOf, TellPartOf, since_is, loads_tell, loads_save_none, loads_fail_none, loads_fail, ended_few, ended_no_fault, saves_tell, failures_tell}
+use Rattle.pb_run.specs.Contents.{IsNoneOf, SavesIn, SavesPartIn, SavesPartsIn, LeavesPart, KeepsUnnamed, TellsHands, GoesBy, Goes, WritesPut}
+use Rattle.pb_run.proofs.CallLists.{names_of, names_joined, TellOf, TellPartOf, since_is, loads_tell, loads_save_none, loads_fail_none, loads_fail, ended_few, ended_no_fault, saves_tell, failures_tell}
 use Rattle.pb_run.proofs.Some.{first_are_some, none_of_some}
-use Rattle.pb_run.proofs.Handed.{parts_tell, unsaved_tell, unput_tell, decided_named, none_before, unsaved_is_silent}
+use Rattle.pb_run.proofs.Parted.{all_outputs, all_report, none_are_first}
+use Rattle.pb_run.proofs.Handed.{parts_tell, unsaved_tell, unput_tell, parts_left, saved_in_part, first_parts_named, decided_named, none_before, unsaved_is_silent}
 use Rattle.pb_run.proofs.ByCommand.{if_solve, if_check, if_journal, if_make}
 use Rattle.pb_run.proofs.Told as told
 
@@ -103,8 +104,8 @@ module _ (reading : Reading) (n : ℕ) (shelf sink : List Call) where
         answered_texts a tell.none_loaded,
         λ i. record {
           status = h.status_is i;
-          report = ((parts_tell a.parts a.saves sink h.hands).printed ∙ sym h.parts_are.report) i;
-          outputs = (answered_outputs a ∙ tell.saved ∙ sym h.parts_are.outputs) i;
+          report = ((parts_tell a.parts a.saves sink h.hands).printed ∙ sym (all_report reading a.texts h.said a.parts h.parts_are)) i;
+          outputs = (answered_outputs a ∙ tell.saved ∙ sym (all_outputs reading a.texts h.said a.parts h.parts_are)) i;
         },
       )
 
@@ -297,10 +298,6 @@ module _ (reading : Reading) (n : ℕ) (shelf sink : List Call) where
       → AreSomeOf (names_of (outputs_of parts)) (saved_names reading) → AreSomeOf (names_of begun) (saved_names reading)
   first_named begun rest parts is due = first_are_some (names_of begun) rest (saved_names reading) (subst (λ (ns : List (List ℕ)). AreSomeOf ns (saved_names reading)) is due)
 
-  names_joined : (first rest : List Output) → names_of (first ++ rest) ≡ names_of first ++ names_of rest
-  names_joined [] rest = refl
-  names_joined (one ∷ first) rest = ap (λ (ns : List (List ℕ)). one.name ∷ ns) (names_joined first rest)
-
   -- of a part whose piece isn't put the files are saved
   unput_named : (a : HasAnswered reading n shelf sink) (f : BreaksOffPutting reading a.texts a.parts n a.saves sink)
       → AreSomeOf (names_of (unput_tell a.parts a.saves sink f.hands).first) (saved_names reading)
@@ -309,7 +306,7 @@ module _ (reading : Reading) (n : ℕ) (shelf sink : List Call) where
       first_named tell.first (names_of tell.rest) a.parts (ap names_of tell.outputs_are ∙ names_joined tell.first tell.rest) (decided_named reading a.texts a.parts f.decided)
 
   pub outputs_are_named : Does reading n shelf sink → AreNamed
-  outputs_are_named (inl out) = named_as (outputs_of out.parts) (out_outputs reading n shelf sink out) out.parts_are.named
+  outputs_are_named (inl out) = named_as (outputs_of out.parts) (out_outputs reading n shelf sink out) (first_parts_named reading out.texts out.parts out.parts_are)
   outputs_are_named (inr (inl failed)) = none_begun reading (outputs_in shelf) (no_outputs_failed failed)
   outputs_are_named (inr (inr a)) = go a.hands
     where
@@ -325,7 +322,7 @@ module _ (reading : Reading) (n : ℕ) (shelf sink : List Call) where
   -- ---- if one part is asked for
 
   pub nothing_saved : asks_one_part reading ≡ true → Does reading n shelf sink → n ≡ 71 → outputs_in shelf ≡ []
-  nothing_saved one (inl out) e = out_outputs reading n shelf sink out ∙ ap outputs_of (out.parts_are.none one)
+  nothing_saved one (inl out) e = out_outputs reading n shelf sink out ∙ ap outputs_of (none_are_first reading out.texts out.parts one out.parts_are)
   nothing_saved one (inr (inl failed)) e = no_outputs_failed failed
   nothing_saved one (inr (inr a)) e = go a.hands
     where
@@ -335,7 +332,7 @@ module _ (reading : Reading) (n : ℕ) (shelf sink : List Call) where
       go (inr (inr f)) = absurd (omega (arith, e, f.status_is))
 
   pub silent : asks_one_part reading ≡ true → Does reading n shelf sink → (n ≡ 71) ⊎ (n ≡ 73) → put_bytes sink ≡ []
-  silent one (inl out) e = ap put_bytes (none_before reading one out.parts out.saves sink out.parts_are out.hands).1
+  silent one (inl out) e = ap put_bytes (none_before reading one out.texts out.parts out.saves sink out.parts_are out.hands).1
   silent one (inr (inl failed)) e = ap put_bytes failed.sink_is
   silent one (inr (inr a)) e = go a.hands
     where
@@ -386,7 +383,7 @@ module _ (reading : Reading) (n : ℕ) (shelf sink : List Call) where
     pub files_kept : asks_one_part reading ≡ true → GoesBy reading n files files' shelf sink → n ≡ 71 → IfTold files files' KeepsAll
     files_kept one (inl (out, saved)) e =
         told_as files files' (SavesIn []) KeepsAll
-        (subst (λ (parts : List AnswerPart). IfTold files files' (SavesIn (outputs_of parts))) (out.parts_are.none one) saved)
+        (subst (λ (parts : List AnswerPart). IfTold files files' (SavesIn (outputs_of parts))) (none_are_first reading out.texts out.parts one out.parts_are) saved)
         (λ x y h. h)
     files_kept one (inr (inl (failed, kept))) e = kept
     files_kept one (inr (inr (a, loaded, hands))) e = go a.hands
@@ -396,18 +393,32 @@ module _ (reading : Reading) (n : ℕ) (shelf sink : List Call) where
         go (inr (inl f)) = absurd (omega (arith, e, f.status_is))
         go (inr (inr f)) = absurd (omega (arith, e, f.status_is))
 
-    pub files_left : GoesBy reading n files files' shelf sink → n ≡ 73 → IfTold files files' (λ before after. KeepsAll before after ⊎ LeavesPart reading (loaded_texts shelf) before after)
+    abbrev Left : Type 0
+    Left = IfTold files files' (λ before after. (KeepsAll before after × (put_bytes sink ≡ [])) ⊎ LeavesPart reading (loaded_texts shelf) (put_bytes sink) before after)
+
+    pub files_left : GoesBy reading n files files' shelf sink → n ≡ 73 → Left
     files_left (inl (out, saved)) e = absurd (omega (arith, e, out.status_is))
-    files_left (inr (inl (failed, kept))) e = told_as files files' KeepsAll _ kept (λ x y h. inl h)
+    files_left (inr (inl (failed, kept))) e = told_as files files' KeepsAll _ kept (λ x y h. inl (h, ap put_bytes failed.sink_is))
     files_left (inr (inr (a, loaded, hands))) e = go a.hands hands
       where
         go : (h : Handed reading n shelf sink a) → TellsHands reading a.texts a.parts n a.saves sink files files' h
-            → IfTold files files' (λ before after. KeepsAll before after ⊎ LeavesPart reading (loaded_texts shelf) before after)
+            → Left
         go (inl h) told_it = absurd (answer_not n (answer_is reading n shelf sink a h) (inr (inl e)))
         go (inr (inl f)) told_it =
             let texts_are = answered_texts reading n shelf sink a (unsaved_tells reading n shelf sink a f).none_loaded in
             let decided = subst (λ (ts : List (List ℕ)). AreDecided reading ts a.parts) (sym texts_are) f.decided in
-            told_as files files' (SavesPartIn (outputs_of a.parts)) _ told_it (λ x y part. inr (a.parts, decided, part))
+            told_as files files' (SavesPartsIn a.parts sink) _ told_it (λ x y saves.
+            let left = parts_left a.parts a.saves sink f.hands x y saves in
+            inr (record {
+              finished = left.finished;
+              next = left.next;
+              rest = left.rest;
+              decided = subst (λ (parts : List AnswerPart). AreDecided reading (loaded_texts shelf) parts) left.parts_are decided;
+              printed_is = left.printed;
+              between = left.between;
+              saved = left.saved;
+              part = left.part;
+            }))
         go (inr (inr f)) told_it = absurd (omega (arith, e, f.status_is))
 
     -- ---- files under other names
@@ -427,7 +438,7 @@ module _ (reading : Reading) (n : ℕ) (shelf sink : List Call) where
         (λ x y saves other none. stay_in outputs x y other (none_of_some (names_of outputs) (saved_names reading) other named none) saves)
 
     pub others_stay : GoesBy reading n files files' shelf sink → IfTold files files' (KeepsUnnamed reading)
-    others_stay (inl (out, saved)) = unnamed_stay (outputs_of out.parts) out.parts_are.named saved
+    others_stay (inl (out, saved)) = unnamed_stay (outputs_of out.parts) (first_parts_named reading out.texts out.parts out.parts_are) saved
     others_stay (inr (inl (failed, kept))) = told_as files files' KeepsAll (KeepsUnnamed reading) kept (λ x y h other none. h other)
     others_stay (inr (inr (a, loaded, hands))) = go a.hands hands
       where
@@ -435,8 +446,9 @@ module _ (reading : Reading) (n : ℕ) (shelf sink : List Call) where
         go (inl h) told_it = unnamed_stay (outputs_of a.parts) (decided_named reading a.texts a.parts (inl (h.said, h.answers, h.parts_are))) told_it
         go (inr (inl f)) told_it =
             let named = decided_named reading a.texts a.parts f.decided in
-            told_as files files' (SavesPartIn (outputs_of a.parts)) (KeepsUnnamed reading) told_it
-            (λ x y part other none. stay_in_part (outputs_of a.parts) x y other (none_of_some (names_of (outputs_of a.parts)) (saved_names reading) other named none) part)
+            told_as files files' (SavesPartsIn a.parts sink) (KeepsUnnamed reading) told_it
+            (λ x y saves other none. stay_in_part (outputs_of a.parts) x y other (none_of_some (names_of (outputs_of a.parts)) (saved_names reading) other named none)
+            (saved_in_part a.parts sink x y saves))
         go (inr (inr f)) told_it = unnamed_stay (outputs_in a.saves)
             (subst (λ (os : List Output). AreSomeOf (names_of os) (saved_names reading)) (sym (unput_tells reading n shelf sink a f).saved) (unput_named a f)) told_it
 

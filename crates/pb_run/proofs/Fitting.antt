@@ -9,8 +9,11 @@ use Rattle.pb_answer.specs.Answer.{Said}
 use Rattle.pb_answer.specs.Parts.{AnswerPart, outputs_of, report_of}
 use Rattle.pb_run.specs.Calls.{CanHold}
 use Rattle.pb_run.specs.Answers.{AnswersReading}
-use Rattle.pb_run.specs.Parted.{asks_one_part, whole_part, AreDecided}
+use Rattle.pb_answer.specs.FallingRuns.{part_of}
+use Rattle.pb_run.specs.Parted.{asks_one_part, AreDecided}
 use Rattle.pb_run.specs.Served.{CanTakeAll, PartsFit, CanHandOut}
+use Rattle.pb_run.specs.PartByPart.{StillFits}
+use Rattle.pb_run.proofs.Parted.{all_are_one, none_are_first}
 use Rattle.pb_run.proofs.Saving.{holds_first, holds_more}
 
 -- ---- parts one after another
@@ -37,13 +40,13 @@ takes_then old between new first second keeps then = λ n h.
 -- ---- one part
 
 module _ (can_hold : List ℕ → ℕ → Type 0) (can_take : ℕ → Type 0) (said : Said) where
-  pub whole_fits : CanHold can_hold said.outputs × can_take (length said.report) → PartsFit can_hold can_take (whole_part said ∷ [])
+  pub whole_fits : CanHold can_hold said.outputs × can_take (length said.report) → PartsFit can_hold can_take (part_of said ∷ [])
   whole_fits (holds, takes) = record {
     held = subst (λ (os : List Output). CanHold can_hold os) (sym (append-nil said.outputs)) holds;
     taken = (takes, tt);
   }
 
-  pub fits_whole : PartsFit can_hold can_take (whole_part said ∷ []) → CanHold can_hold said.outputs × can_take (length said.report)
+  pub fits_whole : PartsFit can_hold can_take (part_of said ∷ []) → CanHold can_hold said.outputs × can_take (length said.report)
   fits_whole fit = (subst (λ (os : List Output). CanHold can_hold os) (append-nil said.outputs) fit.held, fit.taken.0)
 
 pub one_part_fits : (reading : Reading) (texts : List (List ℕ)) (can_hold : List ℕ → ℕ → Type 0) (can_take : ℕ → Type 0) → asks_one_part reading ≡ true
@@ -51,8 +54,8 @@ pub one_part_fits : (reading : Reading) (texts : List (List ℕ)) (can_hold : Li
 one_part_fits reading texts can_hold can_take one fits = go
   where
     go : (parts : List AnswerPart) → AreDecided reading texts parts → PartsFit can_hold can_take parts
-    go parts (inl (said, answers, are)) = subst (λ (ps : List AnswerPart). PartsFit can_hold can_take ps) (sym (are.one one)) (whole_fits can_hold can_take said (fits said answers))
-    go parts (inr first) = subst (λ (ps : List AnswerPart). PartsFit can_hold can_take ps) (sym (first.none one)) (record { held = tt; taken = tt })
+    go parts (inl (said, answers, are)) = subst (λ (ps : List AnswerPart). PartsFit can_hold can_take ps) (sym (all_are_one reading texts said parts one are)) (whole_fits can_hold can_take said (fits said answers))
+    go parts (inr first) = subst (λ (ps : List AnswerPart). PartsFit can_hold can_take ps) (sym (none_are_first reading texts parts one first)) (record { held = tt; taken = tt })
 
 -- ---- the next part
 
@@ -72,3 +75,27 @@ next_fits before now old new parts part holds takes fit =
       still_held before now holds part.outputs own,
       takes (length part.report) (subst old (length-append (report_of parts) part.report) (taken_next old [] parts part fit.taken)),
     )
+
+-- ---- after one part more
+
+module _ (first before now : List ℕ → ℕ → Type 0) (old between new : ℕ → Type 0) (parts : List AnswerPart) (part : AnswerPart) where
+  pub still_fits : StillFits parts first before old between → KeepsHolds before now → KeepsTakes between new (length part.report) → StillFits (parts ++ part ∷ []) first now old new
+  still_fits still holds takes =
+      let whole : report_of (parts ++ part ∷ []) ≡ report_of parts ++ part.report =
+      report_joined parts (part ∷ []) ∙ ap (λ (text : List ℕ). report_of parts ++ text) (append-nil part.report) in
+      let long : length (report_of (parts ++ part ∷ [])) ≡ length (report_of parts) + length part.report = ap length whole ∙ length-append (report_of parts) part.report in
+      record {
+        holds = λ name n h. holds name n (still.holds name n h);
+        takes = subst (λ (k : ℕ). KeepsTakes old new k) (sym long) (takes_then old between new (length (report_of parts)) (length part.report) still.takes takes);
+      }
+
+pub nothing_used : (can_hold : List ℕ → ℕ → Type 0) (can_take : ℕ → Type 0) → StillFits [] can_hold can_hold can_take can_take
+nothing_used can_hold can_take = record { holds = λ name n h. h; takes = λ n h. subst can_take (none_more n) h }
+  where
+    none_more : (n : ℕ) → length (report_of []) + n ≡ n
+    none_more n = omega arith
+
+-- ---- what fits before the loads
+
+pub parts_still_fit : (before now : List ℕ → ℕ → Type 0) (can_take : ℕ → Type 0) → KeepsHolds before now → (parts : List AnswerPart) → PartsFit before can_take parts → PartsFit now can_take parts
+parts_still_fit before now can_take keeps parts fit = record { held = still_held before now keeps (outputs_of parts) fit.held; taken = fit.taken }

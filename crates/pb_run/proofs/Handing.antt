@@ -1,7 +1,7 @@
 -- The whole way of a call of the program, exit by exit.
-use Rattle.std.proofs.Common.{◌≡◌, ◌⊎◌, inl, inr, ℕ, ◌≤◌, Option, None, Some, IfSome, IsSome, List, [], ◌∷◌, ◌++◌, length, take, refl, sym, ap, subst, ◌∙◌, append_assoc, append-nil}
+use Rattle.std.proofs.Common.{◌≡◌, inl, inr, ℕ, ◌≤◌, Option, None, Some, IfSome, IsSome, List, [], ◌∷◌, ◌++◌, length, refl, sym, ap, ◌∙◌, append_assoc, append-nil}
 use Rattle.pb_outside.specs.Outside.{Files, IfTold, Appends, KeepsAll, KeepsOthers, KeepsHolds}
-use Rattle.pb_outside.specs.Calls.{Call, Put, PutFailed, IsNoFault}
+use Rattle.pb_outside.specs.Calls.{Call, IsNoFault}
 use Rattle.pb_outside.proofs.Callers.{told_then, told_both, told_as}
 use Rattle.pb_outside.specs.declared.shelf.Load.{Load}
 use Rattle.pb_outside.specs.declared.shelf.Load.TheVariants.{Failed}
@@ -12,27 +12,27 @@ use Rattle.pb_answer.specs.Statuses.{number_of}
 use Rattle.pb_answer.specs.Outputs.{output}
 use Rattle.pb_answer.specs.Parts.{AnswerPart, outputs_of}
 use Rattle.pb_run.specs.Calls.{outputs_in, load_calls, CanHold}
-use Rattle.pb_run.specs.Loads.{AreLoaded}
+use Rattle.pb_run.specs.Loads.{loads_of, AreLoaded}
 use Rattle.pb_answer.specs.Answer.{Said}
 use Rattle.pb_run.specs.Answers.{AnswersReading}
-use Rattle.pb_run.specs.Parted.{whole_part, AreAllParts, AreFirstParts, AreDecided}
+use Rattle.pb_answer.specs.FallingRuns.{part_of}
+use Rattle.pb_run.specs.Parted.{AreAllParts, AreFirstParts, AreDecided}
 use Rattle.pb_run.specs.Handing.{HandsOutParts}
 use Rattle.pb_run.specs.Course.{HasAnswered}
-use Rattle.pb_run.specs.Outcome.{IsAnswer}
-use Rattle.pb_run.specs.Served.{AnswersWhatFits, CanServe}
+use Rattle.pb_run.specs.Served.{PartsFit, HandsOutIfPartsFit, IsHandedOutIfItFits, AnswersWhatFits}
 use Rattle.pb_run.specs.Fit.{IfShelf, status_of}
-use Rattle.pb_run.specs.Contents.{SavesIn, SavesPartIn, LoadsAll, LoadsUpTo, Hands, HandsTold, Goes, WritesPut}
-use Rattle.pb_run.specs.PartByPart.{HandsParts}
+use Rattle.pb_run.specs.Contents.{SavesIn, SavesPartIn, SavesPartsIn, LoadsAll, LoadsUpTo, Hands, HandsTold, Goes, WritesPut}
+use Rattle.pb_run.specs.PartByPart.{HandsParts, EndsParts, HandsOutTexts}
+use Rattle.pb_run.specs.Begun.{IsOnePart}
 use Rattle.pb_run.specs.declared.load.Fault.{Fault}
 use Rattle.pb_run.specs.declared.load.Fault.TheVariants.{OutOfMemory, ShelfFailed}
 use Rattle.pb_run.specs.declared.output.Ending.{Ending}
 use Rattle.pb_run.specs.declared.output.Ending.TheVariants.{Done, NotSaved, NotPrinted}
 use Rattle.pb_run.proofs.CallLists.{ended_few, ended_no_fault}
-use Rattle.pb_run.proofs.Handed.{whole_parts}
-use Rattle.pb_run.proofs.Fitting.{still_held, fits_whole}
-use Rattle.pb_run.proofs.PartByPart.{one_done, one_not_saved, one_not_printed}
-use Rattle.pb_run.proofs.Saving.{after_kept, part_kept}
-use Rattle.pb_run.proofs.Told as told
+use Rattle.pb_run.proofs.Parted.{no_parts}
+use Rattle.pb_run.proofs.Fitting.{fits_whole, parts_still_fit}
+use Rattle.pb_run.proofs.PartByPart.{one_done, one_not_saved, one_not_printed, parts_kept}
+use Rattle.pb_run.proofs.Saving.{after_kept}
 
 -- ---- one file that is saved
 
@@ -55,10 +55,6 @@ writes_none written sink = ([], sym (append-nil sink), same written)
 
 -- ---- the exits
 
--- no part
-no_parts : (reading : Reading) → AreFirstParts reading []
-no_parts reading = record { named = tt; none = λ one. refl }
-
 module _ (reading : Reading) (files files' : Option Files) (shelf shelf' sink : List Call) where
   -- memory ran out before the first part
   goes_before : (texts : List (List ℕ)) (unloaded : Option Load) (n : ℕ) → n ≡ 71 → length texts ≤ length (files_of reading) → IfSome unloaded IsNoFault
@@ -77,7 +73,7 @@ module _ (reading : Reading) (files files' : Option Files) (shelf shelf' sink : 
             no_fault = no_fault;
             status_is = is;
             parts = [];
-            parts_are = no_parts reading;
+            parts_are = no_parts reading texts;
             loaded = inl refl;
             saves = [];
             shelf_is = sym (append-nil loads);
@@ -96,13 +92,6 @@ module _ (reading : Reading) (files files' : Option Files) (shelf shelf' sink : 
   goes_full texts n is (unloaded, ends, are) kept =
       goes_before texts unloaded n is (ended_few (files_of reading) texts unloaded ends) (ended_no_fault (files_of reading) texts unloaded ends) are kept
 
-pub sure_failed : (reading : Reading) (files : Option Files) (can_load : List ℕ → Type 0) (can_hold : List ℕ → ℕ → Type 0) (can_take : ℕ → Type 0) (fault : Fault) (n : ℕ) → n ≡ number_of (status_of fault)
-    → (CanLoad can_load (files_of reading) → IfShelf fault ⊥) → CanServe reading files can_load can_hold can_take → IsAnswer n ⊎ (n ≡ 71)
-sure_failed reading None can_load can_hold can_take fault n is sure can = absurd can
-sure_failed reading (Some told_files) can_load can_hold can_take OutOfMemory n is sure can = inr is
-sure_failed reading (Some told_files) can_load can_hold can_take ShelfFailed n is sure can = absurd (sure can.0)
-
--- the same of the one answer
 pub fits_failed : (reading : Reading) (files : Option Files) (can_load : List ℕ → Type 0) (can_hold : List ℕ → ℕ → Type 0) (can_take : ℕ → Type 0) (fault : Fault) (n : ℕ) → n ≡ number_of (status_of fault)
     → (CanLoad can_load (files_of reading) → IfShelf fault ⊥) → AnswersWhatFits reading n files can_load can_hold can_take
 fits_failed reading None can_load can_hold can_take fault n is sure = tt
@@ -133,7 +122,7 @@ module _ (reading : Reading) (files between files' : Option Files) (shelf mid sh
   handed n saves puts hands = record { texts = texts; unloaded = loads.0; ends = loads.1; parts = parts; saves = saves; shelf_is = refl; hands = hands }
 
   -- the parts of an answer were handed out
-  pub goes_whole : (said : Said) → AnswersReading reading texts said → AreAllParts reading said parts → (n : ℕ) → n ≡ said.status → To Done → Goes reading n files files' shelf shelf' sink sink'
+  goes_whole : (said : Said) → AnswersReading reading texts said → AreAllParts reading texts said parts → (n : ℕ) → n ≡ said.status → To Done → Goes reading n files files' shelf shelf' sink sink'
   goes_whole said answers parts_are n is to = (
     load_calls (files_of reading) texts loads.0 ++ to.saves,
     to.puts,
@@ -147,7 +136,7 @@ module _ (reading : Reading) (files between files' : Option Files) (shelf mid sh
   )
 
   -- a file of the part in hand wasn't saved
-  pub goes_unsaved : AreDecided reading texts parts → (n : ℕ) → n ≡ 73 → To NotSaved → Goes reading n files files' shelf shelf' sink sink'
+  goes_unsaved : AreDecided reading texts parts → (n : ℕ) → n ≡ 73 → To NotSaved → Goes reading n files files' shelf shelf' sink sink'
   goes_unsaved decided n is to = (
     load_calls (files_of reading) texts loads.0 ++ to.saves,
     to.puts,
@@ -156,12 +145,12 @@ module _ (reading : Reading) (files between files' : Option Files) (shelf mid sh
     inr (inr (
       handed n to.saves to.puts (inr (inl (record { status_is = is; decided = decided; hands = to.hands }))),
       are,
-      kept_then (SavesPartIn (outputs_of parts)) (part_kept (outputs_of parts)) to.told,
+      kept_then (SavesPartsIn parts to.puts) (parts_kept parts to.puts) to.told,
     )),
   )
 
   -- the piece of the part in hand wasn't put
-  pub goes_unput : AreDecided reading texts parts → (n : ℕ) → n ≡ 74 → To NotPrinted → Goes reading n files files' shelf shelf' sink sink'
+  goes_unput : AreDecided reading texts parts → (n : ℕ) → n ≡ 74 → To NotPrinted → Goes reading n files files' shelf shelf' sink sink'
   goes_unput decided n is to = (
     load_calls (files_of reading) texts loads.0 ++ to.saves,
     to.puts,
@@ -175,7 +164,7 @@ module _ (reading : Reading) (files between files' : Option Files) (shelf mid sh
   )
 
   -- memory ran out before the next part was decided
-  pub goes_between : AreFirstParts reading parts → (n : ℕ) → n ≡ 71 → To Done → Goes reading n files files' shelf shelf' sink sink'
+  goes_between : AreFirstParts reading texts parts → (n : ℕ) → n ≡ 71 → To Done → Goes reading n files files' shelf shelf' sink sink'
   goes_between first n is to = (
     load_calls (files_of reading) texts loads.0 ++ to.saves,
     to.puts,
@@ -199,106 +188,91 @@ module _ (reading : Reading) (files between files' : Option Files) (shelf mid sh
     ),
   )
 
--- what was written follows what was put
-pub writes_parts : (ending : Ending) (parts : List AnswerPart) (files files' : Option Files) (shelf shelf' sink sink' : List Call) (written written' : Option (List ℕ))
-    → HandsParts ending parts files files' shelf shelf' sink sink' written written' → WritesPut written written' sink sink'
-writes_parts ending parts files files' shelf shelf' sink sink' written written' to = (to.puts, to.sink_is, to.printed)
+  pub goes_by : (ending : Ending) (n : ℕ) → EndsParts reading texts ending parts n → To ending → Goes reading n files files' shelf shelf' sink sink'
+  goes_by Done n (inl (said, answers, parts_are, is)) to = goes_whole said answers parts_are n is to
+  goes_by Done n (inr (is, first)) to = goes_between first n is to
+  goes_by NotSaved n (is, decided) to = goes_unsaved decided n is to
+  goes_by NotPrinted n (is, decided) to = goes_unput decided n is to
 
--- ---- an answer is handed out in one part
+module _ (reading : Reading) (files between files' : Option Files) (shelf mid shelf' sink sink' : List Call) (written written' : Option (List ℕ)) (texts : List (List ℕ)) (n : ℕ) where
+  pub goes_handed : LoadsAll shelf mid (files_of reading) texts → AreLoaded files (files_of reading) texts → IfTold files between KeepsAll
+      → HandsOutTexts reading texts n between files' mid shelf' sink sink' written written' → Goes reading n files files' shelf shelf' sink sink'
+  goes_handed loads are kept it =
+      goes_by reading files between files' shelf mid shelf' sink sink' written written' texts loads are kept it.parts it.ending n it.ends it.hands
 
-module _ (reading : Reading) (files between files' : Option Files) (shelf mid shelf' sink sink' : List Call) (written written' : Option (List ℕ)) (texts : List (List ℕ)) (said : Said)
-    (loads : LoadsAll shelf mid (files_of reading) texts) (are : AreLoaded files (files_of reading) texts) (answers : AnswersReading reading texts said) (kept : IfTold files between KeepsAll) where
-  decided : AreDecided reading texts (whole_part said ∷ [])
-  decided = inl (said, answers, whole_parts reading said)
-
-  pub goes_done : (n : ℕ) → n ≡ said.status → Hands said Done mid shelf' sink sink' written written' → HandsTold said Done between files' → Goes reading n files files' shelf shelf' sink sink'
-  goes_done n is hands tells =
-      goes_whole reading files between files' shelf mid shelf' sink sink' written written' texts loads are kept (whole_part said ∷ []) said answers (whole_parts reading said) n is
-      (one_done said between files' mid shelf' sink sink' written written' hands tells)
-
-  pub goes_not_saved : (n : ℕ) → n ≡ 73 → Hands said NotSaved mid shelf' sink sink' written written' → HandsTold said NotSaved between files' → Goes reading n files files' shelf shelf' sink sink'
-  goes_not_saved n is hands tells =
-      goes_unsaved reading files between files' shelf mid shelf' sink sink' written written' texts loads are kept (whole_part said ∷ []) decided n is
-      (one_not_saved said between files' mid shelf' sink sink' written written' hands tells)
-
-  pub goes_not_printed : (n : ℕ) → n ≡ 74 → Hands said NotPrinted mid shelf' sink sink' written written' → HandsTold said NotPrinted between files' → Goes reading n files files' shelf shelf' sink sink'
-  goes_not_printed n is hands tells =
-      goes_unput reading files between files' shelf mid shelf' sink sink' written written' texts loads are kept (whole_part said ∷ []) decided n is
-      (one_not_printed said between files' mid shelf' sink sink' written written' hands tells)
-
-  -- the shelf can hold what is due, and the sink can take it
-  pub can_serve : (can_load : List ℕ → Type 0) (before now : List ℕ → ℕ → Type 0) (can_take : ℕ → Type 0) → KeepsHolds before now → CanServe reading files can_load before can_take
-      → IsSome between × CanHold now said.outputs × can_take (length said.report)
-  can_serve can_load before now can_take keeps can = go files between kept are can
+  -- what fits before the loads fits after them
+  pub fits_handed : AreLoaded files (files_of reading) texts → IfTold files between KeepsAll → (can_load : List ℕ → Type 0) (before now : List ℕ → ℕ → Type 0) (can_take : ℕ → Type 0) → KeepsHolds before now
+      → (IsSome between → HandsOutIfPartsFit reading texts n now can_take) → AnswersWhatFits reading n files can_load before can_take
+  fits_handed are kept can_load before now can_take keeps fits = go files between kept are fits
     where
-      go : (f b : Option Files) → IfTold f b KeepsAll → AreLoaded f (files_of reading) texts → CanServe reading f can_load before can_take → IsSome b × CanHold now said.outputs × can_take (length said.report)
-      go None b k l c = absurd c
-      go (Some x) None k l c = absurd k
-      go (Some x) (Some y) k l c =
-          let all = fits_whole before can_take said (c.1 texts l (whole_part said ∷ []) decided) in
-          (refl, still_held before now keeps said.outputs all.0, all.1)
-
-  -- the answer was handed out
-  pub fits_done : (can_load : List ℕ → Type 0) (can_hold : List ℕ → ℕ → Type 0) (can_take : ℕ → Type 0) (n : ℕ) → n ≡ said.status
-      → AnswersWhatFits reading n files can_load can_hold can_take
-  fits_done can_load can_hold can_take n is = go files are
-    where
-      go : (f : Option Files) → AreLoaded f (files_of reading) texts → AnswersWhatFits reading n f can_load can_hold can_take
-      go None l = tt
-      go (Some x) l = λ can. inr (
+      by : (told : Files) → loads_of told (files_of reading) ≡ Some texts → HandsOutIfPartsFit reading texts n now can_take → IsHandedOutIfItFits reading told n before can_take
+      by told loads (inl is) = inl is
+      by told loads (inr (inl all)) = inr (
         texts,
-        l,
+        loads,
         inl (record {
-          said = said;
-          answers = answers;
-          parts = whole_part said ∷ [];
-          parts_are = whole_parts reading said;
-          if_they_fit = λ fit. is;
+          said = all.said;
+          answers = all.answers;
+          parts = all.parts;
+          parts_are = all.parts_are;
+          if_they_fit = λ fit. all.if_they_fit (parts_still_fit before now can_take keeps all.parts fit);
+        }),
+      )
+      by told loads (inr (inr first)) = inr (
+        texts,
+        loads,
+        inr (record {
+          broke = first.broke;
+          parts = first.parts;
+          parts_are = first.parts_are;
+          do_not_fit = λ fit. first.do_not_fit (parts_still_fit before now can_take keeps first.parts fit);
         }),
       )
 
-  -- it wasn't, so the shelf couldn't hold it, or the sink couldn't take it
-  pub fits_not : (can_load : List ℕ → Type 0) (before now : List ℕ → ℕ → Type 0) (can_take : ℕ → Type 0) (n : ℕ) → KeepsHolds before now
-      → (IsSome between → CanHold now said.outputs → can_take (length said.report) → ⊥)
-      → AnswersWhatFits reading n files can_load before can_take
-  fits_not can_load before now can_take n keeps never = go files between kept are never
-    where
-      go : (f b : Option Files) → IfTold f b KeepsAll → AreLoaded f (files_of reading) texts
-          → (IsSome b → CanHold now said.outputs → can_take (length said.report) → ⊥)
+      go : (f b : Option Files) → IfTold f b KeepsAll → AreLoaded f (files_of reading) texts → (IsSome b → HandsOutIfPartsFit reading texts n now can_take)
           → AnswersWhatFits reading n f can_load before can_take
-      go None b k l never = tt
-      go (Some x) None k l never = absurd k
-      go (Some x) (Some y) k l never =
-          λ can. inr (
-            texts,
-            l,
-            inl (record {
-              said = said;
-              answers = answers;
-              parts = whole_part said ∷ [];
-              parts_are = whole_parts reading said;
-              if_they_fit = λ fit.
-                  let all = fits_whole before can_take said fit in
-                  absurd (never refl (still_held before now keeps said.outputs all.0) all.1);
-            }),
-          )
+      go None b k l fit = tt
+      go (Some x) None k l fit = absurd k
+      go (Some x) (Some y) k l fit = λ can. by x l (fit refl)
 
-  pub known_answer : (n : ℕ) → n ≡ said.status → IsAnswer n ⊎ (n ≡ 71)
-  known_answer n is = inl (subst IsAnswer (sym is) (told.known texts said reading answers))
+-- ---- an answer is handed out in one part
 
--- ---- what was written
+module _ (reading : Reading) (texts : List (List ℕ)) (said : Said) (answer : IsOnePart reading texts said) where
+  module _ (files files' : Option Files) (shelf shelf' sink sink' : List Call) (written written' : Option (List ℕ)) where
+    abbrev HandsOut : ℕ → Type 0
+    HandsOut n = HandsOutTexts reading texts n files files' shelf shelf' sink sink' written written'
 
-pub writes_done : (said : Said) (shelf shelf' sink sink' : List Call) (written written' : Option (List ℕ)) → Hands said Done shelf shelf' sink sink' written written' → WritesPut written written' sink sink'
-writes_done said shelf shelf' sink sink' written written' (saved, noted, told_it) =
-    (Put said.report ∷ [], noted, subst (λ t. IfTold written written' (λ before after. Appends before after t)) (sym (append-nil said.report)) told_it)
+    pub hands_done : (n : ℕ) → n ≡ said.status → Hands said Done shelf shelf' sink sink' written written' → HandsTold said Done files files' → HandsOut n
+    hands_done n is hands tells = record {
+      ending = Done;
+      parts = part_of said ∷ [];
+      hands = one_done said files files' shelf shelf' sink sink' written written' hands tells;
+      ends = inl (said, answer.0, answer.1, is);
+    }
 
-pub writes_not_saved : (said : Said) (shelf shelf' sink sink' : List Call) (written written' : Option (List ℕ)) → Hands said NotSaved shelf shelf' sink sink' written written' → WritesPut written written' sink sink'
-writes_not_saved said shelf shelf' sink sink' written written' (saved, same, told_it) = (
-  [],
-  same ∙ sym (append-nil sink),
-  told_as written written' (λ before after. after ≡ before) (λ before after. Appends before after []) told_it (λ before after is. is ∙ sym (append-nil before)),
-)
+    pub hands_not_saved : Hands said NotSaved shelf shelf' sink sink' written written' → HandsTold said NotSaved files files' → HandsOut 73
+    hands_not_saved hands tells = record {
+      ending = NotSaved;
+      parts = part_of said ∷ [];
+      hands = one_not_saved said files files' shelf shelf' sink sink' written written' hands tells;
+      ends = (refl, inl (said, answer.0, answer.1));
+    }
 
-pub writes_part : (said : Said) (shelf shelf' sink sink' : List Call) (written written' : Option (List ℕ)) → Hands said NotPrinted shelf shelf' sink sink' written written' → WritesPut written written' sink sink'
-writes_part said shelf shelf' sink sink' written written' (saved, failed) =
-    (PutFailed said.report failed.kept ∷ [], failed.noted, subst (λ t. IfTold written written' (λ before after. Appends before after t)) (sym (append-nil (take failed.kept said.report))) failed.told)
+    pub hands_not_printed : Hands said NotPrinted shelf shelf' sink sink' written written' → HandsTold said NotPrinted files files' → HandsOut 74
+    hands_not_printed hands tells = record {
+      ending = NotPrinted;
+      parts = part_of said ∷ [];
+      hands = one_not_printed said files files' shelf shelf' sink sink' written written' hands tells;
+      ends = (refl, inl (said, answer.0, answer.1));
+    }
+
+  module _ (n : ℕ) (can_hold : List ℕ → ℕ → Type 0) (can_take : ℕ → Type 0) where
+    if_fits : (PartsFit can_hold can_take (part_of said ∷ []) → n ≡ said.status) → HandsOutIfPartsFit reading texts n can_hold can_take
+    if_fits fits = inr (inl (record { said = said; answers = answer.0; parts = part_of said ∷ []; parts_are = answer.1; if_they_fit = fits }))
+
+    pub one_fits : n ≡ said.status → HandsOutIfPartsFit reading texts n can_hold can_take
+    one_fits is = if_fits (λ fit. is)
+
+    -- it wasn't handed out, so the shelf couldn't hold it, or the sink couldn't take it
+    pub one_fits_not : (CanHold can_hold said.outputs → can_take (length said.report) → ⊥) → HandsOutIfPartsFit reading texts n can_hold can_take
+    one_fits_not never = if_fits (λ fit. let all = fits_whole can_hold can_take said fit in absurd (never all.0 all.1))

@@ -55,6 +55,7 @@ module _ (shelf : ShelfView) (sink : SinkView) (listed : shelf.calls.listed ≡ 
         texts,
         loaded,
         inr (record {
+          broke = it.broke;
           parts = it.parts;
           parts_are = it.parts_are;
           do_not_fit = λ fit. it.do_not_fit (parts_fit it.parts fit);

@@ -1,22 +1,22 @@
 -- Parts that are handed out one after another: none, one, and one after others.
 use Rattle.std.proofs.Common.{◌≡◌, inl, inr, ℕ, Option, None, Some, List, [], ◌∷◌, ◌++◌, take, refl, sym, ap, subst, ◌∙◌, append_assoc, append-nil}
-use Rattle.pb_outside.specs.Outside.{Files, IfTold, Appends}
+use Rattle.pb_outside.specs.Outside.{Files, IfTold, Appends, KeepsAll}
 use Rattle.pb_outside.specs.Calls.{Call, Put, PutFailed}
 use Rattle.pb_outside.proofs.Callers.{told_then, told_as}
 use Rattle.pb_answer.specs.Outputs.{Output}
 use Rattle.pb_answer.specs.Answer.{Said}
 use Rattle.pb_answer.specs.Parts.{AnswerPart, outputs_of}
 use Rattle.pb_run.specs.Calls.{outputs_in, put_bytes}
-use Rattle.pb_run.specs.Parted.{whole_part}
+use Rattle.pb_answer.specs.FallingRuns.{part_of}
 use Rattle.pb_run.specs.Handing.{HandsOutAll, FailsInSaves, FailsInPuts}
-use Rattle.pb_run.specs.Contents.{SavesIn, SavesPartIn, Hands, HandsTold}
+use Rattle.pb_run.specs.Contents.{SavesIn, SavesPartIn, SavesPartsIn, Hands, HandsTold}
 use Rattle.pb_run.specs.PartByPart.{HandsUpTo, SavesUpTo, HandsParts}
 use Rattle.pb_run.specs.declared.output.Ending.{Ending}
 use Rattle.pb_run.specs.declared.output.Ending.TheVariants.{Done, NotSaved, NotPrinted}
 use Rattle.pb_run.proofs.CallLists.{saves_tell}
 use Rattle.pb_run.proofs.Handed.{parts_tell, unput_tell}
 use Rattle.pb_run.proofs.Fitting.{outputs_joined}
-use Rattle.pb_run.proofs.Saving.{save_joined, told_saved, told_part}
+use Rattle.pb_run.proofs.Saving.{save_joined, told_saved, in_split, after_kept, part_kept}
 
 -- ---- no part
 
@@ -31,7 +31,7 @@ hands_none files shelf sink written = record {
   printed = same written;
 }
   where
-    kept : (f : Option Files) → IfTold f f (SavesUpTo Done [] [])
+    kept : (f : Option Files) → IfTold f f (SavesUpTo Done [] [] [])
     kept None = tt
     kept (Some told) = λ name. refl
 
@@ -43,7 +43,7 @@ hands_none files shelf sink written = record {
 
 module _ (said : Said) (files files' : Option Files) (shelf shelf' sink sink' : List Call) (written written' : Option (List ℕ)) where
   abbrev One : Ending → Type 0
-  One ending = HandsParts ending (whole_part said ∷ []) files files' shelf shelf' sink sink' written written'
+  One ending = HandsParts ending (part_of said ∷ []) files files' shelf shelf' sink sink' written written'
 
   pub one_done : Hands said Done shelf shelf' sink sink' written written' → HandsTold said Done files files' → One Done
   one_done ((saves, saved, save), noted, told_it) tells = record {
@@ -52,7 +52,7 @@ module _ (said : Said) (files files' : Option Files) (shelf shelf' sink sink' : 
     shelf_is = saved;
     sink_is = noted;
     hands = ([], [], record { own = saves; saves_are = sym (append-nil saves); saved = save; sink_is = refl }, (refl, refl));
-    told = told_as files files' (SavesIn said.outputs) (SavesUpTo Done (whole_part said ∷ []) saves) tells
+    told = told_as files files' (SavesIn said.outputs) (SavesUpTo Done (part_of said ∷ []) saves (Put said.report ∷ [])) tells
         (λ x y h. subst (λ (os : List Output). SavesIn os x y) (sym (append-nil said.outputs)) h);
     printed = told_as written written' (λ before after. Appends before after said.report) (λ before after. Appends before after (said.report ++ [])) told_it
         (λ x y h. h ∙ ap (λ (text : List ℕ). x ++ text) (sym (append-nil said.report)));
@@ -65,8 +65,7 @@ module _ (said : Said) (files files' : Option Files) (shelf shelf' sink sink' : 
     shelf_is = saved;
     sink_is = same ∙ sym (append-nil sink);
     hands = inl (save, refl);
-    told = told_as files files' (SavesPartIn said.outputs) (SavesUpTo NotSaved (whole_part said ∷ []) saves) tells
-        (λ x y h. subst (λ (os : List Output). SavesPartIn os x y) (sym (append-nil said.outputs)) h);
+    told = told_as files files' (SavesPartIn said.outputs) (SavesUpTo NotSaved (part_of said ∷ []) saves []) tells (λ x y h. h);
     printed = told_as written written' (λ before after. after ≡ before) (λ before after. Appends before after []) told_it
         (λ x y h. h ∙ sym (append-nil x));
   }
@@ -78,12 +77,19 @@ module _ (said : Said) (files files' : Option Files) (shelf shelf' sink sink' : 
     shelf_is = saved;
     sink_is = failed.noted;
     hands = inl (save, record { kept = failed.kept; within = failed.within; sink_is = refl });
-    told = told_as files files' (SavesIn said.outputs) (SavesUpTo NotPrinted (whole_part said ∷ []) saves) tells
+    told = told_as files files' (SavesIn said.outputs) (SavesUpTo NotPrinted (part_of said ∷ []) saves (PutFailed said.report failed.kept ∷ [])) tells
         (λ x y h. subst (λ (os : List Output). SavesIn os x y) (sym (saves_tell saves said.outputs save).saved) h);
     printed = told_as written written' (λ before after. after ≡ before ++ take failed.kept said.report)
         (λ before after. Appends before after (take failed.kept said.report ++ [])) failed.told
         (λ x y h. h ∙ ap (λ (text : List ℕ). x ++ text) (sym (append-nil (take failed.kept said.report))));
   }
+
+-- ---- parts of which the last is saved in part
+
+pub parts_kept : (parts : List AnswerPart) (puts : List Call) (x y z : Files) → KeepsAll x y → SavesPartsIn parts puts y z → SavesPartsIn parts puts x z
+parts_kept [] puts x y z kept saves = saves
+parts_kept (part ∷ parts) [] x y z kept saves = part_kept part.outputs x y z kept saves
+parts_kept (part ∷ parts) (put ∷ puts) x y z kept (between, own, later) = (between, after_kept part.outputs x y between kept own, later)
 
 -- ---- parts after others: the calls
 
@@ -159,20 +165,29 @@ module _ (more : List AnswerPart) (saves' puts' : List Call) where
       (saves_tell (saves ++ saves') (outputs_of parts ++ tell.first) both).saved
       ∙ ap (λ (os : List Output). outputs_of parts ++ os) (sym (saves_tell saves' tell.first tell.saved).saved)
 
+  -- the files of the parts before, and then those of the others up to one
+  parts_joined : (parts : List AnswerPart) (saves puts : List Call) → HandsOutAll parts saves puts → (x y z : Files) → SavesIn (outputs_of parts) x y → SavesPartsIn more puts' y z
+      → SavesPartsIn (parts ++ more) (puts ++ puts') x z
+  parts_joined [] saves puts (no_saves, no_puts) x y z kept later =
+      subst (λ (calls : List Call). SavesPartsIn more (calls ++ puts') x z) (sym no_puts) (parts_kept more puts' x y z kept later)
+  parts_joined (part ∷ parts) saves puts (rest, left, one, others) x y z saved later =
+      let split = in_split part.outputs (outputs_of parts) x y saved in
+      subst (λ (calls : List Call). SavesPartsIn (part ∷ (parts ++ more)) (calls ++ puts') x z) (sym one.sink_is)
+      (split.0, split.1, parts_joined parts rest left others split.0 y z split.2 later)
+
   module _ (files between files' : Option Files) where
     pub files_then : (ending : Ending) (parts : List AnswerPart) (saves puts : List Call) → HandsOutAll parts saves puts → HandsUpTo ending more saves' puts'
-        → IfTold files between (SavesUpTo Done parts saves) → IfTold between files' (SavesUpTo ending more saves')
-        → IfTold files files' (SavesUpTo ending (parts ++ more) (saves ++ saves'))
+        → IfTold files between (SavesUpTo Done parts saves puts) → IfTold between files' (SavesUpTo ending more saves' puts')
+        → IfTold files files' (SavesUpTo ending (parts ++ more) (saves ++ saves') (puts ++ puts'))
     files_then Done parts saves puts all hands first second =
-        told_as files files' (SavesIn (outputs_of parts ++ outputs_of more)) (SavesUpTo Done (parts ++ more) (saves ++ saves'))
+        told_as files files' (SavesIn (outputs_of parts ++ outputs_of more)) (SavesUpTo Done (parts ++ more) (saves ++ saves') (puts ++ puts'))
         (told_saved (outputs_of parts) (outputs_of more) files between files' first second)
         (λ x y h. subst (λ (os : List Output). SavesIn os x y) (sym (outputs_joined parts more)) h)
     files_then NotSaved parts saves puts all hands first second =
-        told_as files files' (SavesPartIn (outputs_of parts ++ outputs_of more)) (SavesUpTo NotSaved (parts ++ more) (saves ++ saves'))
-        (told_part (outputs_of parts) (outputs_of more) files between files' first second)
-        (λ x y h. subst (λ (os : List Output). SavesPartIn os x y) (sym (outputs_joined parts more)) h)
+        told_then files between files' (SavesIn (outputs_of parts)) (SavesPartsIn more puts') (SavesPartsIn (parts ++ more) (puts ++ puts')) first second
+        (parts_joined parts saves puts all)
     files_then NotPrinted parts saves puts all hands first second =
-        told_as files files' (SavesIn (outputs_of parts ++ outputs_in saves')) (SavesUpTo NotPrinted (parts ++ more) (saves ++ saves'))
+        told_as files files' (SavesIn (outputs_of parts ++ outputs_in saves')) (SavesUpTo NotPrinted (parts ++ more) (saves ++ saves') (puts ++ puts'))
         (told_saved (outputs_of parts) (outputs_in saves') files between files' first second)
         (λ x y h. subst (λ (os : List Output). SavesIn os x y) (sym (outputs_then parts saves puts all hands)) h)
 

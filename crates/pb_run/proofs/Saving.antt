@@ -61,15 +61,21 @@ part_kept (first ∷ outputs) x y z kept (inl (inl same, others)) = inl (inl (sa
 part_kept (first ∷ outputs) x y z kept (inl (inr part, others)) = inl (inr part, λ other apart. others other apart ∙ kept other)
 part_kept (first ∷ outputs) x y z kept (inr (between, here, others, more)) = inr (between, here, λ other apart. others other apart ∙ kept other, more)
 
-in_joined : (outputs more : List Output) (x y z : Files) → SavesIn outputs x y → SavesIn more y z → SavesIn (outputs ++ more) x z
+pub in_joined : (outputs more : List Output) (x y z : Files) → SavesIn outputs x y → SavesIn more y z → SavesIn (outputs ++ more) x z
 in_joined [] more x y z kept saves = after_kept more x y z kept saves
 in_joined (first ∷ outputs) more x y z (between, here, others, later) saves = (between, here, others, in_joined outputs more between y z later saves)
 
-part_joined : (outputs more : List Output) (x y z : Files) → SavesIn outputs x y → SavesPartIn more y z → SavesPartIn (outputs ++ more) x z
+pub part_joined : (outputs more : List Output) (x y z : Files) → SavesIn outputs x y → SavesPartIn more y z → SavesPartIn (outputs ++ more) x z
 part_joined [] more x y z kept saves = part_kept more x y z kept saves
 part_joined (first ∷ outputs) more x y z (between, here, others, later) saves = inr (between, here, others, part_joined outputs more between y z later saves)
 
-part_first : (outputs more : List Output) (x y : Files) → SavesPartIn outputs x y → SavesPartIn (outputs ++ more) x y
+pub in_split : (outputs more : List Output) (x y : Files) → SavesIn (outputs ++ more) x y → (between : Files) × SavesIn outputs x between × SavesIn more between y
+in_split [] more x y saves = (x, λ name. refl, saves)
+in_split (first ∷ outputs) more x y (between, here, others, later) =
+    let rest = in_split outputs more between y later in
+    (rest.0, (between, here, others, rest.1), rest.2)
+
+pub part_first : (outputs more : List Output) (x y : Files) → SavesPartIn outputs x y → SavesPartIn (outputs ++ more) x y
 part_first [] more x y saves = absurd saves
 part_first (first ∷ outputs) more x y (inl part) = inl part
 part_first (first ∷ outputs) more x y (inr (between, here, others, later)) = inr (between, here, others, part_first outputs more between y later)
@@ -77,9 +83,6 @@ part_first (first ∷ outputs) more x y (inr (between, here, others, later)) = i
 module _ (outputs more : List Output) (old mid new : Option Files) where
   pub told_saved : IfTold old mid (SavesIn outputs) → IfTold mid new (SavesIn more) → IfTold old new (SavesIn (outputs ++ more))
   told_saved saved saves = told_then old mid new (SavesIn outputs) (SavesIn more) (SavesIn (outputs ++ more)) saved saves (in_joined outputs more)
-
-  pub told_part : IfTold old mid (SavesIn outputs) → IfTold mid new (SavesPartIn more) → IfTold old new (SavesPartIn (outputs ++ more))
-  told_part saved saves = told_then old mid new (SavesIn outputs) (SavesPartIn more) (SavesPartIn (outputs ++ more)) saved saves (part_joined outputs more)
 
 pub told_first : (outputs more : List Output) (old new : Option Files) → IfTold old new (SavesPartIn outputs) → IfTold old new (SavesPartIn (outputs ++ more))
 told_first outputs more old new saves = told_as old new (SavesPartIn outputs) (SavesPartIn (outputs ++ more)) saves (part_first outputs more)

@@ -93,7 +93,7 @@ module _ (solve : SolveMeaning) (ran : Outcome) (name text : List ℕ)
       let found = none_of solve ran is certified one in states found.0 None found.1 found.2
 
 pub certificates_state_their_pattern : SolveReadsOptions → CertificatesStateTheirPattern
-certificates_state_their_pattern reads input name text arguments solved are weight names journal named kept answered saved =
-    let asked = kept.asked ∙ reads input arguments are weight names journal in
+certificates_state_their_pattern reads input name text arguments solved are one_run weight names journal named kept answered saved =
+    let asked = kept.asked ∙ reads input arguments are one_run weight names journal in
     either _ solved name text named saved answered asked
     (subst (λ (r : Reading). IfSolve r (λ s. SolveHolds s solved)) asked kept.solve) kept.certified

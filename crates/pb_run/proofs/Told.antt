@@ -1,5 +1,5 @@
 -- What is answered of the words and of the texts that were loaded, promise by promise.
-use Rattle.std.proofs.Common.{◌≡◌, ◌≢◌, ◌⊎◌, inl, inr, ℕ, Option, None, Some, List, [], ◌∷◌, ◌++◌, map, Result, Ok, Err, refl, sym, ap, subst, ◌∙◌, arith}
+use Rattle.std.proofs.Common.{◌≡◌, ◌≢◌, ◌⊎◌, inl, inr, ℕ, Option, None, Some, List, [], ◌∷◌, ◌++◌, Result, Ok, Err, refl, sym, ap, subst, ◌∙◌, arith}
 use Rattle.pb_model.specs.Plan.{Plan, HasNoPlan}
 use Rattle.pb_model.specs.Texts.{none_report, stopped_report}
 use Rattle.pb_task.specs.declared.parts.TaskParts.{TaskParts}
@@ -9,7 +9,7 @@ use Rattle.pb_grid.specs.Laws.{ReadAsSpelled}
 use Rattle.pb_tiles.specs.Laws.{ReadingsAreSpelled}
 use Rattle.pb_command.specs.declared.refusal.CommandFault.{CommandFault}
 use Rattle.pb_command.specs.Causes.{IsPrinted}
-use Rattle.pb_command.specs.Meaning.{Reading, Refused, Read, Solve, Check, Journal, Make, SolveMeaning, CheckMeaning, JournalMeaning, MakeMeaning}
+use Rattle.pb_command.specs.Meaning.{Reading, Refused, Read, Solve, Falling, Check, Journal, Make, SolveMeaning, FallingMeaning, CheckMeaning, JournalMeaning, MakeMeaning}
 use Rattle.pb_run.specs.Asked.{listed, saved_names, AreSomeOf}
 use Rattle.pb_answer.specs.Outputs.{Output}
 use Rattle.pb_cert.specs.Rewritten.{rewritten_text}
@@ -23,6 +23,8 @@ use Rattle.pb_model.specs.Weight.{Weight}
 use Rattle.pb_answer.specs.Searches.{settings_of, weight_asked}
 use Rattle.pb_answer.specs.Claims.{IsCertificate, journal_outputs, journal_outputs_if_any, Certifies, Stops, Solves, PrintsPlan, PrintsLeastCost, SavesPlan, text_outputs, rewritten_outputs, Accepts, Rejects}
 use Rattle.pb_answer.specs.Journals.{AcceptsJournal, RejectsJournal}
+use Rattle.pb_answer.specs.Parts.{AnswerPart, outputs_of}
+use Rattle.pb_answer.specs.Falling.{IsFallingFound}
 use Rattle.pb_answer.specs.Answer.{Said, Says, Saves, IsSolved, IsUnsolvable, IsStopped, IsFound, IsChecked, IsJudged, IsRefused, OrRefused}
 use Rattle.pb_run.specs.Makes.{MakesPlan, MakesNone, MakesStop}
 use Rattle.pb_run.specs.Answers.{IsMade, AnswersReading}
@@ -31,8 +33,10 @@ use Rattle.pb_run.specs.Headline.{PlanIsPlan, NoneIsCheaper, CertificateHolds, N
 use Rattle.pb_run.specs.Commands.{IsOfVerdict, SolveHolds, CheckHolds, JournalHolds, MakeHolds, SolvesHold, ChecksHold, JournalsHold, MakesHold, RefusalHolds}
 use Rattle.pb_run.specs.Served.{IsAnswered}
 use Rattle.pb_run.proofs.ByCommand.{of_refused, of_solve, of_check, of_journal, of_make}
+use Rattle.pb_run.proofs.CallLists.{names_of, names_joined}
+use Rattle.pb_run.proofs.FallingNames.{first_runs_named}
 use Rattle.pb_run.proofs.Some.{all_are_some, some_behind, some_with}
-use Rattle.pb_answer.proofs.Callers.{never_refused}
+use Rattle.pb_answer.proofs.Callers.{never_refused, names_of_found, found_status}
 
 module _ (texts : List (List ℕ)) (said : Said) where
   abbrev pub Done : Reading → Outcome
@@ -42,9 +46,6 @@ module _ (texts : List (List ℕ)) (said : Said) where
   Answered reading = AnswersReading reading texts said
 
   -- ---- the names of what is saved
-
-  abbrev pub names_of : List Output → List (List ℕ)
-  names_of outputs = map (λ (o : Output). o.name) outputs
 
   abbrev pub AreNamed : Reading → Type 0
   AreNamed reading = AreSomeOf (names_of said.outputs) (saved_names reading)
@@ -127,10 +128,6 @@ module _ (texts : List (List ℕ)) (said : Said) where
     kept_names given settings None = tt
     kept_names given settings (Some journal) = subst (λ (ns : List (List ℕ)). AreSomeOf ns (listed given)) (sym (journal_names given settings journal)) (all_are_some (listed given))
 
-    names_joined : (a b : List Output) → names_of (a ++ b) ≡ names_of a ++ names_of b
-    names_joined [] b = refl
-    names_joined (o ∷ a) b = ap (λ (ns : List (List ℕ)). o.name ∷ ns) (names_joined a b)
-
     certified_named : (parts : TaskParts) (plan : Option Plan) → Certifies (Saves said) solve parts plan → AreNamed (Read (Solve solve))
     certified_named parts plan (left, searched, found, outputs, is_certificate, saves) =
         let journals = journal_outputs_if_any solve.journal (settings_of solve) left.journal in
@@ -161,6 +158,62 @@ module _ (texts : List (List ℕ)) (said : Said) where
         go (inl found) = inl found.0
         go (inr (inl none)) = inr (inl none.0)
         go (inr (inr stop)) = inr (inr (inl stop.0))
+
+  -- ---- of a search with falling weights
+
+  module _ (falling : FallingMeaning) (answers : AnswersReading (Read (Falling falling)) texts said) where
+    abbrev IsFallingOf : TaskParts → Said → Type 0
+    IsFallingOf task all = (parts : List AnswerPart) × IsFallingFound falling.solve task falling.steps all parts
+
+    -- what was found, or that the texts are refused
+    by_falling : (Q : Type 0) → ((task : TaskParts) (parts : List AnswerPart) → IsFallingFound falling.solve task falling.steps said parts → Q)
+        → (solve_task falling.solve texts ≡ Err said.report → IsRefused said.report said → Q) → Q
+    by_falling Q found refused = by_task (solve_task falling.solve texts) IsFallingOf answers Q (λ task is h. found task h.0 h.1) refused
+
+    abbrev IsSearched : Type 0
+    IsSearched = (said.status ≡ 0) ⊎ ((said.status ≡ 1) ⊎ (said.status ≡ 2))
+
+    status_of : (task : TaskParts) (parts : List AnswerPart) → IsFallingFound falling.solve task falling.steps said parts → IsSearched
+    status_of task parts found = found_status falling.solve task falling.steps said parts found
+
+    searched_known : IsSearched → IsAnswer said.status
+    searched_known (inl is) = inl is
+    searched_known (inr (inl is)) = inr (inl is)
+    searched_known (inr (inr is)) = inr (inr (inl is))
+
+    falling_known : IsAnswer said.status
+    falling_known = by_falling (IsAnswer said.status) (λ task parts found. searched_known (status_of task parts found)) (λ is h. inr (inr (inr (inr (inr h.0)))))
+
+    not_refused : IsSearched → said.status ≢ 65
+    not_refused (inl is) e = omega (arith, is, e)
+    not_refused (inr (inl is)) e = omega (arith, is, e)
+    not_refused (inr (inr is)) e = omega (arith, is, e)
+
+    falling_refused : said.status ≡ 65 → solve_task falling.solve texts ≡ Err said.report
+    falling_refused e = by_falling (solve_task falling.solve texts ≡ Err said.report)
+        (λ task parts found. absurd (not_refused (status_of task parts found) e)) (λ is h. is)
+
+    falling_saves_none : said.status ≡ 65 → said.outputs ≡ []
+    falling_saves_none e = by_falling (said.outputs ≡ []) (λ task parts found. absurd (not_refused (status_of task parts found) e)) (λ is h. h.2)
+
+    falling_named : AreNamed (Read (Falling falling))
+    falling_named = by_falling (AreNamed (Read (Falling falling)))
+        (λ task parts found. subst (λ (os : List Output). AreSomeOf (names_of os) (saved_names (Read (Falling falling)))) (sym found.outputs)
+        (first_runs_named falling.solve falling.steps (outputs_of parts) (names_of_found falling.solve task falling.steps said parts found)))
+        (λ is h. none_named (Read (Falling falling)) h.2)
+
+    falling_answered : IsAnswered (Read (Falling falling)) texts said.status
+    falling_answered task is =
+        let found = of_task (solve_task falling.solve texts) IsFallingOf answers task is in
+        go (status_of task found.0 found.1)
+      where
+        go : IsSearched → (said.status ≡ 0) ⊎ ((said.status ≡ 1) ⊎ ((said.status ≡ 2) ⊎ (said.status ≡ 71)))
+        go (inl h) = inl h
+        go (inr (inl h)) = inr (inl h)
+        go (inr (inr h)) = inr (inr (inl h))
+
+    falling_refuses : (report : List ℕ) → solve_task falling.solve texts ≡ Err report → said.status ≡ 65
+    falling_refuses report is = refuses (solve_task falling.solve texts) IsFallingOf answers report is
 
   -- ---- of a text that is accepted or rejected: a certificate, or a journal
 
@@ -273,6 +326,7 @@ module _ (texts : List (List ℕ)) (said : Said) where
   pub known : (reading : Reading) → AnswersReading reading texts said → IsAnswer said.status
   known (Refused fault) answers = inr (inr (inr (inr (inl answers.0))))
   known (Read (Solve solve)) answers = search_known solve answers
+  known (Read (Falling falling)) answers = falling_known falling answers
   known (Read (Check check)) answers = verdict_known (check_task check texts) Accepts Rejects (rewritten_outputs check) answers
   known (Read (Journal journal)) answers = verdict_known (journal_task journal texts) AcceptsJournal RejectsJournal (λ parts text. []) answers
   known (Read (Make make)) answers = made_known make answers
@@ -368,6 +422,7 @@ module _ (texts : List (List ℕ)) (said : Said) where
   input_refused : (reading : Reading) → Answered reading → said.status ≡ 65 → RefusesTexts reading texts said.report
   input_refused (Refused fault) answers = λ e. omega (arith, e, answers.0)
   input_refused (Read (Solve solve)) answers = solve_refused solve answers
+  input_refused (Read (Falling falling)) answers = falling_refused falling answers
   input_refused (Read (Check check)) answers = verdict_refused (check_task check texts) Accepts Rejects (rewritten_outputs check) answers
   input_refused (Read (Journal journal)) answers = verdict_refused (journal_task journal texts) AcceptsJournal RejectsJournal (λ parts text. []) answers
   input_refused (Read (Make make)) answers = λ e. absurd (made_is_read make answers e)
@@ -375,6 +430,7 @@ module _ (texts : List (List ℕ)) (said : Said) where
   always_refused : (reading : Reading) → Answered reading → (report : List ℕ) → RefusesTexts reading texts report → said.status ≡ 65
   always_refused (Refused fault) answers report refused = absurd refused
   always_refused (Read (Solve solve)) answers report is = refuses (solve_task solve texts) (IsFound solve) answers report is
+  always_refused (Read (Falling falling)) answers report is = falling_refuses falling answers report is
   always_refused (Read (Check check)) answers report is = refuses (check_task check texts) (λ t. IsChecked check t.0 t.1) answers report is
   always_refused (Read (Journal journal)) answers report is = refuses (journal_task journal texts) (λ t. IsJudged t.0 t.1) answers report is
   always_refused (Read (Make make)) answers report refused = absurd refused
@@ -384,6 +440,7 @@ module _ (texts : List (List ℕ)) (said : Said) where
   pub outputs_are_named : (reading : Reading) → Answered reading → AreNamed reading
   outputs_are_named (Refused fault) answers = none_named (Refused fault) answers.2
   outputs_are_named (Read (Solve solve)) answers = solve_named solve answers
+  outputs_are_named (Read (Falling falling)) answers = falling_named falling answers
   outputs_are_named (Read (Check check)) answers =
       verdict_named (check_task check texts) Accepts Rejects (rewritten_outputs check) answers (Read (Check check)) (λ parts text. text_named check.rewrite (rewritten_text parts text))
   outputs_are_named (Read (Journal journal)) answers = verdict_named (journal_task journal texts) AcceptsJournal RejectsJournal (λ parts text. []) answers (Read (Journal journal)) (λ parts text. tt)
@@ -392,6 +449,7 @@ module _ (texts : List (List ℕ)) (said : Said) where
   refusal_saves_none : (reading : Reading) → Answered reading → said.status ≡ 65 → said.outputs ≡ []
   refusal_saves_none (Refused fault) answers e = answers.2
   refusal_saves_none (Read (Solve solve)) answers e = solve_saves_none solve answers (λ zero. omega (arith, e, zero)) (λ one. omega (arith, e, one)) (λ two. omega (arith, e, two))
+  refusal_saves_none (Read (Falling falling)) answers e = falling_saves_none falling answers e
   refusal_saves_none (Read (Check check)) answers e = refusal_saves (check_task check texts) Accepts Rejects (rewritten_outputs check) answers e
   refusal_saves_none (Read (Journal journal)) answers e = refusal_saves (journal_task journal texts) AcceptsJournal RejectsJournal (λ parts text. []) answers e
   refusal_saves_none (Read (Make make)) answers e = made_saves_none make answers
@@ -414,6 +472,7 @@ module _ (texts : List (List ℕ)) (said : Said) where
   pub answered : (reading : Reading) → AnswersReading reading texts said → IsAnswered reading texts said.status
   answered (Refused fault) answers = inl answers.0
   answered (Read (Solve solve)) answers = solve_answered solve answers
+  answered (Read (Falling falling)) answers = falling_answered falling answers
   answered (Read (Check check)) answers = λ parts certificate verdict is valid.
       inl (verdict_answered (check_task check texts) Accepts Rejects (rewritten_outputs check) answers parts certificate is (λ bad. bad.3 verdict valid))
   answered (Read (Journal journal)) answers = λ parts text events is legal.
@@ -424,6 +483,7 @@ module _ (texts : List (List ℕ)) (said : Said) where
 pub memory_answers : (reading : Reading) (texts : List (List ℕ)) (n : ℕ) → n ≡ 71 → IsAnswered reading texts n
 memory_answers (Refused fault) texts n is = inr is
 memory_answers (Read (Solve solve)) texts n is = λ parts task. inr (inr (inr is))
+memory_answers (Read (Falling falling)) texts n is = λ parts task. inr (inr (inr is))
 memory_answers (Read (Check check)) texts n is = λ parts certificate verdict task valid. inr is
 memory_answers (Read (Journal journal)) texts n is = λ parts text events task legal. inr is
 memory_answers (Read (Make make)) texts n is = inr (inr (inr is))

@@ -1,9 +1,11 @@
 -- What is answered of a command line and of the texts that were loaded of its files.
 use Rattle.std.specs.Prelude.{◌≡◌, ◌⊎◌, ℕ, List, []}
-use Rattle.pb_command.specs.Meaning.{Reading, Refused, Read, Solve, Check, Journal, Make, MakeMeaning}
+use Rattle.pb_command.specs.Meaning.{Reading, Refused, Read, Solve, Falling, Check, Journal, Make, MakeMeaning}
 use Rattle.pb_command.specs.Causes.{IsPrinted}
 use Rattle.pb_answer.specs.Loaded.{solve_task, check_task, journal_task}
 use Rattle.pb_answer.specs.Answer.{Said, Says, Saves, IsFound, IsChecked, IsJudged, OrRefused}
+use Rattle.pb_answer.specs.Parts.{AnswerPart}
+use Rattle.pb_answer.specs.Falling.{IsFallingFound}
 use Rattle.pb_run.specs.Makes.{MakesPlan, MakesNone, MakesStop}
 
 -- ---- of a task that is to be made
@@ -21,6 +23,10 @@ AnswersReading (Refused fault) texts said =
     (said.status ≡ 64) × IsPrinted fault said.report × Saves said []
 AnswersReading (Read (Solve solve)) texts said =
     OrRefused (solve_task solve texts) (IsFound solve) said
+AnswersReading (Read (Falling falling)) texts said =
+    OrRefused (solve_task falling.solve texts)
+    (λ task all. (parts : List AnswerPart)
+    × IsFallingFound falling.solve task falling.steps all parts) said
 AnswersReading (Read (Check check)) texts said =
     OrRefused (check_task check texts) (λ task. IsChecked check task.0 task.1) said
 AnswersReading (Read (Journal journal)) texts said =

@@ -12,7 +12,7 @@ use Rattle.pb_answer.specs.Outputs.{Output}
 use Rattle.pb_run.specs.Calls.{outputs_in, put_bytes, load_calls, EndLoads, SaveAll, FailToSaveAll}
 use Rattle.pb_run.specs.Loads.{AreLoaded}
 use Rattle.pb_answer.specs.Answer.{Said}
-use Rattle.pb_answer.specs.Parts.{AnswerPart, outputs_of}
+use Rattle.pb_answer.specs.Parts.{AnswerPart, outputs_of, report_of}
 use Rattle.pb_run.specs.Parted.{AreDecided}
 use Rattle.pb_run.specs.Handing.{HandsOutParts}
 use Rattle.pb_run.specs.Course.{RunsOut, FailsToLoad, HasAnswered}
@@ -38,11 +38,27 @@ SavesPartIn (first ∷ outputs) before after =
     ⊎ ((between : Files) × (between first.name ≡ Some first.text)
     × KeepsOthers before between first.name × SavesPartIn outputs between after)
 
--- of what is due for these texts only a part was saved
-abbrev pub LeavesPart : Reading → (texts : List (List ℕ)) → Files → Files → Type 0
-LeavesPart reading texts before after =
-    (parts : List AnswerPart) × AreDecided reading texts parts
-    × SavesPartIn (outputs_of parts) before after
+-- So many of these parts as pieces were put were handed out: their files are saved. Of the next
+-- part some files are saved, and of the next file a first part, or nothing.
+abbrev pub SavesPartsIn : List AnswerPart → (puts : List Call) → Files → Files → Type 0
+SavesPartsIn [] puts before after = ⊥
+SavesPartsIn (part ∷ parts) [] before after = SavesPartIn part.outputs before after
+SavesPartsIn (part ∷ parts) (put ∷ puts) before after =
+    (between : Files) × SavesIn part.outputs before between × SavesPartsIn parts puts between after
+
+-- Of what is due for these texts some parts are finished. Their files are saved, and their pieces
+-- are what was printed. Of the next part only some files were saved, and of one more a first part,
+-- or nothing.
+pub record LeavesPart (reading : Reading) (texts : List (List ℕ)) (printed : List ℕ)
+    (before after : Files) : Type 0 where
+  pub finished : List AnswerPart
+  pub next : AnswerPart
+  pub rest : List AnswerPart
+  pub decided : AreDecided reading texts (finished ++ next ∷ rest)
+  pub printed_is : printed ≡ report_of finished
+  pub between : Files
+  pub saved : SavesIn (outputs_of finished) before between
+  pub part : SavesPartIn next.outputs between after
 
 -- it is none of these names
 abbrev pub IsNoneOf : (names : List (List ℕ)) → (other : List ℕ) → Type 0
@@ -102,7 +118,7 @@ abbrev pub TellsHands : (reading : Reading) (texts : List (List ℕ)) (parts : L
 TellsHands reading texts parts status saves sink files files' (inl done) =
     IfTold files files' (SavesIn (outputs_of parts))
 TellsHands reading texts parts status saves sink files files' (inr (inl failed)) =
-    IfTold files files' (SavesPartIn (outputs_of parts))
+    IfTold files files' (SavesPartsIn parts sink)
 TellsHands reading texts parts status saves sink files files' (inr (inr failed)) =
     IfTold files files' (SavesIn (outputs_in saves))
 

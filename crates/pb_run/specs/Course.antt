@@ -20,7 +20,7 @@ pub record RunsOut (reading : Reading) (status : ℕ) (shelf sink : List Call) :
   pub no_fault : IfSome unloaded IsNoFault
   pub status_is : status ≡ 71
   pub parts : List AnswerPart
-  pub parts_are : AreFirstParts reading parts
+  pub parts_are : AreFirstParts reading texts parts
   pub loaded : (parts ≡ []) ⊎ EndLoads (files_of reading) texts unloaded
   pub saves : List Call
   pub shelf_is : shelf ≡ load_calls (files_of reading) texts unloaded ++ saves

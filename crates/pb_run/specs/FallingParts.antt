@@ -1,33 +1,25 @@
 -- The parts that a search with falling weights hands out: what is claimed after each of its runs.
 use Rattle.std.specs.Prelude.{◌≡◌, ◌⊎◌, ℕ, Option, None, Some, List, [], ◌∷◌, ◌++◌, length}
 use Rattle.pb_outside.specs.Outside.{Files}
-use Rattle.pb_outside.specs.Calls.{Call}
+use Rattle.pb_outside.specs.Calls.{Call, KeepsTakes}
 use Rattle.pb_model.specs.Plan.{Plan}
 use Rattle.pb_machine.specs.Machine.{Machine}
 use Rattle.pb_task.specs.declared.parts.TaskParts.{TaskParts}
-use Rattle.pb_abstract.specs.Graph.{AbstractGraph}
 use Rattle.pb_falling.specs.Falling.{Claim}
 use Rattle.pb_command.specs.Meaning.{SolveMeaning}
 use Rattle.pb_answer.specs.declared.status.Status.{Status}
 use Rattle.pb_answer.specs.Statuses.{number_of}
 use Rattle.pb_answer.specs.Answer.{Said}
 use Rattle.pb_answer.specs.Parts.{AnswerPart}
-use Rattle.pb_answer.specs.Falling.{AreFalling, SayClaims, IsFallingFound}
-use Rattle.pb_answer.specs.FallingRuns.{FallingValue, claim_now, IsFalling, IsLast, SaysNow}
+use Rattle.pb_answer.specs.Falling.{AreFalling, SayClaims, AreClaimParts, IsFallingFound}
+use Rattle.pb_answer.specs.FallingRuns.{FallingValue, claim_now, IsFalling, IsLast, part_of}
 use Rattle.pb_run.specs.Calls.{CanHold}
+use Rattle.pb_run.specs.Served.{PartsFit}
 use Rattle.pb_run.specs.PartByPart.{HandsParts}
 use Rattle.pb_run.specs.declared.output.Ending.{Ending}
 use Rattle.pb_run.specs.declared.output.Ending.TheVariants.{Done, NotSaved, NotPrinted}
 
 -- ---- all that is handed out
-
--- each part says a claim of the first runs of a search
-pub record AreClaimParts (solve : SolveMeaning) (task : TaskParts) (steps : ℕ)
-    (parts : List AnswerPart) : Type 0 where
-  pub abstraction : AbstractGraph
-  pub claims : List Claim
-  pub falling : AreFalling solve task abstraction steps claims
-  pub say : SayClaims solve task abstraction steps 0 claims parts
 
 -- the parts that are decided: all of a search, or the claims of its first runs
 abbrev pub AreFallingParts : SolveMeaning → TaskParts → (steps : ℕ) → List AnswerPart → Type 0
@@ -56,10 +48,37 @@ pub record HandsOutFalling (solve : SolveMeaning) (task : TaskParts) (steps stat
   pub hands : HandsParts ending parts files files' shelf shelf' sink sink' written written'
   pub ends : EndsFalling solve task steps ending parts status
 
+-- ---- what fits
+
+-- this is found, and the status is its own if its parts fit
+pub record FoundIfItFits (solve : SolveMeaning) (task : TaskParts) (steps status : ℕ)
+    (can_hold : List ℕ → ℕ → Type 0) (can_take : ℕ → Type 0) : Type 0 where
+  pub said : Said
+  pub parts : List AnswerPart
+  pub found : IsFallingFound solve task steps said parts
+  pub if_they_fit : PartsFit can_hold can_take parts → status ≡ said.status
+
+-- it broke off, and the claims of first runs don't fit
+pub record ClaimsDoNotFit (solve : SolveMeaning) (task : TaskParts) (steps status : ℕ)
+    (can_hold : List ℕ → ℕ → Type 0) (can_take : ℕ → Type 0) : Type 0 where
+  pub broke : (status ≡ 73) ⊎ (status ≡ 74)
+  pub parts : List AnswerPart
+  pub parts_are : AreClaimParts solve task steps parts
+  pub do_not_fit : PartsFit can_hold can_take parts → ⊥
+
+-- Unless memory ran out, all of a search was handed out if the shelf can hold the files of all
+-- parts and the sink can take their pieces. Or it broke off at a claim that doesn't fit.
+abbrev pub ClaimsIfTheyFit : SolveMeaning → TaskParts → (steps status : ℕ)
+    → (can_hold : List ℕ → ℕ → Type 0) → (can_take : ℕ → Type 0) → Type 0
+ClaimsIfTheyFit solve task steps status can_hold can_take =
+    (status ≡ 71)
+    ⊎ (FoundIfItFits solve task steps status can_hold can_take
+    ⊎ ClaimsDoNotFit solve task steps status can_hold can_take)
+
 -- ---- on the way
 
 -- the parts that were handed out before the run in hand: each says a claim
-pub record HaveClaimed (search : FallingValue) (parts : List AnswerPart) : Type 0 where
+pub record HandedOutBefore (search : FallingValue) (parts : List AnswerPart) : Type 0 where
   pub before : List Claim
   pub machine : Machine
   pub run : IsFalling before machine search
@@ -69,7 +88,7 @@ pub record HaveClaimed (search : FallingValue) (parts : List AnswerPart) : Type 
       before parts
 
 -- the claim of the run in hand is among the parts too, and isn't the last one
-pub record HaveClaimedRun (search : FallingValue) (parts : List AnswerPart) : Type 0 where
+pub record HandedOutNow (search : FallingValue) (parts : List AnswerPart) : Type 0 where
   pub before : List Claim
   pub machine : Machine
   pub run : IsFalling before machine search
@@ -82,22 +101,35 @@ pub record HaveClaimedRun (search : FallingValue) (parts : List AnswerPart) : Ty
   pub not_last : IsLast search → ⊥
   pub more : search.run ≡ search.steps → ⊥
 
--- After the claim of a run: if there is a status, all is handed out or it broke off. Else the search
--- is to go on.
-abbrev pub AfterRun : FallingValue → Option Status → (files files' : Option Files)
-    → (shelf shelf' sink sink' : List Call) → (written written' : Option (List ℕ)) → Type 0
-AfterRun search (Some status) files files' shelf shelf' sink sink' written written' =
+-- the shelf can hold the files of this part, and the sink can take its piece
+abbrev pub FitsNow : (can_hold : List ℕ → ℕ → Type 0) → (can_take : ℕ → Type 0) → Said → Type 0
+FitsNow can_hold can_take said = CanHold can_hold said.outputs × can_take (length said.report)
+
+-- How it ends with one part after those before it, unless memory ran out. With this part all is
+-- found, and the status is that of the whole if it fits. Or it is a claim after which another run
+-- is due, and it doesn't fit.
+abbrev pub EndsIfItFits : FallingValue → (parts : List AnswerPart) → (status : ℕ)
+    → (can_hold : List ℕ → ℕ → Type 0) → (can_take : ℕ → Type 0) → Type 0
+EndsIfItFits search parts status can_hold can_take =
+    (status ≡ 71)
+    ⊎ ((said : Said) × (((all : Said)
+    × IsFallingFound search.solve search.parts search.steps all (parts ++ part_of said ∷ [])
+    × (FitsNow can_hold can_take said → status ≡ all.status))
+    ⊎ (AreClaimParts search.solve search.parts search.steps (parts ++ part_of said ∷ [])
+    × ((status ≡ 73) ⊎ (status ≡ 74)) × (FitsNow can_hold can_take said → ⊥))))
+
+-- After the claim of a run: if there is a status, all is handed out or it broke off. Else the
+-- search is to go on.
+abbrev pub AfterRun : FallingValue → (parts : List AnswerPart) → Option Status
+    → (files files' : Option Files) → (shelf shelf' sink sink' : List Call)
+    → (written written' : Option (List ℕ)) → (can_take can_take' : ℕ → Type 0) → Type 0
+AfterRun search parts (Some status) files files' shelf shelf' sink sink' written written'
+    can_take can_take' =
     HandsOutFalling search.solve search.parts search.steps (number_of status) files files' shelf
     shelf' sink sink' written written'
-AfterRun search None files files' shelf shelf' sink sink' written written' =
-    (parts : List AnswerPart)
-    × HandsParts Done parts files files' shelf shelf' sink sink' written written'
-    × HaveClaimedRun search parts
-
--- the shelf can hold, and the sink can take, whatever is claimed after the run in hand
-abbrev pub RunFits : (can_hold : List ℕ → ℕ → Type 0) → (can_take : ℕ → Type 0) → FallingValue
-    → Type 0
-RunFits can_hold can_take search =
-    (before : List Claim) (machine : Machine) (said : Said) → IsFalling before machine search
-    → SaysNow before machine search said
-    → CanHold can_hold said.outputs × can_take (length said.report)
+AfterRun search parts None files files' shelf shelf' sink sink' written written'
+    can_take can_take' =
+    (said : Said) × HandsParts Done (parts ++ part_of said ∷ []) files files' shelf shelf' sink sink'
+    written written'
+    × HandedOutNow search (parts ++ part_of said ∷ [])
+    × KeepsTakes can_take can_take' (length said.report)

@@ -50,7 +50,7 @@ pub record HandsOutAnswer (reading : Reading) (texts : List (List ℕ)) (parts :
     (status : ℕ) (saves sink : List Call) : Type 0 where
   pub said : Said
   pub answers : AnswersReading reading texts said
-  pub parts_are : AreAllParts reading said parts
+  pub parts_are : AreAllParts reading texts said parts
   pub status_is : status ≡ said.status
   pub hands : HandsOutAll parts saves sink
 

@@ -1,5 +1,6 @@
--- The promises for each kind of task in its own words, for a reader who wants to know nothing of
--- other kinds, of certificates or of the search. A further kind is one definition more.
+-- The promises of `solve` without `--falling` for each kind of task in its own words, for a reader
+-- who wants to know nothing of other kinds, of certificates or of the search. A further kind is one
+-- definition more.
 use Rattle.std.specs.Prelude.{◌≡◌, ℕ, ⊤, List, map, slice_get}
 use Rattle.pb_model.specs.Weight.{Weight}
 use Rattle.pb_model.specs.Space.{Space}

@@ -13,7 +13,7 @@ use Rattle.pb_command.specs.declared.table.ValuedOption.{ValuedOption}
 use Rattle.pb_command.specs.declared.table.ValuedOption.TheVariants.{Row, Num, Den, Pattern, Certificate, Journal as JournalOption}
 use Rattle.pb_command.specs.declared.table.FlagOption.{FlagOption}
 use Rattle.pb_command.specs.declared.table.FlagOption.TheVariants.{Swamp}
-use Rattle.pb_command.specs.Options.{Argument, words_of, placed_words, value_given, number_given, flag_given, AreDistinct, IsArgumentOf, is_of_check, is_of_journal, is_flag_of_check, no_flag, kind_word, file_words, options_given, AreOfSolve, HaveTwoNames, HaveKeptJournal, HasNewName}
+use Rattle.pb_command.specs.Options.{Argument, words_of, placed_words, value_given, number_given, flag_given, AreDistinct, IsArgumentOf, is_of_check, is_of_journal, is_flag_of_check, no_flag, kind_word, file_words, options_given, AreOfSolve, HaveTwoNames, HaveKeptJournal, HaveOneRun, HasNewName}
 use Rattle.pb_journal.specs.Lengths.{most_bytes}
 use Rattle.pb_answer.specs.Outputs.{Output, output}
 use Rattle.pb_answer.specs.Loaded.{OfTexts, input_task}
@@ -84,13 +84,14 @@ pub record Keeps (words : List (List ℕ)) (it : Outcome) : Type 0 where
   pub check : ChecksHold it
   pub journal : JournalsHold it
 
--- Arguments of `solve` for this input, with options in any order, for either engine. Also arguments
--- of a command with these options and flags, `check` or `journal`, for the same input and the same
--- row, with this file beside it.
+-- Arguments of `solve` for this input, with options in any order but without `--falling`, for
+-- either engine. Also arguments of a command with these options and flags, `check` or `journal`,
+-- for the same input and the same row, with this file beside it.
 pub record AreMatching (input : InputNames) (has_option : ValuedOption → Bool)
     (has_flag : FlagOption → Bool) (file : List ℕ) (arguments others : List Argument)
     : Type 0 where
   pub solve : AreOfSolve input arguments
+  pub one_run : HaveOneRun arguments
   pub weight : number_given Den arguments ≤ number_given Num arguments
   pub names : HaveTwoNames arguments
   pub kept : HaveKeptJournal arguments
@@ -157,14 +158,15 @@ first_lines kind digits pattern =
     ∷ spaced (codes "width") (decimal digits)
     ∷ spaced (codes "pattern") (decimal pattern) ∷ []
 
--- A call with the words `solve ..`, with `--cert NAME` among them, answered a plan or none and
--- saved a certificate under that name. Its first lines have the kind of the input and the width of
--- the task. It states the number of `--pattern`, if that is given and isn't 0: its fourth line is
--- `pattern K`. Else it is of version 2, which has no such line.
+-- A call with the words `solve ..`, with `--cert NAME` among them and without `--falling`, answered
+-- a plan or none and saved a certificate under that name. Its first lines have the kind of the
+-- input and the width of the task. It states the number of `--pattern`, if that is given and isn't
+-- 0: its fourth line is `pattern K`. Else it is of version 2, which has no such line.
 abbrev pub CertificatesStateTheirPattern : Type 0
 CertificatesStateTheirPattern =
     (input : InputNames) (name text : List ℕ) (arguments : List Argument) (solved : Outcome)
-    → AreOfSolve input arguments → number_given Den arguments ≤ number_given Num arguments
+    → AreOfSolve input arguments → HaveOneRun arguments
+    → number_given Den arguments ≤ number_given Num arguments
     → HaveTwoNames arguments → HaveKeptJournal arguments
     → value_given Certificate arguments ≡ Some name
     → Keeps (codes "solve" ∷ words_of arguments) solved

@@ -11,6 +11,7 @@ pub mod Read
 pub mod Loads
 pub mod Calls
 pub mod Parted
+pub mod Begun
 pub mod Handing
 pub mod Course
 pub mod AtOnce
@@ -28,3 +29,6 @@ pub mod Fit
 pub mod Laws
 pub mod InMemory
 pub mod Rooms
+pub mod FallingHeadline
+pub mod FallingKinds
+pub mod FallingLaws

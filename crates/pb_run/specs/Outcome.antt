@@ -2,7 +2,7 @@
 use Rattle.std.specs.Prelude.{◌≡◌, ◌⊎◌, ℕ, ⊤, List, [], ◌∷◌}
 use Rattle.pb_outside.specs.Calls.{Call}
 use Rattle.pb_command.specs.declared.refusal.CommandFault.{CommandFault}
-use Rattle.pb_command.specs.Meaning.{Reading, Refused, Read, Solve, Check, Journal, Make, SolveMeaning, CheckMeaning, JournalMeaning, MakeMeaning, reading_of_words}
+use Rattle.pb_command.specs.Meaning.{Reading, Refused, Read, Solve, Falling, Check, Journal, Make, SolveMeaning, FallingMeaning, CheckMeaning, JournalMeaning, MakeMeaning, reading_of_words}
 use Rattle.pb_answer.specs.Answer.{Said}
 use Rattle.pb_run.specs.Calls.{loaded_texts, outputs_in, put_bytes, calls_since}
 
@@ -43,13 +43,23 @@ IfRefused (Read meaning) P = ⊤
 abbrev pub IfSolve : Reading → (P : SolveMeaning → Type 0) → Type 0
 IfSolve (Refused fault) P = ⊤
 IfSolve (Read (Solve solve)) P = P solve
+IfSolve (Read (Falling falling)) P = ⊤
 IfSolve (Read (Check check)) P = ⊤
 IfSolve (Read (Journal journal)) P = ⊤
 IfSolve (Read (Make make)) P = ⊤
 
+abbrev pub IfFalling : Reading → (P : FallingMeaning → Type 0) → Type 0
+IfFalling (Refused fault) P = ⊤
+IfFalling (Read (Solve solve)) P = ⊤
+IfFalling (Read (Falling falling)) P = P falling
+IfFalling (Read (Check check)) P = ⊤
+IfFalling (Read (Journal journal)) P = ⊤
+IfFalling (Read (Make make)) P = ⊤
+
 abbrev pub IfCheck : Reading → (P : CheckMeaning → Type 0) → Type 0
 IfCheck (Refused fault) P = ⊤
 IfCheck (Read (Solve solve)) P = ⊤
+IfCheck (Read (Falling falling)) P = ⊤
 IfCheck (Read (Check check)) P = P check
 IfCheck (Read (Journal journal)) P = ⊤
 IfCheck (Read (Make make)) P = ⊤
@@ -57,6 +67,7 @@ IfCheck (Read (Make make)) P = ⊤
 abbrev pub IfJournal : Reading → (P : JournalMeaning → Type 0) → Type 0
 IfJournal (Refused fault) P = ⊤
 IfJournal (Read (Solve solve)) P = ⊤
+IfJournal (Read (Falling falling)) P = ⊤
 IfJournal (Read (Check check)) P = ⊤
 IfJournal (Read (Journal journal)) P = P journal
 IfJournal (Read (Make make)) P = ⊤
@@ -64,6 +75,7 @@ IfJournal (Read (Make make)) P = ⊤
 abbrev pub IfMake : Reading → (P : MakeMeaning → Type 0) → Type 0
 IfMake (Refused fault) P = ⊤
 IfMake (Read (Solve solve)) P = ⊤
+IfMake (Read (Falling falling)) P = ⊤
 IfMake (Read (Check check)) P = ⊤
 IfMake (Read (Journal journal)) P = ⊤
 IfMake (Read (Make make)) P = P make

@@ -1,36 +1,58 @@
 -- In which parts an answer is handed out. Of each part the files are saved, and then its piece of
 -- the report is put.
-use Rattle.std.specs.Prelude.{◌≡◌, ◌⊎◌, ℕ, Bool, true, List, [], map}
-use Rattle.pb_command.specs.Meaning.{Reading}
-use Rattle.pb_answer.specs.Outputs.{Output}
+use Rattle.std.specs.Prelude.{◌≡◌, ◌⊎◌, ℕ, Bool, true, false, List, [], Result, Ok, Err}
+use Rattle.pb_task.specs.declared.parts.TaskParts.{TaskParts}
+use Rattle.pb_command.specs.Meaning.{Reading, Refused, Read, Solve, Falling, Check, Journal, Make}
+use Rattle.pb_answer.specs.Loaded.{solve_task}
 use Rattle.pb_answer.specs.Answer.{Said}
-use Rattle.pb_answer.specs.Parts.{AnswerPart, outputs_of, report_of, AreAnswerParts}
-use Rattle.pb_run.specs.Asked.{saved_names, AreSomeOf}
+use Rattle.pb_answer.specs.Parts.{AnswerPart, AreAnswerParts}
+use Rattle.pb_answer.specs.Falling.{IsFallingFound, AreClaimParts}
 use Rattle.pb_run.specs.Answers.{AnswersReading}
 
--- Whether a command line asks for an answer in one part. Each one does.
+-- Whether a command line asks for an answer in one part. Each one does but a search with falling
+-- weights, which has a part for each claim.
 abbrev pub asks_one_part : Reading → Bool
-asks_one_part reading = true
+asks_one_part (Refused fault) = true
+asks_one_part (Read (Solve solve)) = true
+asks_one_part (Read (Falling falling)) = false
+asks_one_part (Read (Check check)) = true
+asks_one_part (Read (Journal journal)) = true
+asks_one_part (Read (Make make)) = true
 
--- an answer as one part: all its files, and the whole report
-abbrev pub whole_part : Said → AnswerPart
-whole_part said = record { outputs = said.outputs; report = said.report }
+-- what P says of a task, or else Q
+abbrev pub OfTaskOr : Result TaskParts (List ℕ) → (Q : Type 0) → (P : TaskParts → Type 0) → Type 0
+OfTaskOr (Ok task) Q P = P task
+OfTaskOr (Err report) Q P = Q
 
--- The parts of an answer: together they have its files and its report. If one part is asked for,
--- there is one.
-pub record AreAllParts (reading : Reading) (said : Said) (parts : List AnswerPart) : Type 0 where
-  pub outputs : said.outputs ≡ outputs_of parts
-  pub report : said.report ≡ report_of parts
-  pub one : asks_one_part reading ≡ true → AreAnswerParts said parts
+-- The parts of an answer to these texts: all files and the whole report, or those of a search with
+-- falling weights, one for each claim.
+abbrev pub AreAllParts : Reading → (texts : List (List ℕ)) → Said → List AnswerPart → Type 0
+AreAllParts (Read (Falling falling)) texts said parts =
+    OfTaskOr (solve_task falling.solve texts) (AreAnswerParts said parts)
+    (λ task. IsFallingFound falling.solve task falling.steps said parts)
+AreAllParts (Read (Solve solve)) texts said parts = AreAnswerParts said parts
+AreAllParts (Read (Check check)) texts said parts = AreAnswerParts said parts
+AreAllParts (Read (Journal journal)) texts said parts = AreAnswerParts said parts
+AreAllParts (Read (Make make)) texts said parts = AreAnswerParts said parts
+AreAllParts (Refused fault) texts said parts = AreAnswerParts said parts
 
--- The first parts of an answer, of which the others aren't decided yet. Their files have names that
--- the words give, in their order. If one part is asked for, none is decided before the whole answer.
-pub record AreFirstParts (reading : Reading) (parts : List AnswerPart) : Type 0 where
-  pub named : AreSomeOf (map (λ (o : Output). o.name) (outputs_of parts)) (saved_names reading)
-  pub none : asks_one_part reading ≡ true → parts ≡ []
+-- The first parts of an answer to these texts, of which the others aren't decided yet. If one part
+-- is asked for, none is decided before the whole answer. A search with falling weights may have
+-- none, too. Else the texts spell a task, each part says a claim, and of none is the bound the
+-- cost.
+abbrev pub AreFirstParts : Reading → (texts : List (List ℕ)) → List AnswerPart → Type 0
+AreFirstParts (Read (Falling falling)) texts parts =
+    (parts ≡ [])
+    ⊎ ((task : TaskParts) × (solve_task falling.solve texts ≡ Ok task)
+    × AreClaimParts falling.solve task falling.steps parts)
+AreFirstParts (Read (Solve solve)) texts parts = parts ≡ []
+AreFirstParts (Read (Check check)) texts parts = parts ≡ []
+AreFirstParts (Read (Journal journal)) texts parts = parts ≡ []
+AreFirstParts (Read (Make make)) texts parts = parts ≡ []
+AreFirstParts (Refused fault) texts parts = parts ≡ []
 
 -- the parts that are decided of these texts: those of an answer, or its first ones
 abbrev pub AreDecided : Reading → (texts : List (List ℕ)) → List AnswerPart → Type 0
 AreDecided reading texts parts =
-    ((said : Said) × AnswersReading reading texts said × AreAllParts reading said parts)
-    ⊎ AreFirstParts reading parts
+    ((said : Said) × AnswersReading reading texts said × AreAllParts reading texts said parts)
+    ⊎ AreFirstParts reading texts parts

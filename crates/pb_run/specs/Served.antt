@@ -3,7 +3,7 @@ use Rattle.std.specs.Prelude.{◌≡◌, ◌⊎◌, ℕ, ⊤, Option, None, Some
 use Rattle.pb_task.specs.declared.parts.TaskParts.{TaskParts}
 use Rattle.pb_check.specs.declared.fault.Verdict.{Verdict}
 use Rattle.pb_check.specs.Shown.{IsAccepted}
-use Rattle.pb_command.specs.Meaning.{Reading, Refused, Read, Solve, Check, Journal, Make}
+use Rattle.pb_command.specs.Meaning.{Reading, Refused, Read, Solve, Falling, Check, Journal, Make}
 use Rattle.pb_outside.specs.Outside.{Files}
 use Rattle.pb_run.specs.Asked.{files_of, CanLoad}
 use Rattle.pb_run.specs.Calls.{CanHold}
@@ -36,13 +36,16 @@ CanHandOut reading texts can_hold can_take =
 
 -- What is answered, unless memory ran out:
 -- - of words that are no command line, their refusal;
--- - of a task to solve, a plan, that there is none, or a stop;
+-- - of a task to solve, a plan, that there is none, or a stop, with falling weights too;
 -- - of a valid certificate or a journal of the task, that it is accepted;
 -- - of a task that is to be made, what a search answers.
 abbrev pub IsAnswered : Reading → (texts : List (List ℕ)) → (status : ℕ) → Type 0
 IsAnswered (Refused fault) texts status = (status ≡ 64) ⊎ (status ≡ 71)
 IsAnswered (Read (Solve solve)) texts status =
     (parts : TaskParts) → solve_task solve texts ≡ Ok parts
+    → (status ≡ 0) ⊎ ((status ≡ 1) ⊎ ((status ≡ 2) ⊎ (status ≡ 71)))
+IsAnswered (Read (Falling falling)) texts status =
+    (parts : TaskParts) → solve_task falling.solve texts ≡ Ok parts
     → (status ≡ 0) ⊎ ((status ≡ 1) ⊎ ((status ≡ 2) ⊎ (status ≡ 71)))
 IsAnswered (Read (Check check)) texts status =
     (parts : TaskParts) (certificate : List ℕ) (verdict : Verdict)
@@ -71,27 +74,37 @@ pub record AnswersIfPartsFit (reading : Reading) (texts : List (List ℕ)) (stat
   pub said : Said
   pub answers : AnswersReading reading texts said
   pub parts : List AnswerPart
-  pub parts_are : AreAllParts reading said parts
+  pub parts_are : AreAllParts reading texts said parts
   pub if_they_fit : PartsFit can_hold can_take parts → status ≡ said.status
 
--- first parts of an answer don't fit
-pub record PartsDoNotFit (reading : Reading) (can_hold : List ℕ → ℕ → Type 0)
-    (can_take : ℕ → Type 0) : Type 0 where
+-- it broke off, and first parts of an answer don't fit
+pub record PartsDoNotFit (reading : Reading) (texts : List (List ℕ)) (status : ℕ)
+    (can_hold : List ℕ → ℕ → Type 0) (can_take : ℕ → Type 0) : Type 0 where
+  pub broke : (status ≡ 73) ⊎ (status ≡ 74)
   pub parts : List AnswerPart
-  pub parts_are : AreFirstParts reading parts
+  pub parts_are : AreFirstParts reading texts parts
   pub do_not_fit : PartsFit can_hold can_take parts → ⊥
+
+-- It is so of these texts, unless memory ran out: the status is that of an answer if its parts fit,
+-- or first parts don't fit.
+abbrev pub HandsOutIfPartsFit : Reading → (texts : List (List ℕ)) → (status : ℕ)
+    → (can_hold : List ℕ → ℕ → Type 0) → (can_take : ℕ → Type 0) → Type 0
+HandsOutIfPartsFit reading texts status can_hold can_take =
+    (status ≡ 71)
+    ⊎ (AnswersIfPartsFit reading texts status can_hold can_take
+    ⊎ PartsDoNotFit reading texts status can_hold can_take)
 
 -- What is answered of the texts of these files fits: unless memory ran out, they have one answer
 -- that is handed out if the shelf can hold what it saves and the sink can take its report. So what
--- is asked of both is the length of that answer alone. Where more than one part is asked for, it may
--- break off at parts that don't fit.
+-- is asked of both is the length of that answer alone. Where more than one part is asked for, it
+-- may break off at parts that don't fit.
 abbrev pub IsHandedOutIfItFits : Reading → Files → (status : ℕ) → (can_hold : List ℕ → ℕ → Type 0)
     → (can_take : ℕ → Type 0) → Type 0
 IsHandedOutIfItFits reading told status can_hold can_take =
     (status ≡ 71)
     ⊎ ((texts : List (List ℕ)) × (loads_of told (files_of reading) ≡ Some texts)
     × (AnswersIfPartsFit reading texts status can_hold can_take
-    ⊎ PartsDoNotFit reading can_hold can_take))
+    ⊎ PartsDoNotFit reading texts status can_hold can_take))
 
 -- It is so if the shelf's files are known, and it can load those that the words name.
 abbrev pub AnswersWhatFits : Reading → (status : ℕ) → Option Files → (can_load : List ℕ → Type 0)

@@ -49,7 +49,8 @@ pub record AnswersIfServed (words : List (List ℕ)) (status : ℕ) (files : Opt
   pub fits : AnswersWhatFits (reading_of_words words) status files can_load can_hold can_take
 
 -- Where nothing is answered: if one part is asked for, nothing is printed at 71 and 73, and nothing
--- is saved at 71. The shelf's count of faults rises at 73 and the sink's at 74, and none ever falls.
+-- is saved at 71. The shelf's count of faults rises at 73 and the sink's at 74, and none ever
+-- falls.
 pub record BreaksOnlyBy (it : Outcome) (shelf shelf' sink sink' : ℕ) : Type 0 where
   pub unsaved : asks_one_part it.asked ≡ true → it.said.status ≡ 71 → it.said.outputs ≡ []
   pub silent : asks_one_part it.asked ≡ true
@@ -63,7 +64,8 @@ pub record BreaksOnlyBy (it : Outcome) (shelf shelf' sink sink' : ℕ) : Type 0 
 -- - `loaded`: the texts are those of the files;
 -- - `saved`: unless the shelf failed, what was saved is there;
 -- - `kept`: at 71 all files are as before, if one part is asked for;
--- - `left`: at 73 some files are saved and of the next one a prefix;
+-- - `left`: at 73 the files of the parts that were printed are saved, and of the next part some
+--   files and of one more a prefix; if a load failed, nothing is saved or printed;
 -- - `others`: files under other names stay;
 -- - `printed`: what was printed follows what was written before.
 pub record ContentsHold (it : Outcome) (files files' : Option Files)
@@ -73,7 +75,8 @@ pub record ContentsHold (it : Outcome) (files files' : Option Files)
       → IfTold files files' (SavesIn it.said.outputs)
   pub kept : asks_one_part it.asked ≡ true → it.said.status ≡ 71 → IfTold files files' KeepsAll
   pub left : it.said.status ≡ 73 → IfTold files files'
-      (λ before after. KeepsAll before after ⊎ LeavesPart it.asked it.texts before after)
+      (λ before after. (KeepsAll before after × (it.said.report ≡ []))
+      ⊎ LeavesPart it.asked it.texts it.said.report before after)
   pub others : IfTold files files' (KeepsUnnamed it.asked)
   pub printed : IfTold written written'
       (λ before after. Appends before after it.said.report)

@@ -1,21 +1,34 @@
 //! What is answered of what the words ask for, and of the texts of the loaded files.
 ghost use Rattle.std.specs.Prelude.{◌≡◌, IfOk, []};
-ghost use Rattle.pb_command.specs.Meaning.{Read, IsInRange};
-ghost use Rattle.pb_command.specs.Causes.{meaning_of};
+ghost use Rattle.pb_command.specs.Meaning.{Read, Falling, IsInRange};
+ghost use Rattle.pb_command.specs.Causes.{meaning_of, falling_meant};
 ghost use Rattle.pb_answer.specs.Answer.{said_of};
 ghost use Rattle.pb_run.specs.Read.{reading_of, IsRead};
-ghost use Rattle.pb_run.specs.Answers.{AnswersReading};
+ghost use Rattle.pb_run.specs.Begun.{Begins};
 
 use crate::asked::Asked;
-use crate::lend::{lend_check, lend_solve};
+use crate::lend::{lend_check, lend_falling, lend_solve};
 use crate::make::make_task;
-use pb_answer::{Answer, SearchedStore, Status, Texts, answer_check, answer_journal, answer_solve};
-use pb_command::{CommandLine, Message};
+use pb_answer::{
+    Answer, FallingBegin, FallingSearch, SearchedStore, Status, Texts, answer_check,
+    answer_journal, answer_solve, begin_falling,
+};
+use pb_command::{CommandLine, FallingCommand, Message};
 use pb_outside::Gate;
 use pb_report::Report;
 use std::alloc::{AllocError, Global};
 use std::sync::Wait;
 use std::thread::Threads;
+
+/// What is begun for what the words ask for.
+#[derive(Drop)]
+pub enum Begun<'a> {
+    /// The whole answer, which is handed out in one part.
+    Answered(Answer<'a>),
+    /// A search with falling weights after its first run. What it claims is handed out after each
+    /// run.
+    Searching(FallingSearch<'a>),
+}
 
 // The answer to words that are no command line.
 fn refuse_words<'a>(alloc: Global, message: &Message) -> Result<Answer<'a>, AllocError>
@@ -29,6 +42,24 @@ fn refuse_words<'a>(alloc: Global, message: &Message) -> Result<Answer<'a>, Allo
     Ok(Answer::without_files(Status::WordsRefused, report))
 }
 
+// The first run of a search with falling weights, or the answer to texts that spell no task.
+fn begin_claims<'a, 'w: 'a, R: Threads + Wait + Sync, G: Gate>(
+    rt: &R,
+    alloc: Global,
+    falling: &FallingCommand<'w>,
+    texts: &'a Texts,
+    gate: &G,
+) -> Result<Begun<'a>, AllocError>
+    requires { IsInRange (Falling (falling_meant falling.now)) }
+    ensures { IfOk result (Begins (Read (Falling (falling_meant falling.now))) texts.entry.now) }
+{
+    match begin_falling(rt, alloc, lend_falling(falling), texts, gate) {
+        Ok(FallingBegin::Search(search)) => Ok(Begun::Searching(search)),
+        Ok(FallingBegin::Refused(answer)) => Ok(Begun::Answered(answer)),
+        Err(AllocError) => Err(AllocError),
+    }
+}
+
 // What is answered of a command, and of the texts that were loaded of its files.
 fn answer_command<'a, 'w: 'a, R: Threads + Wait + Sync, G: Gate>(
     rt: &R,
@@ -37,25 +68,42 @@ fn answer_command<'a, 'w: 'a, R: Threads + Wait + Sync, G: Gate>(
     texts: &'a Texts,
     gate: &G,
     kept: &'a mut Option<SearchedStore>,
-) -> Result<Answer<'a>, AllocError>
+) -> Result<Begun<'a>, AllocError>
     requires { IsInRange (meaning_of command.now) }
-    ensures { IfOk result (λ a. AnswersReading (Read (meaning_of command.now)) texts.entry.now
-        (said_of a)) }
+    ensures { IfOk result (Begins (Read (meaning_of command.now)) texts.entry.now) }
 {
     match command {
-        CommandLine::Solve(solve) => answer_solve(rt, alloc, lend_solve(solve), texts, gate, kept),
-        CommandLine::Check(check) => answer_check(rt, alloc, lend_check(check), texts, gate),
-        CommandLine::Journal(journal) => answer_journal(alloc, *journal, texts),
-        CommandLine::Make(make) => make_task(rt, alloc, *make, gate),
+        CommandLine::Solve(solve) => Ok(Begun::Answered(answer_solve(
+            rt,
+            alloc,
+            lend_solve(solve),
+            texts,
+            gate,
+            kept,
+        )?)),
+        CommandLine::Falling(falling) => begin_claims(rt, alloc, falling, texts, gate),
+        CommandLine::Check(check) => Ok(Begun::Answered(answer_check(
+            rt,
+            alloc,
+            lend_check(check),
+            texts,
+            gate,
+        )?)),
+        CommandLine::Journal(journal) => Ok(Begun::Answered(answer_journal(
+            alloc, *journal, texts,
+        )?)),
+        CommandLine::Make(make) => Ok(Begun::Answered(make_task(rt, alloc, *make, gate)?)),
     }
 }
 
 /// What is answered of what the words ask for, and of the texts that were loaded of the files that
-/// they name. If a file was too long, its text and the later ones are left out. What a search
+/// they name. For falling weights it is the search after its first run, and the next runs are still
+/// to be made. If a file was too long, its text and the later ones are left out. What a search
 /// leaves is kept in `kept`: the certificate and the journal borrow it. An error is out of memory.
 ///
-/// This is the whole program but its reading, saving and printing. A search has as many workers as
-/// the words ask for. By leases one waits for nobody, and more have a thread each.
+/// This is the whole program but its reading, saving and printing, and the later runs. A search has
+/// as many workers as the words ask for. By leases one waits for nobody, and more have a thread
+/// each.
 pub fn answer_asked<'a, 'w: 'a, R: Threads + Wait + Sync, G: Gate>(
     rt: &R,
     alloc: Global,
@@ -63,13 +111,12 @@ pub fn answer_asked<'a, 'w: 'a, R: Threads + Wait + Sync, G: Gate>(
     texts: &'a Texts,
     gate: &G,
     kept: &'a mut Option<SearchedStore>,
-) -> Result<Answer<'a>, AllocError>
+) -> Result<Begun<'a>, AllocError>
     requires { IsRead asked.now }
-    ensures { IfOk result (λ a. AnswersReading (reading_of asked.now) texts.entry.now
-        (said_of a)) }
+    ensures { IfOk result (Begins (reading_of asked.now) texts.entry.now) }
 {
     match asked {
         Asked::Command(command) => answer_command(rt, alloc, command, texts, gate, kept),
-        Asked::NoCommand(_, message) => refuse_words(alloc, message),
+        Asked::NoCommand(_, message) => Ok(Begun::Answered(refuse_words(alloc, message)?)),
     }
 }

@@ -1,9 +1,9 @@
 //! Commands that are lent for less long than the words that they were read from: an answer borrows
 //! the names of a command and the texts of its files, for as long as both are there.
 ghost use Rattle.std.specs.Prelude.{◌≡◌, option_map};
-ghost use Rattle.pb_command.specs.Causes.{input_meant, solve_meant, check_meant};
+ghost use Rattle.pb_command.specs.Causes.{input_meant, solve_meant, falling_meant, check_meant};
 
-use pb_command::{CheckCommand, GridFiles, Input, SolveCommand, StripsFiles};
+use pb_command::{CheckCommand, FallingCommand, GridFiles, Input, SolveCommand, StripsFiles};
 
 // A name, if there is one.
 fn lend_name<'l, 'w: 'l>(name: Option<&'w str>) -> Option<&'l str>
@@ -43,6 +43,16 @@ pub fn lend_solve<'l, 'w: 'l>(solve: &SolveCommand<'w>) -> SolveCommand<'l>
         engine: solve.engine,
         certificate: lend_name(solve.certificate),
         journal: lend_name(solve.journal),
+    }
+}
+
+/// The same command.
+pub fn lend_falling<'l, 'w: 'l>(falling: &FallingCommand<'w>) -> FallingCommand<'l>
+    ensures { falling_meant result ≡ falling_meant falling.now }
+{
+    FallingCommand {
+        solve: lend_solve(&falling.solve),
+        steps: falling.steps,
     }
 }
 

@@ -9,6 +9,7 @@ mod answer;
 mod asked;
 mod claims;
 mod laws;
+mod laws_falling;
 mod lend;
 mod load;
 mod make;

@@ -15,7 +15,8 @@ use std::thread::Threads;
 
 /// `run` over files and output in memory, of which no call is to fail, and where each file is that
 /// the words name. Whatever is answered, the status is that of the answer if each file that is to
-/// be saved has room under its name, and the report has room. Or memory ran out.
+/// be saved has room under its name, and the report has room. Or memory ran out. With `--falling`
+/// it may also break off at first claims that have no room.
 pub fn run_in_memory<R: Threads + Wait + Sync, G: Gate>(
     rt: &R,
     alloc: Global,

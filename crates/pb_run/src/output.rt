@@ -1,13 +1,19 @@
 //! Handing out an answer: what is to be saved, and then the report.
-ghost use Rattle.std.specs.Prelude.{◌≡◌, ◌≤◌, ◌++◌, IsSome, IsOk, OnOk, OnErr, length};
+ghost use Rattle.std.specs.Prelude.{◌≡◌, ◌≤◌, ◌++◌, ℕ, List, IsSome, IsOk, OnOk, OnErr, length};
 ghost use Rattle.pb_outside.specs.Outside.{IfTold, Rose, HasCause, KeepsHolds};
 ghost use Rattle.pb_outside.specs.Calls.{KeepsTakes};
 ghost use Rattle.pb_run.specs.Calls.{CanHold};
+ghost use Rattle.pb_command.specs.Meaning.{Reading};
+ghost use Rattle.pb_answer.specs.Statuses.{number_of};
 ghost use Rattle.pb_answer.specs.Answer.{certificates_of, journals_of, said_of};
 ghost use Rattle.pb_run.specs.Contents.{SavesIn, SavesPartIn, Saved, SavedPart, Hands, HandsTold};
+ghost use Rattle.pb_run.specs.Outcome.{IsAnswer};
+ghost use Rattle.pb_run.specs.Served.{HandsOutIfPartsFit};
+ghost use Rattle.pb_run.specs.PartByPart.{HandsOutTexts};
+ghost use Rattle.pb_run.specs.Begun.{IsOnePart};
 ghost use Rattle.pb_run.specs.declared.output.Ending.TheVariants.{Done, NotSaved, NotPrinted};
 
-use pb_answer::{Answer, CertificateText, SavedCertificate, SavedJournal};
+use pb_answer::{Answer, CertificateText, SavedCertificate, SavedJournal, Status};
 use pb_journal::write_journal;
 use pb_outside::{Failed, Shelf, Sink};
 
@@ -113,5 +119,33 @@ pub fn hand_out<H: Shelf, K: Sink>(shelf: &mut H, out: &mut K, answer: &Answer<'
     match out.put(answer.report.as_slice()) {
         Ok(()) => Ending::Done,
         Err(_) => Ending::NotPrinted,
+    }
+}
+
+/// Hands out an answer in one part, and answers the status.
+pub fn hand_out_at_once<H: Shelf, K: Sink>(
+    shelf: &mut H,
+    out: &mut K,
+    answer: &Answer<'_>,
+) -> Status
+    requires { IsAnswer (said_of answer.now).status }
+    ensures hands { (reading : Reading) (texts : List (List ℕ))
+        → IsOnePart reading texts (said_of answer.now)
+        → HandsOutTexts reading texts (number_of result) (H.files shelf.old) (H.files shelf.new)
+        (H.calls shelf.old) (H.calls shelf.new) (K.calls out.old) (K.calls out.new)
+        (K.written out.old) (K.written out.new) }
+    ensures fits { (reading : Reading) (texts : List (List ℕ))
+        → IsOnePart reading texts (said_of answer.now) → IsSome (H.files shelf.old)
+        → HandsOutIfPartsFit reading texts (number_of result) (H.can_hold shelf.old)
+        (K.can_take out.old) }
+    ensures shelf_fault { number_of result ≡ 73 → Rose (H.faults shelf.old) (H.faults shelf.new) }
+    ensures sink_fault { number_of result ≡ 74 → Rose (K.faults out.old) (K.faults out.new) }
+    ensures shelf_later { H.faults shelf.old ≤ H.faults shelf.new }
+    ensures sink_later { K.faults out.old ≤ K.faults out.new }
+{
+    match hand_out(shelf, out, answer) {
+        Ending::Done => answer.status,
+        Ending::NotSaved => Status::ShelfFailed,
+        Ending::NotPrinted => Status::SinkFailed,
     }
 }

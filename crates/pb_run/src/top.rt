@@ -1,20 +1,23 @@
 //! The whole program over any files and output, with its promises as clauses.
-ghost use Rattle.std.specs.Prelude.{◌≡◌, ◌⊎◌, ◌≤◌, map, string_bytes};
+ghost use Rattle.std.specs.Prelude.{◌≡◌, ◌≤◌, map, string_bytes};
 ghost use Rattle.pb_command.specs.Meaning.{reading_of_words};
 ghost use Rattle.pb_outside.specs.Outside.{Rose};
 ghost use Rattle.pb_answer.specs.Statuses.{number_of};
-ghost use Rattle.pb_run.specs.Outcome.{outcome, IsAnswer};
+ghost use Rattle.pb_run.specs.Outcome.{outcome};
 ghost use Rattle.pb_run.specs.Headline.{PlanIsPlan, NoneIsCheaper, CertificateHolds, NoneMeansNone, StopHasCause};
 ghost use Rattle.pb_run.specs.Kinds.{MapsHold, BoardsHold, NamedHolds};
 ghost use Rattle.pb_run.specs.Commands.{SolvesHold, ChecksHold, JournalsHold, MakesHold, RefusalHolds};
-ghost use Rattle.pb_run.specs.Served.{AnswersWhatFits, CanServe};
+ghost use Rattle.pb_run.specs.FallingHeadline.{FallingsHold};
+ghost use Rattle.pb_run.specs.FallingKinds.{FallingMapsHold, FallingBoardsHold, FallingNamedHold};
+ghost use Rattle.pb_run.specs.Served.{AnswersWhatFits};
 ghost use Rattle.pb_run.specs.Whole.{CallsHold, AnswersIfServed, BreaksOnlyBy, ContentsHold};
 ghost use Rattle.pb_run.specs.Contents.{Goes, WritesPut};
 
-use crate::answer::answer_asked;
+use crate::answer::{Begun, answer_asked};
 use crate::asked::read_asked;
+use crate::claims::hand_out_claims;
 use crate::load::load_files;
-use crate::output::{Ending, hand_out};
+use crate::output::hand_out_at_once;
 use pb_answer::{SearchedStore, Status};
 use pb_grid::read_as_spelled;
 use pb_outside::{Gate, Shelf, Sink};
@@ -39,6 +42,7 @@ pub fn run<R: Threads + Wait + Sync, H: Shelf, K: Sink, G: Gate>(
     out: &mut K,
     gate: &G,
 ) -> u8
+    // The next eight clauses, and `solve`, speak of `solve` without `--falling`.
     // Status 0: what is printed is a plan of the task, with its cost and bound.
     ensures plan { PlanIsPlan (outcome (map string_bytes words.now) result
         (H.calls shelf.old) (H.calls shelf.new) (K.calls out.old) (K.calls out.new)) }
@@ -60,6 +64,17 @@ pub fn run<R: Threads + Wait + Sync, H: Shelf, K: Sink, G: Gate>(
     ensures boards { BoardsHold (outcome (map string_bytes words.now) result
         (H.calls shelf.old) (H.calls shelf.new) (K.calls out.old) (K.calls out.new)) }
     ensures named { NamedHolds (outcome (map string_bytes words.now) result
+        (H.calls shelf.old) (H.calls shelf.new) (K.calls out.old) (K.calls out.new)) }
+    // With falling weights: the same for each claim, the costs of which never rise. With status 0
+    // no plan is cheaper than the last one. If nothing more is answered, what is out.
+    ensures falling { FallingsHold (outcome (map string_bytes words.now) result
+        (H.calls shelf.old) (H.calls shelf.new) (K.calls out.old) (K.calls out.new)) }
+    // And for each kind of task in its own words.
+    ensures falling_maps { FallingMapsHold (outcome (map string_bytes words.now) result
+        (H.calls shelf.old) (H.calls shelf.new) (K.calls out.old) (K.calls out.new)) }
+    ensures falling_boards { FallingBoardsHold (outcome (map string_bytes words.now) result
+        (H.calls shelf.old) (H.calls shelf.new) (K.calls out.old) (K.calls out.new)) }
+    ensures falling_named { FallingNamedHold (outcome (map string_bytes words.now) result
         (H.calls shelf.old) (H.calls shelf.new) (K.calls out.old) (K.calls out.new)) }
     // What else each command promises, and what is refused.
     ensures solve { SolvesHold (outcome (map string_bytes words.now) result
@@ -95,7 +110,8 @@ pub fn run<R: Threads + Wait + Sync, H: Shelf, K: Sink, G: Gate>(
 }
 
 // The whole way: the words are read, the files that they name are loaded, what is asked of their
-// texts is answered, and the answer is handed out. What a search leaves is kept in `kept`.
+// texts is answered, and the answer is handed out. With falling weights what is claimed after each
+// run is. What another search leaves is kept in `kept`.
 fn carry_out<'a, R: Threads + Wait + Sync, H: Shelf, K: Sink, G: Gate>(
     rt: &R,
     alloc: Global,
@@ -110,9 +126,6 @@ fn carry_out<'a, R: Threads + Wait + Sync, H: Shelf, K: Sink, G: Gate>(
         (K.calls out.old) (K.calls out.new) }
     ensures written { WritesPut (K.written out.old) (K.written out.new) (K.calls out.old)
         (K.calls out.new) }
-    ensures sure { CanServe (reading_of_words (map string_bytes words.now)) (H.files shelf.old)
-        (H.can_load shelf.old) (H.can_hold shelf.old) (K.can_take out.old)
-        → IsAnswer (number_of result) ⊎ (number_of result ≡ 71) }
     ensures fits { AnswersWhatFits (reading_of_words (map string_bytes words.now))
         (number_of result) (H.files shelf.old) (H.can_load shelf.old) (H.can_hold shelf.old)
         (K.can_take out.old) }
@@ -132,9 +145,8 @@ fn carry_out<'a, R: Threads + Wait + Sync, H: Shelf, K: Sink, G: Gate>(
     let Ok(answer) = answer_asked(rt, alloc, &asked, &texts, gate, kept) else {
         return Status::OutOfMemory;
     };
-    match hand_out(shelf, out, &answer) {
-        Ending::Done => answer.status,
-        Ending::NotSaved => Status::ShelfFailed,
-        Ending::NotPrinted => Status::SinkFailed,
+    match answer {
+        Begun::Answered(answer) => hand_out_at_once(shelf, out, &answer),
+        Begun::Searching(search) => hand_out_claims(rt, alloc, search, shelf, out, gate),
     }
 }

@@ -1,6 +1,6 @@
 use pb_command::{
-    CheckCommand, CommandLine, CommandRefusal, Engine, Input, JournalCommand, MakeCommand,
-    SolveCommand, read_words,
+    CheckCommand, CommandLine, CommandRefusal, Engine, FallingCommand, Input, JournalCommand,
+    MakeCommand, SolveCommand, read_words,
 };
 use std::alloc::{AllocError, Global};
 use std::process::Abort;
@@ -44,6 +44,11 @@ fn solve_text(alloc: Global, command: &SolveCommand<'_>) -> Result<String, Alloc
     format!(in alloc; "solve {input}: {numbers} {plain} {swamp} {saved:?} {noted:?}\n")
 }
 
+fn falling_text(alloc: Global, command: &FallingCommand<'_>) -> Result<String, AllocError> {
+    let solve = solve_text(alloc, &command.solve)?;
+    format!(in alloc; "falling {} {solve}", command.steps)
+}
+
 fn check_text(alloc: Global, command: &CheckCommand<'_>) -> Result<String, AllocError> {
     let input = input_text(alloc, &command.input)?;
     let (name, options) = (command.certificate, command.options);
@@ -72,6 +77,7 @@ fn make_text(alloc: Global, command: &MakeCommand) -> Result<String, AllocError>
 fn command_text(alloc: Global, command: &CommandLine<'_>) -> Result<String, AllocError> {
     match command {
         CommandLine::Solve(command) => solve_text(alloc, command),
+        CommandLine::Falling(command) => falling_text(alloc, command),
         CommandLine::Check(command) => check_text(alloc, command),
         CommandLine::Journal(command) => journal_text(alloc, command),
         CommandLine::Make(command) => make_text(alloc, command),
@@ -119,8 +125,9 @@ fn answer_to_long_kind<R: Abort>(rt: &R, alloc: Global, letter: &str) -> (usize,
 
 // Options may stand anywhere after the command. Those that aren't given have their defaults. A line
 // of `solve` has the row, the workers, the weight, the budget, the lot, the blocks, the pattern
-// database, the engine, `--plain`, `--swamp` and the names of certificate and journal. A line of
-// `check` has the row, the workers, `--swamp` and the new name.
+// database, the engine, `--plain`, `--swamp` and the names of certificate and journal. With
+// `--falling` the number of steps stands before it. A line of `check` has the row, the workers,
+// `--swamp` and the new name.
 const COMMANDS: &str = "\
 > solve grid m --row 1000000 s --budget=1099511627776 --lot 1 --blocks=4096 --cert c \
 --workers 64 --swamp --num=1000 --plain --den 999 --trace=t --pattern 12 --engine pbnf
@@ -163,6 +170,12 @@ solve tiles b: 0 1 1/1 16777216 256 256 0 hda false false None None
 solve grid m s: 0 4 1/1 16777216 256 256 0 hda false false Some(\"c\") None
 > solve strips --engine pbnf d p --trace j
 solve strips d p: 0 1 1/1 16777216 256 256 0 pbnf false false None Some(\"j\")
+> solve tiles b --falling 1
+falling 1 solve tiles b: 0 1 1/1 16777216 256 256 0 pbnf false false None None
+> solve --falling=20 grid m --num 3 s --cert c --swamp
+falling 20 solve grid m s: 0 1 3/1 16777216 256 256 0 pbnf false true Some(\"c\") None
+> solve strips d --engine pbnf --falling +07 p --workers 4 --plain
+falling 7 solve strips d p: 0 4 1/1 16777216 256 256 0 pbnf true false None None
 > check tiles c b --workers 2
 check c tiles b: 0 2 false None
 > check grid --workers=64 c m --rewrite d s --swamp
@@ -354,6 +367,54 @@ Form
 error: unexpected argument '--engine' found
 
   tip: to pass '--engine' as a value, use '-- --engine'
+
+Usage: check <KIND> <CERTIFICATE> <FIRST_FILE> [SECOND_FILE]
+> solve tiles b --falling 2 --engine hda
+Engine
+words engine
+> solve --engine=hda grid m s --falling=20 --cert c
+Engine
+words engine
+> solve tiles b --falling 2 --trace j
+Falling
+words falling
+> solve grid m --trace=j --falling=20 s --cert c
+Falling
+words falling
+> solve tiles b --engine hda --falling 2 --trace j
+Engine
+words engine
+> solve tiles b --falling 2 --cert j --trace j
+Names
+words names
+> solve tiles b --falling 2 --cert j --trace j --den 2
+Weight
+words weight
+> solve grid m --falling 2 --trace j
+Files
+words files
+> solve tiles b --falling 0
+Form
+error: invalid value '0' for '--falling <falling>': 0 is not in 1..=20
+> solve grid m s --falling=21 --trace j
+Form
+error: invalid value '21' for '--falling <falling>': 21 is not in 1..=20
+> solve tiles b --falling few
+Form
+error: invalid value 'few' for '--falling <falling>': invalid digit found in string
+> solve tiles b --falling
+Form
+error: a value is required for '--falling <falling>' but none was supplied
+> solve tiles b --falling 2 --falling 2
+Form
+error: the argument '--falling <falling>' cannot be used multiple times
+
+Usage: solve [OPTIONS] <KIND> <FIRST_FILE> [SECOND_FILE]
+> check tiles c b --falling 2
+Form
+error: unexpected argument '--falling' found
+
+  tip: to pass '--falling' as a value, use '-- --falling'
 
 Usage: check <KIND> <CERTIFICATE> <FIRST_FILE> [SECOND_FILE]
 > solve grid m --den 2

@@ -1,5 +1,5 @@
 use Rattle.std.proofs.Common.{[], ◌∷◌, refl, codes}
-use Rattle.pb_command.specs.declared.table.ValuedOption.TheVariants.{Engine, Den, Certificate, Journal}
+use Rattle.pb_command.specs.declared.table.ValuedOption.TheVariants.{Engine, Den, Certificate, Journal, Falling}
 use Rattle.pb_command.specs.Options.{Placed, Valued}
 use Rattle.pb_command.proofs.Examples.{grid_name, tiles_name, two_name, letter_name, owners_name}
 use Rattle.pb_command.proofs.SolveReading.{solve_is}
@@ -16,3 +16,7 @@ returns-clause-weight c = λ board hb. solve_is (Placed (codes "tiles") ∷ Plac
 pub returns-clause-names : goal.returns-clause-names
 returns-clause-names c = λ board hb. solve_is (Placed (codes "tiles") ∷ Placed board ∷ Valued Engine (codes "hda") ∷ Valued Certificate (codes "c") ∷ Valued Journal (codes "c") ∷ [])
     (tiles_name, (hb, ((refl, owners_name, refl), ((refl, letter_name, refl), ((refl, letter_name, refl), tt))))) (refl, (refl, (refl, tt))) (refl, (refl, tt)) (codes "tiles") board refl refl
+
+pub returns-clause-engine : goal.returns-clause-engine
+returns-clause-engine c = λ board hb. solve_is (Placed (codes "tiles") ∷ Placed board ∷ Valued Engine (codes "hda") ∷ Valued Falling (codes "2") ∷ Valued Journal (codes "c") ∷ [])
+    (tiles_name, (hb, ((refl, owners_name, refl), ((refl, two_name, refl), ((refl, letter_name, refl), tt))))) (refl, (refl, (refl, tt))) (refl, (refl, tt)) (codes "tiles") board refl refl

@@ -60,6 +60,20 @@ returns-clause-boards g c = clauses.boards (words g c) (status g c) (files g c) 
 pub returns-clause-named : goal.returns-clause-named
 returns-clause-named g c = clauses.named (words g c) (status g c) (files g c) (files_after g c) (calls g c) (calls_after g c) (puts g c) (puts_after g c) c.carry_out-status.ensures.goes c.number.result c.number.ensures
 
+pub returns-clause-falling : goal.returns-clause-falling
+returns-clause-falling g c = clauses.falling (words g c) (status g c) (files g c) (files_after g c) (calls g c) (calls_after g c) (puts g c) (puts_after g c) c.carry_out-status.ensures.goes c.number.result c.number.ensures
+
+pub returns-clause-falling_maps : goal.returns-clause-falling_maps
+returns-clause-falling_maps g c = clauses.falling_maps (words g c) (status g c) (files g c) (files_after g c) (calls g c) (calls_after g c) (puts g c) (puts_after g c) c.carry_out-status.ensures.goes c.number.result c.number.ensures
+    c.read_as_spelled.ensures
+
+pub returns-clause-falling_boards : goal.returns-clause-falling_boards
+returns-clause-falling_boards g c = clauses.falling_boards (words g c) (status g c) (files g c) (files_after g c) (calls g c) (calls_after g c) (puts g c) (puts_after g c) c.carry_out-status.ensures.goes c.number.result c.number.ensures
+    c.readings_are_spelled.ensures
+
+pub returns-clause-falling_named : goal.returns-clause-falling_named
+returns-clause-falling_named g c = clauses.falling_named (words g c) (status g c) (files g c) (files_after g c) (calls g c) (calls_after g c) (puts g c) (puts_after g c) c.carry_out-status.ensures.goes c.number.result c.number.ensures
+
 pub returns-clause-solve : goal.returns-clause-solve
 returns-clause-solve g c = clauses.solve (words g c) (status g c) (files g c) (files_after g c) (calls g c) (calls_after g c) (puts g c) (puts_after g c) c.carry_out-status.ensures.goes c.number.result c.number.ensures
 
@@ -81,7 +95,7 @@ returns-clause-calls g c = clauses.calls (words g c) (status g c) (files g c) (f
 
 pub returns-clause-answered : goal.returns-clause-answered
 returns-clause-answered g c = clauses.answered (words g c) (status g c) (files g c) (files_after g c) (calls g c) (calls_after g c) (puts g c) (puts_after g c) c.carry_out-status.ensures.goes c.number.result c.number.ensures
-    (g.H.Shelf.can_load c.args.shelf.now) (g.H.Shelf.can_hold c.args.shelf.now) (g.K.Sink.can_take c.args.out.now) c.carry_out-status.ensures.sure c.carry_out-status.ensures.fits
+    (g.H.Shelf.can_load c.args.shelf.now) (g.H.Shelf.can_hold c.args.shelf.now) (g.K.Sink.can_take c.args.out.now) c.carry_out-status.ensures.fits
 
 pub returns-clause-broken : goal.returns-clause-broken
 returns-clause-broken g c = clauses.broken (words g c) (status g c) (files g c) (files_after g c) (calls g c) (calls_after g c) (puts g c) (puts_after g c) c.carry_out-status.ensures.goes c.number.result c.number.ensures

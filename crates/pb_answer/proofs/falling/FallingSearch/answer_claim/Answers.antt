@@ -1,4 +1,4 @@
-use Rattle.std.proofs.Common.{◌≡◌, Some, None, [], ◌++◌, refl, ap, sym, ◌∙◌, subst}
+use Rattle.std.proofs.Common.{◌≡◌, Some, [], ◌++◌, refl, ap, sym, ◌∙◌, subst}
 use Rattle.std.specs.Arc.{arc_value}
 use Rattle.pb_model.specs.Plan.{Plan, IsBound}
 use Rattle.pb_task.specs.declared.parts.TaskParts.{TaskParts}

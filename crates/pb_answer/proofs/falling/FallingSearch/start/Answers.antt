@@ -14,20 +14,20 @@ use Rattle.pb_answer.proofs.falling.FallingSearch.start.Goals as goal
 pub after_run-requires-clause-quiet : goal.after_run-requires-clause-quiet
 after_run-requires-clause-quiet g c = λ quiet.
     let best = c.in_ok-graph.ensures.quiet quiet in
-    quiet_rows_of (arc_value c.in_ok-clone.field-0) c.in_ok-graph.graph
-    (c.in_ok-graph.ensures.task ∙ sym c.in_ok-clone.ensures.cases) best.best best.small
+    quiet_rows_of (arc_value c.in_ok-task.task) c.in_ok-graph.graph
+    (c.in_ok-graph.ensures.task ∙ sym c.in_ok-task.ensures.cases) best.best best.small
 
 pub returns-clause-falling : goal.returns-clause-falling
 returns-clause-falling g c =
-    let parts : TaskParts = arc_value c.in_ok-clone.field-0 in
-    let its : arc_value c.args.task.now ≡ parts = sym c.in_ok-clone.ensures.cases in
+    let parts : TaskParts = arc_value c.in_ok-task.task in
+    let its : arc_value c.args.task.now ≡ parts = sym c.in_ok-task.ensures.cases in
     let graph = c.in_ok-graph.graph in
-    let solve = solve_meant c.args.solve in
+    let solve = solve_meant c.args.falling.solve in
+    let steps = c.args.falling.steps in
     let task : graph.task ≡ parts = c.in_ok-graph.ensures.task ∙ its in
-    IfOk-weaker c.after_run.result (IsMade solve parts c.args.steps 0 graph None)
+    IfOk-weaker c.after_run.result (IsMade solve parts steps 0 graph None)
     (λ (s : FallingValue). (machine : Machine) × IsFalling [] machine s)
-    (first_falls solve c.requires.range parts c.args.steps c.requires.some_steps c.requires.few_steps
-    graph c.abstraction-lawful.ensures.lawful task
+    (first_falls solve steps c.requires parts graph c.abstraction-lawful.ensures.lawful task
     (subst (λ (p : TaskParts). IsGraphOf p graph.table.abstraction) its c.in_ok-graph.ensures.blocks)
     (subst (λ (p : TaskParts). IsFinest p solve.settings.wish graph.table.abstraction.projection) its
     c.in_ok-graph.ensures.finest)
@@ -37,6 +37,6 @@ returns-clause-falling g c =
     quiet_rows_of parts graph task best.best best.small)
     (subst (λ (p : TaskParts). IsLeftBySearch p solve.settings graph) its c.in_ok-graph.ensures.left)
     c.in_ok-graph.ensures.fits)
-    (all_made solve parts c.args.steps 0 graph None c.after_run.result c.after_run.ensures.solve
+    (all_made solve parts steps 0 graph None c.after_run.result c.after_run.ensures.solve
     c.after_run.ensures.task c.after_run.ensures.steps c.after_run.ensures.run
     c.after_run.ensures.graph c.after_run.ensures.plan c.after_run.ensures.name)

@@ -1,0 +1,320 @@
+-- From how a call of the program goes to what is promised of falling weights.
+use Rattle.std.proofs.Common.{◌≡◌, ◌⊎◌, inl, inr, ℕ, ◌<◌, Some, List, [], ◌∷◌, ◌++◌, Result, Ok, Err, take, drop, refl, sym, ap, subst, ◌∙◌, arith, append-nil}
+use Rattle.std.proofs.lemmas.List.{take-append-drop}
+use Rattle.pb_outside.specs.declared.shelf.Load.TheVariants.{Failed}
+use Rattle.pb_outside.specs.Calls.{Call}
+use Rattle.pb_task.specs.declared.parts.TaskParts.{TaskParts}
+use Rattle.pb_command.specs.Meaning.{Reading, Refused, Read, Solve, Falling, Check, Journal, Make, FallingMeaning}
+use Rattle.pb_answer.specs.Outputs.{Output}
+use Rattle.pb_answer.specs.Loaded.{OfTexts, solve_task}
+use Rattle.pb_answer.specs.Answer.{Said, IsRefused, OrRefused}
+use Rattle.pb_answer.specs.Parts.{AnswerPart, AreAnswerParts, outputs_of, report_of}
+use Rattle.pb_answer.specs.Falling.{IsProvedCheapest, IsFallingNone, IsFallingStop, IsFallingFound}
+use Rattle.pb_run.specs.Asked.{files_of}
+use Rattle.pb_run.specs.Calls.{loaded_texts, outputs_in, put_bytes, load_calls, FailToSaveAll}
+use Rattle.pb_run.specs.Parted.{OfTaskOr, AreFirstParts, AreDecided}
+use Rattle.pb_run.specs.Handing.{HandsOutAnswer, BreaksOffSaving, BreaksOffPutting, HandsOutParts}
+use Rattle.pb_run.specs.Course.{RunsOut, FailsToLoad, HasAnswered, Does}
+use Rattle.pb_run.specs.Outcome.{Outcome, outcome_by, AnswersOneOf}
+use Rattle.pb_run.specs.FallingHeadline.{IsSilent, EndsProved, EndsNone, EndsStopped, EndsShort, EndsUnsaved, EndsUnprinted, IsRefusedInPart, FallingHolds}
+use Rattle.pb_run.specs.FallingLaws.{CallsGiveFalling}
+use Rattle.pb_run.proofs.CallLists.{loads_tell, loads_save_none, ended_few}
+use Rattle.pb_run.proofs.FallingCalls.{TellAll, all_tell, SplitUnsaved, split_unsaved, is_begun, SplitUnput, split_unput}
+use Rattle.pb_run.proofs.FallingEnds.{claimed_as, Broken, broken, broken_among, ends_short, one_file, at_zero, at_one, at_two, which}
+
+module _ (falling : FallingMeaning) (n : ℕ) (shelf sink : List Call) where
+  abbrev reading : Reading
+  reading = Read (Falling falling)
+
+  abbrev it : Outcome
+  it = outcome_by reading n shelf sink
+
+  abbrev Holds : Type 0
+  Holds = FallingHolds falling it
+
+  -- what holds of the task of these texts holds of that of the texts that were loaded
+  of_texts : (texts : List (List ℕ)) → loaded_texts shelf ≡ texts → (task : TaskParts) → solve_task falling.solve texts ≡ Ok task → (P : TaskParts → Type 0) → P task → OfTexts falling.solve it.texts P
+  of_texts texts same task is P holds = (task, ap (solve_task falling.solve) same ∙ is, holds)
+
+  abbrev StatusesAre : Type 0
+  StatusesAre = AnswersOneOf (0 ∷ 1 ∷ 2 ∷ 65 ∷ []) it
+
+  -- ---- statuses at which one promise is made
+
+  at_memory : n ≡ 71 → IsSilent it.said ⊎ OfTexts falling.solve it.texts (EndsShort falling.solve falling.steps it.said) → Holds
+  at_memory is short = record {
+    found = λ e. absurd (none e);
+    proved = λ e. absurd (omega (arith, is, e));
+    none = λ e. absurd (omega (arith, is, e));
+    stopped = λ e. absurd (omega (arith, is, e));
+    short = λ e. short;
+    unsaved = λ e. absurd (omega (arith, is, e));
+    unprinted = λ e. absurd (omega (arith, is, e));
+    statuses = inr (inl is);
+  }
+    where
+      none : (n ≡ 0) ⊎ ((n ≡ 1) ⊎ (n ≡ 2)) → ⊥
+      none (inl e) = omega (arith, is, e)
+      none (inr (inl e)) = omega (arith, is, e)
+      none (inr (inr e)) = omega (arith, is, e)
+
+  at_shelf : n ≡ 73 → IsSilent it.said ⊎ OfTexts falling.solve it.texts (EndsUnsaved falling.solve falling.steps it.said) → Holds
+  at_shelf is unsaved = record {
+    found = λ e. absurd (none e);
+    proved = λ e. absurd (omega (arith, is, e));
+    none = λ e. absurd (omega (arith, is, e));
+    stopped = λ e. absurd (omega (arith, is, e));
+    short = λ e. absurd (omega (arith, is, e));
+    unsaved = λ e. unsaved;
+    unprinted = λ e. absurd (omega (arith, is, e));
+    statuses = inr (inr (inl is));
+  }
+    where
+      none : (n ≡ 0) ⊎ ((n ≡ 1) ⊎ (n ≡ 2)) → ⊥
+      none (inl e) = omega (arith, is, e)
+      none (inr (inl e)) = omega (arith, is, e)
+      none (inr (inr e)) = omega (arith, is, e)
+
+  at_sink : n ≡ 74 → IsRefusedInPart falling.solve it.texts it.said ⊎ OfTexts falling.solve it.texts (EndsUnprinted falling.solve falling.steps it.said) → Holds
+  at_sink is unprinted = record {
+    found = λ e. absurd (none e);
+    proved = λ e. absurd (omega (arith, is, e));
+    none = λ e. absurd (omega (arith, is, e));
+    stopped = λ e. absurd (omega (arith, is, e));
+    short = λ e. absurd (omega (arith, is, e));
+    unsaved = λ e. absurd (omega (arith, is, e));
+    unprinted = λ e. unprinted;
+    statuses = inr (inr (inr is));
+  }
+    where
+      none : (n ≡ 0) ⊎ ((n ≡ 1) ⊎ (n ≡ 2)) → ⊥
+      none (inl e) = omega (arith, is, e)
+      none (inr (inl e)) = omega (arith, is, e)
+      none (inr (inr e)) = omega (arith, is, e)
+
+  at_refusal : n ≡ 65 → Holds
+  at_refusal is = record {
+    found = λ e. absurd (none e);
+    proved = λ e. absurd (omega (arith, is, e));
+    none = λ e. absurd (omega (arith, is, e));
+    stopped = λ e. absurd (omega (arith, is, e));
+    short = λ e. absurd (omega (arith, is, e));
+    unsaved = λ e. absurd (omega (arith, is, e));
+    unprinted = λ e. absurd (omega (arith, is, e));
+    statuses = inl (inr (inr (inr (inl is))));
+  }
+    where
+      none : (n ≡ 0) ⊎ ((n ≡ 1) ⊎ (n ≡ 2)) → ⊥
+      none (inl e) = omega (arith, is, e)
+      none (inr (inl e)) = omega (arith, is, e)
+      none (inr (inr e)) = omega (arith, is, e)
+
+  -- all of a search is out
+  at_found : (texts : List (List ℕ)) → loaded_texts shelf ≡ texts → (task : TaskParts) → solve_task falling.solve texts ≡ Ok task → (parts : List AnswerPart) → IsFallingFound falling.solve task falling.steps it.said parts → Holds
+  at_found texts same task is parts found = record {
+    found = λ e. of_texts texts same task is _ (parts, found);
+    proved = λ e. of_texts texts same task is (EndsProved falling.solve falling.steps it.said) (at_zero falling.solve task falling.steps it.said parts found e);
+    none = λ e. of_texts texts same task is (EndsNone falling.solve it.said) (at_one falling.solve task falling.steps it.said parts found e);
+    stopped = λ e. of_texts texts same task is (EndsStopped falling.solve falling.steps it.said) (at_two falling.solve task falling.steps it.said parts found e);
+    short = λ e. absurd (other 71 e (omega arith));
+    unsaved = λ e. absurd (other 73 e (omega arith));
+    unprinted = λ e. absurd (other 74 e (omega arith));
+    statuses = inl (among (which falling.solve task falling.steps it.said parts found));
+  }
+    where
+      other : (k : ℕ) → n ≡ k → 2 < k → ⊥
+      other k e past = go (which falling.solve task falling.steps it.said parts found)
+        where
+          go : (n ≡ 0) ⊎ ((n ≡ 1) ⊎ (n ≡ 2)) → ⊥
+          go (inl z) = omega (arith, e, z, past)
+          go (inr (inl z)) = omega (arith, e, z, past)
+          go (inr (inr z)) = omega (arith, e, z, past)
+
+      among : (n ≡ 0) ⊎ ((n ≡ 1) ⊎ (n ≡ 2)) → (n ≡ 0) ⊎ ((n ≡ 1) ⊎ ((n ≡ 2) ⊎ ((n ≡ 65) ⊎ ⊥)))
+      among (inl z) = inl z
+      among (inr (inl z)) = inr (inl z)
+      among (inr (inr z)) = inr (inr (inl z))
+
+  -- ---- memory ran out
+
+  runs_out : RunsOut reading n shelf sink → Holds
+  runs_out out = at_memory out.status_is (go out.parts_are)
+    where
+      tell : TellAll out.parts out.saves sink
+      tell = all_tell out.parts out.saves sink out.hands
+
+      texts_are : loaded_texts shelf ≡ out.texts
+      texts_are = ap loaded_texts out.shelf_is ∙ loads_tell (files_of reading) out.texts out.unloaded out.saves out.few
+          ∙ ap (λ (ts : List (List ℕ)). out.texts ++ ts) tell.none_loaded ∙ append-nil out.texts
+
+      outputs_are : outputs_in shelf ≡ outputs_of out.parts
+      outputs_are = ap outputs_in out.shelf_is ∙ loads_save_none (files_of reading) out.texts out.unloaded out.saves ∙ tell.saved
+
+      go : AreFirstParts reading out.texts out.parts → IsSilent it.said ⊎ OfTexts falling.solve it.texts (EndsShort falling.solve falling.steps it.said)
+      go (inl none) = inl (tell.printed ∙ ap report_of none, outputs_are ∙ ap outputs_of none)
+      go (inr (task, is, are)) = inr (of_texts out.texts texts_are task is (EndsShort falling.solve falling.steps it.said)
+          (ends_short falling.solve task falling.steps it.said out.parts tell.printed outputs_are are))
+
+  -- ---- a file isn't loaded
+
+  fails_to_load : FailsToLoad reading n shelf sink → Holds
+  fails_to_load failed = at_shelf failed.status_is (inl (ap put_bytes failed.sink_is, none_saved))
+    where
+      none_saved : outputs_in shelf ≡ []
+      none_saved = ap outputs_in (failed.shelf_is ∙ sym (append-nil (load_calls (files_of reading) failed.texts (Some Failed)))) ∙ loads_save_none (files_of reading) failed.texts (Some Failed) []
+
+  -- ---- an answer is handed out
+
+  module _ (a : HasAnswered reading n shelf sink) where
+    texts_of : loaded_texts a.saves ≡ [] → loaded_texts shelf ≡ a.texts
+    texts_of none = ap loaded_texts a.shelf_is ∙ loads_tell (files_of reading) a.texts a.unloaded a.saves (ended_few (files_of reading) a.texts a.unloaded a.ends)
+        ∙ ap (λ (ts : List (List ℕ)). a.texts ++ ts) none ∙ append-nil a.texts
+
+    outputs_of_saves : outputs_in shelf ≡ outputs_in a.saves
+    outputs_of_saves = ap outputs_in a.shelf_is ∙ loads_save_none (files_of reading) a.texts a.unloaded a.saves
+
+    whole : HandsOutAnswer reading a.texts a.parts n a.saves sink → Holds
+    whole h = go (solve_task falling.solve a.texts) refl h.answers h.parts_are
+      where
+        tell : TellAll a.parts a.saves sink
+        tell = all_tell a.parts a.saves sink h.hands
+
+        go : (t : Result TaskParts (List ℕ)) → solve_task falling.solve a.texts ≡ t
+            → OrRefused t (λ task all. (parts : List AnswerPart) × IsFallingFound falling.solve task falling.steps all parts) h.said
+            → OfTaskOr t (AreAnswerParts h.said a.parts) (λ task. IsFallingFound falling.solve task falling.steps h.said a.parts) → Holds
+        go (Ok task) is answers found = at_found a.texts (texts_of tell.none_loaded) task is a.parts (record {
+          report = tell.printed;
+          outputs = outputs_of_saves ∙ tell.saved;
+          abstraction = found.abstraction;
+          graph_of = found.graph_of;
+          finest = found.finest;
+          found = ends found.found;
+        })
+          where
+            ends : ((h.said.status ≡ 0) × IsProvedCheapest falling.solve task found.abstraction falling.steps a.parts)
+                ⊎ (((h.said.status ≡ 1) × IsFallingNone falling.solve task found.abstraction falling.steps a.parts)
+                ⊎ ((h.said.status ≡ 2) × IsFallingStop falling.solve task found.abstraction falling.steps a.parts))
+                → ((n ≡ 0) × IsProvedCheapest falling.solve task found.abstraction falling.steps a.parts)
+                ⊎ (((n ≡ 1) × IsFallingNone falling.solve task found.abstraction falling.steps a.parts)
+                ⊎ ((n ≡ 2) × IsFallingStop falling.solve task found.abstraction falling.steps a.parts))
+            ends (inl (status, proved)) = inl (h.status_is ∙ status, proved)
+            ends (inr (inl (status, none))) = inr (inl (h.status_is ∙ status, none))
+            ends (inr (inr (status, stop))) = inr (inr (h.status_is ∙ status, stop))
+        go (Err report) is refused parts_are = at_refusal (h.status_is ∙ refused.0)
+
+    -- the part that broke off, of all parts or of the first ones; or the texts are refused, and there is one part
+    by_decided : (Q : Type 0) (before : List AnswerPart) (part : AnswerPart) (after : List AnswerPart) → a.parts ≡ before ++ part ∷ after → AreDecided reading a.texts a.parts
+        → ((task : TaskParts) → solve_task falling.solve a.texts ≡ Ok task → Broken falling.solve task falling.steps before part → Q)
+        → ((said : Said) → solve_task falling.solve a.texts ≡ Err said.report → IsRefused said.report said → before ++ part ∷ after ≡ record { outputs = said.outputs; report = said.report } ∷ [] → Q) → Q
+    by_decided Q before part after parts_are decided of_task refused = go (subst (λ (ps : List AnswerPart). AreDecided reading a.texts ps) parts_are decided)
+      where
+        by_task : (said : Said) (t : Result TaskParts (List ℕ)) → solve_task falling.solve a.texts ≡ t
+            → OrRefused t (λ task all. (parts : List AnswerPart) × IsFallingFound falling.solve task falling.steps all parts) said
+            → OfTaskOr t (AreAnswerParts said (before ++ part ∷ after)) (λ task. IsFallingFound falling.solve task falling.steps said (before ++ part ∷ after)) → Q
+        by_task said (Ok task) is answers found = of_task task is (broken falling.solve task falling.steps said before part after found)
+        by_task said (Err report) is (status, says, saves) one =
+            refused said (is ∙ ap (λ (text : List ℕ). Err text) (sym says)) (status, refl, saves) one
+
+        never : (before : List AnswerPart) → before ++ part ∷ after ≡ [] → ⊥
+        never [] e = cc
+        never (b ∷ before) e = cc
+
+        go : AreDecided reading a.texts (before ++ part ∷ after) → Q
+        go (inl (said, answers, are)) = by_task said (solve_task falling.solve a.texts) refl answers are
+        go (inr (inl none)) = absurd (never before none)
+        go (inr (inr (task, is, are))) = of_task task is (broken_among falling.solve task falling.steps before part after are)
+
+    -- a refusal has no file and is in one part
+    only_part : (before : List AnswerPart) (part : AnswerPart) (after : List AnswerPart) (said : Said) → before ++ part ∷ after ≡ record { outputs = said.outputs; report = said.report } ∷ []
+        → (before ≡ []) × (part.outputs ≡ said.outputs) × (part.report ≡ said.report)
+    only_part [] part after said e =
+        let same : part ≡ record { outputs = said.outputs; report = said.report } = first part after (record { outputs = said.outputs; report = said.report }) e in
+        (refl, ap (λ (p : AnswerPart). p.outputs) same, ap (λ (p : AnswerPart). p.report) same)
+      where
+        first : (part : AnswerPart) (after : List AnswerPart) (one : AnswerPart) → part ∷ after ≡ one ∷ [] → part ≡ one
+        first part after one e = cc
+    only_part (b ∷ before) part after said e = absurd (none before (record { outputs = said.outputs; report = said.report }) e)
+      where
+        none : (before : List AnswerPart) (one : AnswerPart) → b ∷ (before ++ part ∷ after) ≡ one ∷ [] → ⊥
+        none [] one e = cc
+        none (c ∷ before) one e = cc
+
+    unsaved : BreaksOffSaving reading a.texts a.parts n a.saves sink → Holds
+    unsaved f = at_shelf f.status_is (by_decided (IsSilent it.said ⊎ OfTexts falling.solve it.texts (EndsUnsaved falling.solve falling.steps it.said)) s.before s.part s.after s.parts_are f.decided
+        (λ task is b. inr (of_texts a.texts (texts_of s.none_loaded) task is (EndsUnsaved falling.solve falling.steps it.said) (ends task b)))
+        (λ said is refusal one. absurd (no_file said refusal one)))
+      where
+        s : SplitUnsaved a.parts a.saves sink
+        s = split_unsaved a.parts a.saves sink f.hands
+
+        no_file : (said : Said) → IsRefused said.report said → s.before ++ s.part ∷ s.after ≡ record { outputs = said.outputs; report = said.report } ∷ [] → ⊥
+        no_file said refusal one = subst (λ (os : List Output). FailToSaveAll s.own os) ((only_part s.before s.part s.after said one).1 ∙ refusal.2) s.fails
+
+        ends : (task : TaskParts) → Broken falling.solve task falling.steps s.before s.part → EndsUnsaved falling.solve falling.steps it.said task
+        ends task b = go (one_file falling.solve task falling.steps b.claims s.part b.next)
+          where
+            go : (s.part.outputs ≡ []) ⊎ ((file : Output) × (s.part.outputs ≡ file ∷ [])) → EndsUnsaved falling.solve falling.steps it.said task
+            go (inl none) = absurd (subst (λ (os : List Output). FailToSaveAll s.own os) none s.fails)
+            go (inr (file, due)) = record {
+              claims = b.claims;
+              files = outputs_of s.before;
+              so_far = claimed_as falling.solve task falling.steps b.claims (report_of s.before) it.said.report (outputs_of s.before) (outputs_of s.before) s.printed refl b.so_far;
+              part = s.part;
+              next = b.next;
+              file = file;
+              due = due;
+              begun = outputs_in s.own;
+              is_begun = is_begun s.own file (subst (λ (os : List Output). FailToSaveAll s.own os) due s.fails);
+              outputs = outputs_of_saves ∙ s.saved;
+            }
+
+    unput : BreaksOffPutting reading a.texts a.parts n a.saves sink → Holds
+    unput f = at_sink f.status_is (by_decided (IsRefusedInPart falling.solve it.texts it.said ⊎ OfTexts falling.solve it.texts (EndsUnprinted falling.solve falling.steps it.said)) s.before s.part s.after s.parts_are f.decided
+        (λ task is b. inr (of_texts a.texts (texts_of s.none_loaded) task is (EndsUnprinted falling.solve falling.steps it.said) (ends task b)))
+        (λ said is refusal one. inl (refused said is refusal (only_part s.before s.part s.after said one))))
+      where
+        s : SplitUnput a.parts a.saves sink
+        s = split_unput a.parts a.saves sink f.hands
+
+        ends : (task : TaskParts) → Broken falling.solve task falling.steps s.before s.part → EndsUnprinted falling.solve falling.steps it.said task
+        ends task b = record {
+          claims = b.claims;
+          report = report_of s.before;
+          files = outputs_of s.before;
+          so_far = b.so_far;
+          part = s.part;
+          next = b.next;
+          outputs = outputs_of_saves ∙ s.saved;
+          kept = take s.kept s.part.report;
+          rest = drop s.kept s.part.report;
+          is_kept = sym (take-append-drop s.kept s.part.report);
+          printed = s.printed;
+        }
+
+        refused : (said : Said) → solve_task falling.solve a.texts ≡ Err said.report → IsRefused said.report said → (s.before ≡ []) × (s.part.outputs ≡ said.outputs) × (s.part.report ≡ said.report)
+            → IsRefusedInPart falling.solve it.texts it.said
+        refused said is refusal (none, files, report) = (
+          take s.kept s.part.report,
+          drop s.kept s.part.report,
+          ap (solve_task falling.solve) (texts_of s.none_loaded) ∙ is ∙ ap (λ (text : List ℕ). Err text) (sym report ∙ sym (take-append-drop s.kept s.part.report)),
+          s.printed ∙ ap (λ (ps : List AnswerPart). report_of ps ++ take s.kept s.part.report) none,
+          outputs_of_saves ∙ s.saved ∙ ap (λ (ps : List AnswerPart). outputs_of ps ++ s.part.outputs) none ∙ files ∙ refusal.2,
+        )
+
+    answered : HandsOutParts reading a.texts a.parts n a.saves sink → Holds
+    answered (inl h) = whole h
+    answered (inr (inl f)) = unsaved f
+    answered (inr (inr f)) = unput f
+
+  pub falling_holds : Does reading n shelf sink → Holds
+  falling_holds (inl out) = runs_out out
+  falling_holds (inr (inl failed)) = fails_to_load failed
+  falling_holds (inr (inr a)) = answered a a.hands
+
+pub calls_give_falling : CallsGiveFalling
+calls_give_falling (Refused fault) n shelf sink does = tt
+calls_give_falling (Read (Solve solve)) n shelf sink does = tt
+calls_give_falling (Read (Falling falling)) n shelf sink does = falling_holds falling n shelf sink does
+calls_give_falling (Read (Check check)) n shelf sink does = tt
+calls_give_falling (Read (Journal journal)) n shelf sink does = tt
+calls_give_falling (Read (Make make)) n shelf sink does = tt
