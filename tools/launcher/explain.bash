@@ -6,13 +6,17 @@ load words
 most_judged=$((1 << 30))
 
 explain() {
-  local status=$1
+  local status=$1 steps
   read_words "${@:4}"
+  read_steps
   case $status in
     2) explain_stop "$2" "$3" && warn_of_size ;;
     3 | 65) explain_refusal "${@:4}" ;;
     64) explain_words "${@:4}" ;;
-    71) say "out of memory; nothing was printed, and no file was begun" ;;
+    71)
+      if [ -n "$steps" ]; then say "out of memory; the claims that were printed stand"
+      else say "out of memory; nothing was printed, and no file was begun"; fi
+      ;;
     73) explain_file ;;
     74) say "standard output could not be written; a first part of the report stands there" ;;
   esac
@@ -39,7 +43,9 @@ explain_stop() {
   if [ "$2" -ge 1024 ]; then took+=" and $(($2 / 1024)).$(($2 % 1024 * 10 / 1024)) GiB of memory"
   elif [ "$2" -gt 0 ]; then took+=" and $2 MiB of memory"; fi
   [ "$counted" = 1 ] && counted+=' expansion' || counted+=' expansions'
-  took="$counted took $took. Nothing is known of plans"
+  took="$counted took $took. "
+  if [ -n "$steps" ]; then took+='The claims that were printed stand, and nothing else is known'
+  else took+='Nothing is known of plans'; fi
   [ "$command_word" = make ] || took+='; run it again with a greater --budget: it starts anew'
   say "$took"
 }
@@ -47,11 +53,14 @@ explain_stop() {
 # Says if a saved file is too long to be judged.
 warn_of_size() {
   local option name size
+  local -a names
   for option in ${saving[@]+"${saving[@]}"}; do
-    name=${value_of[$option]}
-    [ -f "$name" ] && size=$(stat -Lc %s -- "$name" 2>/dev/null) || continue
-    [ "$size" -le $most_judged ] || say "the ${saves[$option]} $(show "$name") has" \
-      "$((size >> 20)) MiB, and one of more than 1,024 MiB can't be judged by pbnf"
+    list_names "$option"
+    for name in "${names[@]}"; do
+      [ -f "$name" ] && size=$(stat -Lc %s -- "$name" 2>/dev/null) || continue
+      [ "$size" -le $most_judged ] || say "the ${saves[$option]} $(show "$name") has" \
+        "$((size >> 20)) MiB, and one of more than 1,024 MiB can't be judged by pbnf"
+    done
   done
 }
 
@@ -71,7 +80,8 @@ explain_words() {
       if [ "$command_word" = check ]; then say "--rewrite is given the name of an input"
       else say "--cert and --trace are given one name"; fi
       ;;
-    'words engine') say "--engine hda keeps no journal, and --trace is given" ;;
+    'words engine') explain_engine ;;
+    'words falling') say "no journal is kept with --falling, and --trace is given" ;;
     'words size') say "the size isn't in the range of its kind" ;;
     *)
       text=${text#error: }
@@ -79,6 +89,11 @@ explain_words() {
       say "${text//[^[:print:]]/?}"
       ;;
   esac
+}
+explain_engine() {
+  if [ -n "${value_of[--trace]+is}" ]; then
+    say "--engine hda keeps no journal, and --trace is given"
+  else say "--engine hda has no falling weights, and --falling is given"; fi
 }
 explain_form() {
   case "$1 $kind" in
@@ -127,6 +142,17 @@ look_at_saved() {
   fi
 }
 
+# The name under which an option's file was being saved, with what is wrong with it. Of several
+# claims' certificates that is the first that isn't whole.
+find_saved() {
+  local -a names
+  list_names "$1"
+  for name in "${names[@]}"; do
+    [ ${#names[@]} -gt 1 ] && is_whole "$name" || break
+  done
+  look_at_saved "$name"
+}
+
 # Names the files that failed, if that is seen: the inputs, and else those that are saved, since all
 # inputs are loaded first. If nothing is seen, it names all that may have failed. An input that is
 # there and can be read hasn't, if a file was to be saved.
@@ -139,8 +165,7 @@ explain_file() {
     read+=", $(show "$name")"
   done
   [ -n "$failed" ] || for option in ${saving[@]+"${saving[@]}"}; do
-    name=${value_of[$option]}
-    look_at_saved "$name"
+    find_saved "$option"
     [ -z "$fault" ] || failed+=", the ${saves[$option]} $(show "$name") ($fault)"
     saved+=", the ${saves[$option]} $(show "$name")"
   done

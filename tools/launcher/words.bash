@@ -55,6 +55,31 @@ note_option() {
   [ -z "${saves[$1]-}" ] || saving+=("$1")
 }
 
+# In how many steps the weight falls, into `steps`: nothing if the option isn't given, or if its
+# value is out of form, which the program refuses.
+read_steps() {
+  steps=${value_of[--falling]-}
+  steps=${steps#+}
+  case $steps in *[!0-9]*) steps= ;; esac
+  [ -z "$steps" ] || steps=$((10#$steps))
+  [ "${steps:-0}" -ge 1 ] && [ "$steps" -le 20 ] || steps=
+}
+
+# The names under which a run saves what an option asks for, into `names`: with falling weights a
+# certificate for each claim, which ends with the claim's number.
+list_names() {
+  local steps
+  local -i at
+  names=("${value_of[$1]}")
+  read_steps
+  [ -n "$steps" ] && [ "${saves[$1]}" = certificate ] || return 0
+  names=()
+  for ((at = 0; at <= steps; at += 1)); do names+=("${value_of[$1]}.$at"); done
+}
+
+# Whether a certificate is there as a whole.
+is_whole() { [ -f "$1" ] && [ "$(tail -c 4 -- "$1" 2>/dev/null)" = end ]; }
+
 # Whether two names are of one regular file, under any spelling.
 is_one_file() { [ -f "$1" ] && [ "$1" -ef "$2" ]; }
 
@@ -67,19 +92,23 @@ will_be_one_file() {
 }
 
 # What of the caller's a run would destroy: an input that is saved over, or a file that is saved
-# twice. It is put into `harm`.
+# twice. It is put into `harm`. (The program refuses a journal with falling weights.)
 find_harm() {
-  local option other name input
+  local option other name input steps
+  local -a names
   harm=
+  read_steps
   for option in ${saving[@]+"${saving[@]}"}; do
-    name=${value_of[$option]}
-    for input in ${judged:+"$judged"} ${inputs[@]+"${inputs[@]}"}; do
-      if is_one_file "$name" "$input"; then
+    list_names "$option"
+    for name in "${names[@]}"; do
+      for input in ${judged:+"$judged"} ${inputs[@]+"${inputs[@]}"}; do
+        is_one_file "$name" "$input" || continue
         harm="the ${saves[$option]} $(show "$name") would be written over the input "
         harm+=$(show "$input")
         return
-      fi
+      done
     done
+    [ -z "$steps" ] || continue
     for other in "${saving[@]}"; do
       [ "$other" != "$option" ] || break
       if will_be_one_file "$name" "${value_of[$other]}"; then

@@ -166,15 +166,10 @@ def changed_source(place):
 
 def long_certificate(place):
     """A saved certificate of over 1 GiB is said to be too long for the checker."""
-    stand_in = "#!/bin/sh\ntruncate -s 1073741825 long.cert\necho none\nexit 1\n"
-    kept = place.program.read_bytes()
-    try:
-        place.program.write_text(stand_in)
+    with place.stand_in("#!/bin/sh\ntruncate -s 1073741825 long.cert\necho none\nexit 1\n"):
         run = place.run("solve", "tiles", place.example("ring-2x2.tiles"), "--cert", "long.cert")
         run.wants(1, "none\n", "the certificate long.cert has 1024 MiB, and one of more than")
         (place.work / "long.cert").unlink()
-    finally:
-        place.program.write_bytes(kept)
     place.run("solve", "grid", *place.grid(), "--cert", "b.cert").wants(0).lacks("MiB")
 
 

@@ -1,5 +1,6 @@
 """A copy of the checkout in a folder of its own, with the built program, for the cases."""
 
+import contextlib
 import os
 import pathlib
 import pty
@@ -88,11 +89,12 @@ class Place:
     def grid(self, name="empty-3x3"):
         return [self.example(f"{name}.map"), self.example(f"{name}.scen")]
 
-    def begin(self, *words, **how):
+    def begin(self, *words, before=(), **how):
+        """Begins the launcher with these words, perhaps by another command before it."""
         how = {"stdin": subprocess.DEVNULL, "stdout": subprocess.PIPE, "stderr": subprocess.PIPE,
                "cwd": self.work, "env": self.env, "start_new_session": True,
                "preexec_fn": hear_interrupts, **how}
-        return subprocess.Popen([str(self.root / "pbnf"), *words], **how)
+        return subprocess.Popen([*before, str(self.root / "pbnf"), *words], **how)
 
     def run(self, *words, **how):
         with self.begin(*words, **how) as it:
@@ -105,10 +107,10 @@ class Place:
                    (err or b"").decode("utf-8", "replace"))
 
     def on_terminal(self, *words, after=None, act=None, **how):
-        """A run whose output and standard error are one terminal. Once the text `after` is there,
-        `act` is called with the process."""
+        """A run whose output and standard error are one terminal, or standard error alone if an
+        output is given. Once the text `after` is there, `act` is called with the process."""
         first, second = pty.openpty()
-        with self.begin(*words, stdout=second, stderr=second, **how) as it:
+        with self.begin(*words, **{"stdout": second, "stderr": second, **how}) as it:
             os.close(second)
             text, end = b"", time.monotonic() + 40
             while time.monotonic() < end:
@@ -127,6 +129,16 @@ class Place:
             os.close(first)
             it.wait(timeout=20)
         return Run(it.returncode, text.decode("utf-8", "replace"), "")
+
+    @contextlib.contextmanager
+    def stand_in(self, text):
+        """Puts a script in the place of the built program, for a while."""
+        kept = self.program.read_bytes()
+        try:
+            self.program.write_text(text)
+            yield
+        finally:
+            self.program.write_bytes(kept)
 
     def processes(self, word):
         """The processes whose command line has a word, but for those that have ended."""

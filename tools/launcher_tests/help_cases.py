@@ -145,7 +145,9 @@ def ranges_of_options(place):
                 least, most = range_of(takes)
                 for value, is_wanted in ((least, 1), (most, 1), (least - 1, 0), (most + 1, 0)):
                     expect_taken(place, [*words, f"{option}={value}"], bool(is_wanted))
-                expect_taken(place, [*words, f"{option}={default.replace(',', '')}"], True)
+                number = default.replace(",", "")
+                if number.isdigit():
+                    expect_taken(place, [*words, f"{option}={number}"], True)
             else:
                 for value in takes.split(" or "):
                     expect_taken(place, [*words, option, value], True)

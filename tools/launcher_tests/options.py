@@ -53,15 +53,16 @@ def form_lines():
 
 def proved_table(root=ROOT):
     """The table of the command line's definitions: for each option the commands that have it, and
-    its least and greatest number with the default, or its words with "or" between them, or "a file"
-    or "no value"."""
+    its least and greatest number with the default if it has one, or its words with "or" between
+    them, or "a file" or "no value"."""
     text = (root / "crates/pb_command/specs/Table.antt").read_text()
     text = re.sub(r"--.*", "", text)
     kinds, names = {}, {}
     for case, form, name, numbers in re.findall(
-            r"^entry_of (\w+) = (number|file_name) \(codes \"(\w+)\"\)((?: \d+)*)$", text, re.M):
+            r"^entry_of (\w+) = (number|optional_number|file_name) \(codes \"(\w+)\"\)((?: \d+)*)$",
+            text, re.M):
         names[case] = name
-        kinds[case] = tuple(map(int, numbers.split())) if form == "number" else "a file"
+        kinds[case] = "a file" if form == "file_name" else tuple(map(int, numbers.split()))
     words = dict(re.findall(r"^(\w+_word \w+) = codes \"(\w+)\"$", text, re.M))
     for case, name, takes in re.findall(
             r"^entry_of (\w+) = word \(codes \"(\w+)\"\) \(([\w ∷]+) ∷ \[\]\)$", text, re.M):
@@ -83,6 +84,7 @@ def stated_table():
     for name, commands, _, takes, default in lines_of("option"):
         kind = {"no value": "no value", "a file that is saved": "a file"}.get(takes)
         if kind is None and range_of(takes):
-            kind = (*range_of(takes), int(default.replace(",", "")))
+            number = default.replace(",", "")
+            kind = range_of(takes) + ((int(number),) if number.isdigit() else ())
         rows[name.split()[0][2:]] = (set(commands.split()), kind or takes)
     return rows

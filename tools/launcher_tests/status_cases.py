@@ -22,6 +22,12 @@ def words_refused(place):
         ([*grid, "--num", "1", "--den", "2"], "words weight\n", "less than D of --den"),
         ([*grid, "--cert", "x", "--trace", "x"], "words names\n", "are given one name"),
         ([*grid, "--engine", "hda", "--trace", "x"], "words engine\n", "keeps no journal"),
+        ([*grid, "--falling", "2", "--trace", "x"], "words falling\n", "no journal is kept with"),
+        ([*grid, "--falling", "2", "--engine", "hda"], "words engine\n", "has no falling weights"),
+        ([*grid, "--engine", "hda", "--falling", "2", "--trace", "x"], "words engine\n",
+         "keeps no journal"),
+        ([*grid, "--falling", "0"], None, "pbnf: invalid value '0' for '--falling"),
+        ([*grid, "--falling", "21"], None, "pbnf: invalid value '21' for '--falling"),
         ([*grid, "--engine", "x"], None, "pbnf: invalid value 'x' for '--engine"),
         ([*grid, "--budget", "0"], None, "pbnf: invalid value '0' for '--budget"),
     ):
