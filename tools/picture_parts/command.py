@@ -7,6 +7,7 @@ import sys
 from names import quoted
 
 from .blocks_picture import draw_blocks
+from .claims_picture import draw_claims
 from .frontier_picture import draw_frontier
 from .grid_picture import draw_plan
 from .journal_picture import draw_journal
@@ -35,6 +36,8 @@ def add(parsers, name, draw, files, text):
     for file, meaning in files:
         if file == "[certificate]":
             parser.add_argument("certificate", nargs="?", metavar="CERTIFICATE", help=meaning)
+        elif file == "files":
+            parser.add_argument("files", nargs="+", metavar="FILE", help=meaning)
         else:
             parser.add_argument(file, metavar=file.upper(), help=meaning)
     parser.add_argument("--out", metavar="FILE", help="the file to write; else standard output")
@@ -70,6 +73,9 @@ def parser_of():
         "which facts hold along a plan")
     add(words, "frontier", draw_frontier, [("certificate", "a certificate")],
         "closed and cut rows by g")
+    add(words, "claims", draw_claims,
+        [("files", "what `solve --falling` printed, or the certificates that it saved")],
+        "cost and bound of each claim of a run with falling weights")
     journal = add(words, "journal", draw_journal, [("journal", "a journal")],
                   "what the workers did")
     journal.add_argument("--map", nargs=2, metavar=("MAP", "SCENARIO"),

@@ -184,10 +184,11 @@ def plan_cells(grid, report, name):
     for at, step in enumerate(report.steps or []):
         cell = grid.step(cell, step)
         if cell is None:
-            raise Refused(name, f"line {at + 2}", f"`{step}` isn't applicable there")
+            raise Refused(name, f"line {report.first + at}", f"`{step}` isn't applicable there")
         cells.append(cell)
     if report.steps is not None and cell != grid.goal:
-        raise Refused(name, f"line {len(cells) + 1}", "the steps don't lead to the goal")
+        line = report.first + len(cells) - 1
+        raise Refused(name, f"line {line}", "the steps don't lead to the goal")
     return cells
 
 

@@ -47,21 +47,36 @@ class Map:
 
 
 class Report:
-    """What `solve` printed: the plan's cost and steps, or that there is none, or a stop."""
+    """What `solve` printed: the plan's cost and steps, or that there is none, or a stop. With
+    falling weights it is the last claim, and all are in `claims`, perhaps with a stop after them.
+    The first step stands on the line `first`."""
 
     def __init__(self, cost=None, steps=None, bound=None, budget=None):
         self.cost = cost
         self.steps = steps
         self.bound = bound
         self.budget = budget
+        self.first = 2
+        self.claims = []
 
     def headline(self):
+        stop = f"stopped after {self.budget} expansions; " if self.budget is not None else ""
         if self.steps is not None:
             steps = "1 step" if len(self.steps) == 1 else f"{len(self.steps)} steps"
-            return f"a plan of cost {self.cost} in {steps}; no plan costs less than {self.bound}"
-        if self.budget is not None:
-            return f"stopped after {self.budget} expansions; nothing is claimed"
-        return "no plan exists"
+            plan = f"a plan of cost {self.cost} in {steps}; no plan costs less than {self.bound}"
+            return stop + ("the last claim is " if stop else "") + plan
+        return stop + "nothing is claimed" if stop else "no plan exists"
+
+
+class Claim:
+    """A claim of a run with falling weights: no plan costs less than the bound, which is the least
+    whole number that is at least the cost divided by the weight, a pair of N and D."""
+
+    def __init__(self, weight, cost, bound=None):
+        num, den = weight
+        self.weight = weight
+        self.cost = cost
+        self.bound = -(-den * cost // num) if bound is None else bound
 
 
 class Certificate:
@@ -193,23 +208,65 @@ def read_report(name, is_step):
     if lines[-1] != "":
         raise Refused(name, f"line {len(lines)}", "the line has no end")
     lines.pop()
-    head = re.fullmatch(r"plan (0|[1-9][0-9]*) (0|[1-9][0-9]*)", lines[0]) if lines else None
+    report, claims, at = Report(), [], 0
+    while at < len(lines) and lines[at].startswith("weight "):
+        weight = _read_weight(name, lines, at)
+        report, at = _read_plan(name, lines, at + 1, is_step)
+        claims.append(Claim(weight, report.cost, report.bound))
+    if not claims and lines and lines[0].startswith("plan "):
+        report, at = _read_plan(name, lines, 0, is_step)
+    elif not claims or at < len(lines):
+        report.budget, at = _read_stop(name, lines, at, bool(claims)), at + 1
+    if at < len(lines):
+        raise Refused(name, f"line {at + 1}", "a line below the report")
+    report.claims = claims
+    return report
+
+
+CLAIM = re.compile(r"^weight [0-9]+ [0-9]+\n(plan [0-9]+ [0-9]+\n(?:[^\n]*\n)*?bound [0-9]+\n)",
+                   re.M)
+
+
+def last_claim(text):
+    """The report of the last claim of a text that may be cut off, and its number; a text without
+    claims as it is, and None."""
+    claims = CLAIM.findall(text)
+    return (claims[-1], len(claims) - 1) if claims else (text, None)
+
+
+def _read_weight(name, lines, at):
+    found = re.fullmatch(r"weight ([1-9][0-9]*) ([1-9][0-9]*)", lines[at])
+    if found is None or not 1 <= int(found[2]) <= int(found[1]) <= 1000:
+        raise Refused(name, f"line {at + 1}", "not the weight of a claim")
+    return int(found[1]), int(found[2])
+
+
+def _read_plan(name, lines, at, is_step):
+    """The report of a plan that begins at a place, and the place behind it."""
+    head = re.fullmatch(r"plan (0|[1-9][0-9]*) (0|[1-9][0-9]*)", lines[at]) \
+        if at < len(lines) else None
     if head is None:
-        stop = re.fullmatch(r"none|stopped budget ([1-9][0-9]*)", lines[0]) if lines else None
-        if stop is None:
-            raise Refused(name, "line 1", "not the report of `solve`")
-        if len(lines) > 1:
-            raise Refused(name, "line 2", "a line below the report")
-        return Report(budget=int(stop.group(1)) if stop.group(1) else None)
-    steps = lines[1 : 1 + int(head.group(2))]
-    for at, step in enumerate(steps):
+        raise Refused(name, f"line {at + 1}", "not the report of `solve`")
+    last = at + 1 + int(head[2])
+    steps = lines[at + 1 : last]
+    for place, step in enumerate(steps):
         if not is_step(step):
-            raise Refused(name, f"line {at + 2}", "not a step")
-    at = 1 + int(head.group(2))
-    bound = re.fullmatch(r"bound (0|[1-9][0-9]*)", lines[at]) if at < len(lines) else None
-    if bound is None or len(lines) != at + 1:
-        raise Refused(name, f"line {min(at, len(lines)) + 1}", "not the bound, as the last line")
-    return Report(int(head.group(1)), steps, int(bound.group(1)))
+            raise Refused(name, f"line {at + 2 + place}", "not a step")
+    bound = re.fullmatch(r"bound (0|[1-9][0-9]*)", lines[last]) if last < len(lines) else None
+    if bound is None:
+        raise Refused(name, f"line {min(last, len(lines)) + 1}", "not the bound")
+    report = Report(int(head[1]), steps, int(bound[1]))
+    report.first = at + 2
+    return report, last + 1
+
+
+def _read_stop(name, lines, at, has_claims):
+    """The budget of a stop; or nothing, if no plan exists, which no claims come before."""
+    line = lines[at] if at < len(lines) else ""
+    stop = re.fullmatch(r"stopped budget ([1-9][0-9]*)", line)
+    if stop is None and (line != "none" or has_claims):
+        raise Refused(name, f"line {at + 1}", "not the report of `solve`")
+    return int(stop[1]) if stop else None
 
 
 class _Lines:
@@ -252,7 +309,24 @@ def read_certificate(name, take):
         raise Refused(name, "", os.strerror(fault.errno or 0)) from None
 
 
-def _read_certificate(lines, take):
+def read_claim(name):
+    """The claim that a certificate makes, off its first lines and the last one."""
+    try:
+        with open(name, "rb") as file:
+            lines = _Lines(name, file)
+            _, _, weight, plan, cost = _read_certificate_head(lines)
+            if plan is None:
+                lines.refuse("there is no plan, and so no claim to draw")
+            file.seek(max(0, os.fstat(file.fileno()).st_size - 5))
+            if file.read() != b"\nend\n":
+                raise Refused(name, "", "the certificate is cut off")
+            return Claim(tuple(weight), cost)
+    except OSError as fault:
+        raise Refused(name, "", os.strerror(fault.errno or 0)) from None
+
+
+def _read_certificate_head(lines):
+    """The kind, the digits of a state, the weight, the plan and its cost."""
     version = re.fullmatch(rb"pbnf-certificate ([123])\n", lines.next())
     if version is None:
         lines.refuse("expected `pbnf-certificate` and 1, 2 or 3")
@@ -267,7 +341,11 @@ def _read_certificate(lines, take):
     weight = lines.words([b"weight"], 2)
     if not 1 <= weight[1] <= weight[0] <= 1000:
         lines.refuse("the weight isn't 1 to 1000")
-    plan, cost = _read_certificate_plan(lines)
+    return kind.group(1).decode(), digits, weight, *_read_certificate_plan(lines)
+
+
+def _read_certificate(lines, take):
+    kind, digits, weight, plan, cost = _read_certificate_head(lines)
     count = lines.words([b"rows"], 1)[0]
     before, unordered = -1, None
     row = re.compile(rb"([0-9a-f]{%d}) (0|[1-9][0-9]*) (closed|cut)\n" % digits)
@@ -287,7 +365,7 @@ def _read_certificate(lines, take):
     if unordered is not None:
         fault = "the state isn't above that of the row before"
         raise Refused(lines.name, f"line {unordered}", fault)
-    return Certificate(kind.group(1).decode(), weight, plan, cost, count)
+    return Certificate(kind, weight, plan, cost, count)
 
 
 def _read_certificate_plan(lines):

@@ -16,13 +16,14 @@ def states_along(lifted, report, name):
     for at, step in enumerate(report.steps or []):
         state = lifted.step(state, step[1:-1].split(" "))
         if isinstance(state, str):
-            raise Refused(name, f"line {at + 2}", f"`{step}` {state}")
+            raise Refused(name, f"line {report.first + at}", f"`{step}` {state}")
         states.append(state)
     cost = sum(lifted.cost(step[1:-1].split(" ")) for step in report.steps or [])
     if report.steps is not None and report.cost != cost:
-        raise Refused(name, "line 1", f"the steps cost {cost}")
+        raise Refused(name, f"line {report.first - 1}", f"the steps cost {cost}")
     if report.steps is not None and not lifted.goal() <= state:
-        raise Refused(name, f"line {len(states) + 1}", "the steps don't lead to the goal")
+        line = report.first + len(states) - 1
+        raise Refused(name, f"line {line}", "the steps don't lead to the goal")
     return states
 
 

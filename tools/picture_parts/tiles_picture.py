@@ -17,12 +17,13 @@ def boards_along(size, start, goal, report, name):
         blank = board.index(0)
         x, y = blank % columns + dx, blank // columns + dy
         if not (0 <= x < columns and 0 <= y < rows):
-            raise Refused(name, f"line {at + 2}", f"`{step}` isn't possible there")
+            raise Refused(name, f"line {report.first + at}", f"`{step}` isn't possible there")
         other = y * columns + x
         board[blank], board[other] = board[other], 0
         found.append((list(board), blank, step))
     if report.steps is not None and board != goal:
-        raise Refused(name, f"line {len(found) + 1}", "the steps don't lead to the goal board")
+        line = report.first + len(found) - 1
+        raise Refused(name, f"line {line}", "the steps don't lead to the goal board")
     return found
 
 

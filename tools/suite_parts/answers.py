@@ -2,7 +2,8 @@
 `bound`, `steps` and `expansions` as far as they are known.
 
 The answer is `plan`, `none`, `stopped`, `refused` (the input or the command line), `memory`,
-`time`, `signal` or `failed`.
+`time`, `signal` or `failed`. With falling weights it is `plan` as soon as there is a claim, however
+the run ended; `claim` is the number of the last one.
 """
 
 from __future__ import annotations
@@ -13,6 +14,8 @@ import re
 import subprocess
 import typing
 
+from picture_parts.reading import last_claim
+
 from .limits import Ended
 
 Answer = typing.Dict[str, typing.Any]
@@ -21,6 +24,8 @@ PBNF_STATUS = {1: "none", 2: "stopped", 64: "refused", 65: "refused", 71: "memor
 
 def read_answer(reader: str, ended: Ended, plan_file: str) -> Answer:
     """By the reader of this name, or by the program that the name leads to."""
+    if reader == "pbnf" and "claim" in (found := read_pbnf(ended, plan_file)):
+        return found
     if ended.why == "time":
         return {"answer": "time"}
     known = {"pbnf": read_pbnf, "ipc": read_ipc, "fast-downward": read_fast_downward}
@@ -31,12 +36,14 @@ def read_answer(reader: str, ended: Ended, plan_file: str) -> Answer:
 
 def read_pbnf(ended: Ended, _: str) -> Answer:
     """Of pbnf itself, or of another build of it."""
-    lines = ended.output.rstrip("\n").split("\n")
+    text, number = last_claim(ended.output)
+    lines = text.rstrip("\n").split("\n")
     head = re.fullmatch(r"plan (\d+) (\d+)", lines[0])
     last = re.fullmatch(r"bound (\d+)", lines[-1])
-    if ended.status == 0 and head and last:
+    if (ended.status == 0 or number is not None) and head and last:
+        claim = {} if number is None else {"claim": number}
         return {"answer": "plan", "cost": int(head[1]), "steps": int(head[2]),
-                "bound": int(last[1])}
+                "bound": int(last[1]), **claim}
     if ended.why != "status":
         return {"answer": "signal", "said": ended.why}
     return {"answer": PBNF_STATUS.get(ended.status, "failed"),

@@ -1,11 +1,12 @@
 #!/usr/bin/env python3
 """A stand-in for the built program in the tests of tools/suite: `solve` by a plain A* over the tasks
 of the second checker, with certificate and journal, and `check` by that checker. It knows
-`--pattern`.
+`--pattern`, and with `--falling` it claims the same plan at each weight.
 
 Some lots make it behave badly on purpose: 2001 never ends, 2002 takes memory without end, 2003 ends
-by a signal, 2004 saves a certificate with another cost. The file that STAND_IN_LOG names gets a line
-for each search that ended, and STAND_IN_PAUSE is how many seconds a search takes.
+by a signal, 2004 saves a certificate with another cost, 2005 never ends after a claim. The file
+that STAND_IN_LOG names gets a line for each search that ended, and STAND_IN_PAUSE is how many
+seconds a search takes.
 """
 
 import argparse
@@ -22,7 +23,7 @@ sys.path.insert(0, str(pathlib.Path(__file__).resolve().parent.parent.parent / "
 import pbnf_check  # noqa: E402
 
 STEPS = ("up", "down", "left", "right")
-ENDLESS, GREEDY, KILLED, WRONG = 2001, 2002, 2003, 2004
+ENDLESS, GREEDY, KILLED, WRONG, LATE = 2001, 2002, 2003, 2004, 2005
 
 
 def options_of(words):
@@ -31,7 +32,7 @@ def options_of(words):
     parser.add_argument("kind")
     parser.add_argument("files", nargs="+")
     for name, default in (("row", 0), ("lot", 256), ("budget", 2**24), ("workers", 1), ("num", 1),
-                          ("den", 1), ("blocks", 256), ("pattern", 0)):
+                          ("den", 1), ("blocks", 256), ("pattern", 0), ("falling", 0)):
         parser.add_argument(f"--{name}", type=int, default=default)
     parser.add_argument("--swamp", action="store_true")
     parser.add_argument("--plain", action="store_true")
@@ -78,9 +79,11 @@ def plan_to(state, parents):
     return actions[::-1]
 
 
-def certificate_of(task, pattern, plan, cost, rows, closed):
+def certificate_of(task, options, weight, plan, cost, rows, closed):
+    pattern = options.pattern
     lines = [f"pbnf-certificate {3 if pattern else 2}", f"kind {task.kind}",
-             f"width {task.digits}", *[f"pattern {pattern}"] * (pattern > 0), "weight 1 1"]
+             f"width {task.digits}", *[f"pattern {pattern}"] * (pattern > 0),
+             "weight %d %d" % weight]
     lines += ["none"] if plan is None else [f"plan {len(plan)}", *map(str, plan), f"cost {cost}"]
     lines.append(f"rows {len(rows)}")
     lines += [f"{state:0{task.digits}x} {g} {'closed' if state in closed else 'cut'}"
@@ -103,14 +106,29 @@ def solve(options):
     rows, closed, parents, goal, made = found
     plan = None if goal is None else plan_to(goal, parents)
     cost = None if goal is None else rows[goal]
-    if options.cert:
-        said = cost + 1 if options.lot == WRONG else cost
-        pathlib.Path(options.cert).write_text(
-            certificate_of(task, options.pattern, plan, said, rows, closed))
     if options.trace:
         pathlib.Path(options.trace).write_text(f"pbnf-journal 1\nrelease 0 {made} ok\n")
-    report(task, plan, cost)
+    for at, weight in enumerate(weights_of(options)):
+        if options.cert:
+            said = None if cost is None else cost + (options.lot == WRONG)
+            name = f"{options.cert}.{at}" if options.falling else options.cert
+            pathlib.Path(name).write_text(
+                certificate_of(task, options, weight, plan, said, rows, closed))
+        bound = None if cost is None else -(-weight[1] * cost // weight[0])
+        report(task, plan, cost, bound, weight if options.falling else None)
+        if options.lot == LATE:
+            misbehave(ENDLESS)
+        if bound == cost:
+            break
     return 1 if plan is None else 0
+
+
+def weights_of(options):
+    """The weight of each claim; without falling weights that of the one search, which is 1."""
+    num, den, steps = options.num, options.den, options.falling
+    if not steps:
+        return [(1, 1)]
+    return [(den + (num - den) * (steps - at) // steps, den) for at in range(steps + 1)]
 
 
 def misbehave(lot):
@@ -128,23 +146,28 @@ def misbehave(lot):
         os.kill(os.getpid(), signal.SIGSEGV)
 
 
-def report(task, plan, cost):
+def report(task, plan, cost, bound, weight):
     if "STAND_IN_LOG" in os.environ:
         with open(os.environ["STAND_IN_LOG"], "a", encoding="utf-8") as file:
             file.write(" ".join(sys.argv[1:]) + "\n")
     if plan is None:
         print("none")
         return
+    if weight:
+        print("weight %d %d" % weight)
     print(f"plan {cost} {len(plan)}")
     for action in plan:
         print(STEPS[action] if task.kind != "strips" else f"(action {action})")
-    print(f"bound {cost}")
+    print(f"bound {bound}", flush=True)
 
 
 def main(words):
     options = options_of(words)
-    if options.engine == "hda" and options.trace:
+    if options.engine == "hda" and (options.trace or options.falling):
         print("words engine")
+        return 64
+    if options.falling and options.trace:
+        print("words falling")
         return 64
     if options.command == "check":
         status, line = pbnf_check.answer(words)

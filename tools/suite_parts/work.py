@@ -113,6 +113,7 @@ def run_and_check(job: Job, scratch: str) -> Record:
     if journal and os.path.exists(journal):
         record["expansions"] = expansions_in(journal)
     if job["is_pbnf"] and answer["answer"] in ("plan", "none"):
+        take_last(files["certificate"], answer.get("claim", 0))
         record |= judge(job, files["certificate"], claim_of(answer), scratch)
         keep_certificate(job, record, files["certificate"])
     return record
@@ -134,6 +135,12 @@ def run_program(job: Job, files: typing.Dict[str, str]) -> typing.Tuple[typing.A
     if trace and ended.status == 64:
         return run([]), ""
     return ended, files["journal"] if trace else ""
+
+
+def take_last(certificate: str, number: int) -> None:
+    """Gives the certificate of the last claim the plain name, if there is one for each claim."""
+    if os.path.exists(f"{certificate}.{number}"):
+        os.replace(f"{certificate}.{number}", certificate)
 
 
 def claim_of(answer: Record) -> str:

@@ -113,7 +113,8 @@ class Back:
         for at, step in enumerate(report.steps or []):
             action, *objects = step[1:-1].split()
             if action not in self.actions:
-                raise Refused(name, f"line {at + 2}", f"`{action}` is no prepared action")
+                line = f"line {report.first + at}"
+                raise Refused(name, line, f"`{action}` is no prepared action")
             original, price = self.actions[action]
             cost += price
             steps.append(f"({' '.join([original, *objects])})")

@@ -36,6 +36,35 @@ class Limits(Case):
         self.assertEqual(processes_with(str(self.place)), [])
 
 
+class Falling(Case):
+    """Of falling weights the last claim is kept, with its certificate, however the run ended."""
+
+    def test_the_last_claim_counts(self) -> None:
+        columns = {"falling": "--num 3 --falling 4", "late": "--num 2 --falling 1 --lot 2005",
+                   "wrong": "--num 2 --falling 1 --lot 2004",
+                   "early": "--num 2 --falling 2 --budget 1", "owners": "--engine hda --falling 2"}
+        words = [word for pair in columns.items() for word in ("--column", "=".join(pair))]
+        run = self.run_suite(BOARD, *words, "--seconds", 8, "--journal", "--processes", 4)
+        self.assertEqual(run.returncode, 1, run.stderr)
+        self.assertIn("NOT CERTIFIED: four-moves, wrong", run.stderr)
+        found = {line["column"]: line for line in self.lines()}
+        self.assertEqual({name: line["answer"] for name, line in found.items()}, {
+            "falling": "plan", "late": "plan", "wrong": "plan", "early": "stopped",
+            "owners": "refused"})
+        claims = {name: (found[name]["claim"], found[name]["cost"], found[name]["bound"])
+                  for name in ("falling", "late")}
+        self.assertEqual(claims, {"falling": (3, 4, 4), "late": (0, 4, 2)})
+        for name, bound in (("falling", 4), ("late", 2)):
+            self.assertTrue(found[name]["certified"] and found[name]["certificate"])
+            self.assertEqual(found[name]["check_second"], f"accepted cost 4 bound {bound}")
+
+    def test_that_there_is_no_plan_is_certified(self) -> None:
+        run = self.run_suite(EXAMPLES / "ring-2x2.tiles", "--column", "falling=--num 3 --falling 2")
+        self.assertEqual(run.returncode, 0, run.stderr)
+        line, = self.lines()
+        self.assertEqual((line["answer"], line["check_second"]), ("none", "accepted none"))
+
+
 class Kills(Case):
     COUNT = 8
 
