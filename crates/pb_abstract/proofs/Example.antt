@@ -8,6 +8,7 @@ use Rattle.std.proofs.lemmas.List.Elements.{All-from_recursion}
 use Rattle.pb_model.proofs.Callers.{and_true, below}
 use Rattle.pb_task.specs.declared.parts.GridParts.{GridParts}
 use Rattle.pb_task.specs.declared.parts.GroundAction.{GroundAction}
+use Rattle.pb_task.specs.declared.grounding.Grounding.TheVariants as groundings
 use Rattle.pb_task.specs.declared.parts.StripsParts.{StripsParts}
 use Rattle.pb_task.specs.Strips.{strips_step}
 use Rattle.pb_abstract.specs.declared.projection.Projection.TheVariants.{Blank, BlankAndOne, BlankAndTwo}
@@ -101,6 +102,7 @@ six = record {
   start = 3;
   goal = 32;
   never = false;
+  grounding = groundings.All;
 }
 
 never_changed : changers 0 six.actions ≡ 0

@@ -85,6 +85,7 @@ tracked_task atoms strips = record {
   start = tracked_set atoms strips.start;
   goal = tracked_set atoms strips.goal;
   never = strips.never;
+  grounding = strips.grounding;
 }
 
 -- a step of that task leads from the one block to the other

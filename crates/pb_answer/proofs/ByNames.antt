@@ -3,6 +3,7 @@ use Rattle.std.proofs.Common.{◌≡◌, ℕ, ◌+◌, ◌*◌, ◌≤◌, Optio
 use Rattle.pb_model.specs.Weight.{Weight}
 use Rattle.pb_model.specs.Plan.{Plan, IsPlan as IsPackedPlan, NoneCheaper, HasNoPlan, IsBound}
 use Rattle.pb_model.specs.Texts.{plan_report}
+use Rattle.pb_task.specs.declared.grounding.Grounding.{Grounding}
 use Rattle.pb_task.specs.declared.parts.TaskParts.{TaskParts}
 use Rattle.pb_task.specs.declared.parts.TaskParts.TheVariants as parts
 use Rattle.pb_task.specs.Parts.{space_of}
@@ -17,9 +18,9 @@ use Rattle.pb_pddl.specs.Trees.{SpellsDomain, SpellsProblem}
 use Rattle.pb_pddl.specs.Words.{DomainHasWords, ProblemHasWords}
 use Rattle.pb_pddl_laws.proofs.Callers.{domain_is, problem_is, texts_have_tokens, domain_has_words, problem_has_words}
 use Rattle.pb_strips.specs.Names.{action_bytes}
-use Rattle.pb_strips.proofs.Callers.{names_are_printed, packed_plans_are_plans, plans_are_packed_plans}
-use Rattle.pb_strips.specs.Grounding.{strips_of}
-use Rattle.pb_strips.specs.Refusals.{first_fault}
+use Rattle.pb_strips.proofs.Callers.{names_are_printed, packed_plans_are_plans_with, plans_are_packed_plans_with}
+use Rattle.pb_strips.specs.Grounding.{strips_with}
+use Rattle.pb_strips.specs.Refusals.{fault_with}
 use Rattle.pb_check.specs.declared.fault.Verdict.{Verdict}
 use Rattle.pb_check.specs.declared.fault.Claim.TheVariants.{Bounded, Unsolvable}
 use Rattle.pb_check.specs.Shown.{VerdictHolds}
@@ -49,32 +50,33 @@ domain_words text domain reads = domain_has_words text domain (spells_domain tex
 problem_words : (text : List ℕ) (problem : Problem) → problem_reading text ≡ Ok problem → ProblemHasWords problem
 problem_words text problem reads = problem_has_words text problem (spells_problem text problem reads)
 
--- they are a task, and their names are words
-pub record AreTask (domain : Domain) (problem : Problem) : Type 0 where
-  pub accepted : first_fault domain problem ≡ None
+-- they are a task of this grounding, and their names are words
+pub record AreTask (grounding : Grounding) (domain : Domain) (problem : Problem) : Type 0 where
+  pub accepted : fault_with grounding domain problem ≡ None
   pub words : DomainHasWords domain
   pub others : ProblemHasWords problem
 
-pub record Trees (domain_text problem_text : Option (List ℕ)) (task : TaskParts) : Type 0 where
+pub record Trees (grounding : Grounding) (domain_text problem_text : Option (List ℕ)) (task : TaskParts) : Type 0 where
   pub domain : Domain
   pub problem : Problem
   pub spelled : SpellTrees domain_text problem_text domain problem
-  pub are : AreTask domain problem
-  pub is : task ≡ parts.Strips (strips_of domain problem)
+  pub are : AreTask grounding domain problem
+  pub is : task ≡ parts.Strips (strips_with grounding domain problem)
 
-trees_of : (domain_text problem_text : Option (List ℕ)) (task : TaskParts) → strips_task domain_text problem_text ≡ Ok task → Trees domain_text problem_text task
-trees_of None problem_text task e = cc
-trees_of (Some domain_text) None task e = cc
-trees_of (Some domain_text) (Some problem_text) task e = at_domain (domain_reading domain_text) refl e
+trees_of : (grounding : Grounding) (domain_text problem_text : Option (List ℕ)) (task : TaskParts) → strips_task grounding domain_text problem_text ≡ Ok task
+    → Trees grounding domain_text problem_text task
+trees_of grounding None problem_text task e = cc
+trees_of grounding (Some domain_text) None task e = cc
+trees_of grounding (Some domain_text) (Some problem_text) task e = at_domain (domain_reading domain_text) refl e
   where
     none : {A : Type 0} → (report : Option (List ℕ)) → refused_with report ≡ Ok task → A
     none None f = cc
     none (Some report) f = cc
 
     at_fault : (domain : Domain) (problem : Problem) → domain_reading domain_text ≡ Ok domain → problem_reading problem_text ≡ Ok problem → (fault : Option StripsError)
-        → first_fault domain problem ≡ fault → strips_told domain problem fault ≡ Ok task → Trees (Some domain_text) (Some problem_text) task
+        → fault_with grounding domain problem ≡ fault → strips_told grounding domain problem fault ≡ Ok task → Trees grounding (Some domain_text) (Some problem_text) task
     at_fault domain problem reads also None accepted f =
-        let is : task ≡ parts.Strips (strips_of domain problem) = cc in
+        let is : task ≡ parts.Strips (strips_with grounding domain problem) = cc in
         record {
           domain = domain;
           problem = problem;
@@ -85,23 +87,24 @@ trees_of (Some domain_text) (Some problem_text) task e = at_domain (domain_readi
     at_fault domain problem reads also (Some error) accepted f = none (strips_text error) f
 
     at_problem : (domain : Domain) → domain_reading domain_text ≡ Ok domain → (reading : Result Problem SyntaxError) → problem_reading problem_text ≡ reading
-        → problem_told domain reading ≡ Ok task → Trees (Some domain_text) (Some problem_text) task
-    at_problem domain reads (Ok problem) also f = at_fault domain problem reads also (first_fault domain problem) refl f
+        → problem_told grounding domain reading ≡ Ok task → Trees grounding (Some domain_text) (Some problem_text) task
+    at_problem domain reads (Ok problem) also f = at_fault domain problem reads also (fault_with grounding domain problem) refl f
     at_problem domain reads (Err error) also f = none (syntax_text 2 error) f
 
-    at_domain : (reading : Result Domain SyntaxError) → domain_reading domain_text ≡ reading → domain_told reading (problem_reading problem_text) ≡ Ok task
-        → Trees (Some domain_text) (Some problem_text) task
+    at_domain : (reading : Result Domain SyntaxError) → domain_reading domain_text ≡ reading → domain_told grounding reading (problem_reading problem_text) ≡ Ok task
+        → Trees grounding (Some domain_text) (Some problem_text) task
     at_domain (Ok domain) reads f = at_problem domain reads (problem_reading problem_text) refl f
     at_domain (Err error) reads f = none (syntax_text 1 error) f
 
--- what follows for every domain and problem from what holds of their task holds of the trees that the texts spell
-pub by_trees : (P : TaskParts → Type 0) (Q : Domain → Problem → Type 0) → ((domain : Domain) (problem : Problem) → AreTask domain problem → P (parts.Strips (strips_of domain problem)) → Q domain problem)
+-- what follows for every grounding, domain and problem from what holds of their task holds of the trees that the texts spell
+pub by_trees : (P : TaskParts → Type 0) (Q : Domain → Problem → Type 0)
+    → ((grounding : Grounding) (domain : Domain) (problem : Problem) → AreTask grounding domain problem → P (parts.Strips (strips_with grounding domain problem)) → Q domain problem)
     → (input : InputNames) (options : InputOptions) (first : ℕ) (texts : List (List ℕ)) (task : TaskParts) → input_task input options first texts ≡ Ok task → P task → OfTrees input first texts Q
 by_trees P Q f (Grid names) options first texts task is holds = tt
 by_trees P Q f (Tiles board) options first texts task is holds = tt
 by_trees P Q f (Strips names) options first texts task is holds =
-    let trees : Trees (slice_get texts first) (slice_get texts (first + 1)) task = trees_of (slice_get texts first) (slice_get texts (first + 1)) task is in
-    (trees.domain, trees.problem, trees.spelled, f trees.domain trees.problem trees.are (subst P trees.is holds))
+    let trees : Trees options.grounding (slice_get texts first) (slice_get texts (first + 1)) task = trees_of options.grounding (slice_get texts first) (slice_get texts (first + 1)) task is in
+    (trees.domain, trees.problem, trees.spelled, f options.grounding trees.domain trees.problem trees.are (subst P trees.is holds))
 
 checked_input : (certificate : Option (List ℕ)) (task : Result TaskParts (List ℕ)) (of : TaskParts) (text : List ℕ) → with_text certificate task ≡ Ok (of, text) → task ≡ Ok of
 checked_input None task of text e = cc
@@ -115,17 +118,17 @@ checked_input (Some certificate) (Ok task) of text e =
 
 -- ---- plans
 
-module _ (domain : Domain) (problem : Problem) (are : AreTask domain problem) where
+module _ (grounding : Grounding) (domain : Domain) (problem : Problem) (are : AreTask grounding domain problem) where
   abbrev pub task : TaskParts
-  task = parts.Strips (strips_of domain problem)
+  task = parts.Strips (strips_with grounding domain problem)
 
   -- a plan by names is a packed plan of the same cost
   packed : (others : List NamedAction) → IsPlan domain problem others → (plan : Plan) × IsPackedPlan (space_of task) plan × (plan.cost ≡ plan_cost domain problem others)
-  packed others is = let found = plans_are_packed_plans domain problem others are.accepted is in (record { actions = found.0; cost = plan_cost domain problem others }, found.1, refl)
+  packed others is = let found = plans_are_packed_plans_with grounding domain problem others are.accepted is in (record { actions = found.0; cost = plan_cost domain problem others }, found.1, refl)
 
   pub no_named_plan : HasNoPlan (space_of task) → HasNoNamedPlan domain problem
   no_named_plan none actions is =
-      let packed = plans_are_packed_plans domain problem actions are.accepted is in
+      let packed = plans_are_packed_plans_with grounding domain problem actions are.accepted is in
       none (record { actions = packed.0; cost = plan_cost domain problem actions }) packed.1
 
   -- no plan by names costs less than this, if no packed one does
@@ -141,7 +144,7 @@ module _ (domain : Domain) (problem : Problem) (are : AreTask domain problem) wh
       × (plan.cost ≡ plan_cost domain problem actions) × IsPlan domain problem actions × IsBound weight (plan_cost domain problem actions) bound
       × NoneCheaperByNames domain problem weight (plan_cost domain problem actions)
   plan_by_names weight plan bound is bounded least =
-      let named = packed_plans_are_plans domain problem plan are.accepted is in
+      let named = packed_plans_are_plans_with grounding domain problem plan are.accepted is in
       let cost : plan.cost ≡ plan_cost domain problem named.0 = named.3 in
       let names = sym named.2 ∙ names_are_printed domain problem named.0 are.words are.others named.1 in (
         named.0,
@@ -165,7 +168,7 @@ module _ (domain : Domain) (problem : Problem) (are : AreTask domain problem) wh
   pub named_verdict : (verdict : Verdict) → VerdictHolds (space_of task) verdict → NamedVerdict domain problem verdict
   named_verdict Unsolvable none = no_named_plan none
   named_verdict (Bounded cost bound) ((plan, is, costs), least) =
-      let named = packed_plans_are_plans domain problem plan are.accepted is in (
+      let named = packed_plans_are_plans_with grounding domain problem plan are.accepted is in (
         (named.0, named.1, sym named.3 ∙ costs),
         none_below_by_names bound least,
       )
@@ -174,7 +177,8 @@ module _ (domain : Domain) (problem : Problem) (are : AreTask domain problem) wh
 
 module _ (texts : List (List ℕ)) where
   -- what follows by names from what holds of a task that the texts spell
-  pub texts_by_names : (P : TaskParts → Type 0) (Q : Domain → Problem → Type 0) → ((domain : Domain) (problem : Problem) → AreTask domain problem → P (parts.Strips (strips_of domain problem)) → Q domain problem)
+  pub texts_by_names : (P : TaskParts → Type 0) (Q : Domain → Problem → Type 0)
+      → ((grounding : Grounding) (domain : Domain) (problem : Problem) → AreTask grounding domain problem → P (parts.Strips (strips_with grounding domain problem)) → Q domain problem)
       → (solve : SolveMeaning) → OfTexts solve texts P → OfTrees solve.input 0 texts Q
   texts_by_names P Q f solve (task, is, holds) = by_trees P Q f solve.input solve.options 0 texts task is holds
 
@@ -184,12 +188,12 @@ module _ (texts : List (List ℕ)) where
   solved_by_names says saves solve =
       texts_by_names (λ parts. Solves says saves solve parts)
       (PrintsNamedPlan says (weight_asked solve))
-      (λ domain problem are solves. prints_named_plan domain problem are says saves solve solves) solve
+      (λ grounding domain problem are solves. prints_named_plan grounding domain problem are says saves solve solves) solve
 
   pub none_by_names : (solve : SolveMeaning) → OfTexts solve texts (λ task. HasNoPlan (space_of task)) → OfTrees solve.input 0 texts HasNoNamedPlan
   none_by_names = texts_by_names (λ t. HasNoPlan (space_of t)) HasNoNamedPlan no_named_plan
 
   pub accepted_by_names : (says : List ℕ → Type 0) (check : CheckMeaning) → OfCheckedTexts check texts (Accepts says) → OfTrees check.input 1 texts (AcceptsNamed says)
   accepted_by_names says check (task, certificate, is, holds) =
-      by_trees (λ t. Accepts says t certificate) (AcceptsNamed says) (λ domain problem are claims. (claims.0, claims.1, named_verdict domain problem are claims.0 claims.5)) check.input check.options 1 texts
+      by_trees (λ t. Accepts says t certificate) (AcceptsNamed says) (λ grounding domain problem are claims. (claims.0, claims.1, named_verdict grounding domain problem are claims.0 claims.5)) check.input check.options 1 texts
       task (checked_input (slice_get texts 0) (input_task check.input check.options 1 texts) task certificate is) holds

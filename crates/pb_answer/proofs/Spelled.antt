@@ -2,6 +2,7 @@
 -- board, or a domain and a problem that are well typed and within the limits. The other way round, a
 -- task that texts of a map or of a board give is one that they spell.
 use Rattle.std.proofs.Common.{◌≡◌, ℕ, ◌+◌, Option, None, Some, List, slice_get, Result, Ok, Err, refl, sym, ap, subst, ◌∙◌}
+use Rattle.pb_task.specs.declared.grounding.Grounding.{Grounding}
 use Rattle.pb_task.specs.declared.parts.TaskParts.{TaskParts}
 use Rattle.pb_task.specs.declared.parts.TaskParts.TheVariants as parts
 use Rattle.pb_task.specs.declared.parts.GridParts.{GridParts}
@@ -17,9 +18,9 @@ use Rattle.pb_pddl.specs.declared.tree.Problem.{Problem}
 use Rattle.pb_pddl.specs.Readings.{problem_reading}
 use Rattle.pb_pddl_laws.proofs.Callers.{domain_is_read, problem_is_read}
 use Rattle.pb_lifted.specs.Typing.{IsWellTyped}
-use Rattle.pb_strips.specs.Grounding.{strips_of}
-use Rattle.pb_strips.specs.Refusals.{IsWithinLimits}
-use Rattle.pb_strips.proofs.Callers.{no_fault}
+use Rattle.pb_strips.specs.Grounding.{strips_with}
+use Rattle.pb_strips.specs.Refusals.{IsWithinLimitsWith}
+use Rattle.pb_strips.proofs.Callers.{no_fault_with}
 use Rattle.pb_report.specs.Texts.{input_text, tiles_text}
 use Rattle.pb_command.specs.declared.command.InputOptions.{InputOptions}
 use Rattle.pb_command.specs.Values.{InputNames, Grid, Tiles, Strips}
@@ -30,14 +31,15 @@ use Rattle.pb_answer.specs.Spelled.{OfGrid, OfTiles, SpellInput, SpellBehind, Sp
 
 -- ---- what is spelled is a task
 
-strips_reads : (domain_text problem_text : Option (List ℕ)) (domain : Domain) (problem : Problem) → SpellTrees domain_text problem_text domain problem
-    → IsWellTyped domain problem → IsWithinLimits domain problem → strips_task domain_text problem_text ≡ Ok (parts.Strips (strips_of domain problem))
-strips_reads None problem_text domain problem spelled typed within = absurd spelled
-strips_reads (Some domain_text) None domain problem spelled typed within = absurd spelled
-strips_reads (Some domain_text) (Some problem_text) domain problem (one, two) typed within =
-    ap (λ reading. domain_told reading (problem_reading problem_text)) (domain_is_read domain_text domain one)
-    ∙ ap (problem_told domain) (problem_is_read problem_text problem two)
-    ∙ ap (strips_told domain problem) (no_fault domain problem typed within)
+strips_reads : (grounding : Grounding) (domain_text problem_text : Option (List ℕ)) (domain : Domain) (problem : Problem) → SpellTrees domain_text problem_text domain problem
+    → IsWellTyped domain problem → IsWithinLimitsWith grounding domain problem
+    → strips_task grounding domain_text problem_text ≡ Ok (parts.Strips (strips_with grounding domain problem))
+strips_reads grounding None problem_text domain problem spelled typed within = absurd spelled
+strips_reads grounding (Some domain_text) None domain problem spelled typed within = absurd spelled
+strips_reads grounding (Some domain_text) (Some problem_text) domain problem (one, two) typed within =
+    ap (λ reading. domain_told grounding reading (problem_reading problem_text)) (domain_is_read domain_text domain one)
+    ∙ ap (problem_told grounding domain) (problem_is_read problem_text problem two)
+    ∙ ap (strips_told grounding domain problem) (no_fault_with grounding domain problem typed within)
 
 grid_reads : ReadAsSpelled → (map_text scenario_text : Option (List ℕ)) (options : InputOptions) → OfGrid map_text scenario_text options (λ grid. Unit {0})
     → (task : TaskParts) × (grid_task map_text scenario_text options ≡ Ok task)
@@ -62,8 +64,10 @@ module _ (maps : ReadAsSpelled) (boards : ReadingsAreSpelled) where
       → (task : TaskParts) × (input_task input options first texts ≡ Ok task)
   input_reads (Grid names) options first texts spelled = grid_reads maps (slice_get texts first) (slice_get texts (first + 1)) options spelled
   input_reads (Tiles board) options first texts spelled = tiles_reads boards (slice_get texts first) spelled
-  input_reads (Strips names) options first texts (domain, problem, spelled, typed, within) =
-      (parts.Strips (strips_of domain problem), strips_reads (slice_get texts first) (slice_get texts (first + 1)) domain problem spelled typed within)
+  input_reads (Strips names) options first texts (domain, problem, spelled, typed, within) = (
+    parts.Strips (strips_with options.grounding domain problem),
+    strips_reads options.grounding (slice_get texts first) (slice_get texts (first + 1)) domain problem spelled typed within,
+  )
 
   behind_reads : (input : InputNames) (options : InputOptions) (texts : List (List ℕ)) → SpellBehind input options texts
       → (task : TaskParts) × (text : List ℕ) × (with_text (slice_get texts 0) (input_task input options 1 texts) ≡ Ok (task, text))

@@ -28,8 +28,9 @@ use Rattle.pb_answer.specs.Engines.{engine_asked, Left, SearchLeaves, FindsIn}
 -- ---- of a search
 
 -- What is saved is the text of a certificate of the task, if it has a name, and else nothing. The
--- certificate states this choice of an estimate. It has the lines of all rows of this store, and
--- this plan, or none. It is valid by the stated estimate, and its text is accepted.
+-- certificate states the task's grounding and this choice of an estimate. It has the lines of all
+-- rows of this store, and this plan, or none. It is valid by the stated estimate, and its text is
+-- accepted.
 abbrev pub IsCertificate : (name : Option (List ℕ)) → TaskParts → Choice → Weight → Guide → Store
     → Option Plan → List Output → Type 0
 IsCertificate None parts choice weight guide store plan outputs = outputs ≡ []

@@ -1,11 +1,15 @@
 -- Which task is spelled by the texts that were loaded of the files of a command line, or the report
 -- that refuses them. The task of each kind is in `input_task`. The words for the row and for swamp
--- are part of what spells a grid.
+-- are part of what spells a grid, and the word for the grounding is part of what spells a STRIPS
+-- task.
 use Rattle.std.specs.Prelude.{◌≡◌, ℕ, ◌+◌, Option, None, Some, List, [], Result, Ok, Err, slice_get}
 use Rattle.pb_model.specs.Texts.{line}
 use Rattle.pb_task.specs.declared.parts.TaskParts.{TaskParts}
 use Rattle.pb_task.specs.declared.parts.TaskParts.TheVariants as parts
 use Rattle.pb_task.specs.declared.parts.TilesParts.{TilesParts}
+use Rattle.pb_task.specs.declared.grounding.Grounding.{Grounding}
+use Rattle.pb_task.specs.declared.grounding.Grounding.TheVariants.{All}
+use Rattle.pb_task.specs.Groundings.{grounding_of}
 use Rattle.pb_grid.specs.declared.error.GridError.{GridError}
 use Rattle.pb_grid.specs.Reading.{grid_reading, task_of}
 use Rattle.pb_tiles.specs.declared.error.TilesError.{TilesError}
@@ -15,8 +19,8 @@ use Rattle.pb_pddl.specs.declared.tree.Domain.{Domain}
 use Rattle.pb_pddl.specs.declared.tree.Problem.{Problem}
 use Rattle.pb_pddl.specs.Readings.{domain_reading, problem_reading}
 use Rattle.pb_strips.specs.declared.error.StripsError.{StripsError}
-use Rattle.pb_strips.specs.Grounding.{strips_of}
-use Rattle.pb_strips.specs.Refusals.{first_fault}
+use Rattle.pb_strips.specs.Grounding.{strips_with}
+use Rattle.pb_strips.specs.Refusals.{fault_with}
 use Rattle.pb_report.specs.Texts.{input_text, tiles_text, syntax_text, strips_text}
 use Rattle.pb_command.specs.Files.{too_long as fault_line}
 use Rattle.pb_command.specs.declared.command.InputOptions.{InputOptions}
@@ -53,35 +57,54 @@ abbrev pub tiles_task : (text : Option (List ℕ)) → Result TaskParts (List �
 tiles_task None = Err too_long
 tiles_task (Some text) = tiles_told (tiles_reading text)
 
-abbrev pub strips_told : Domain → Problem → Option StripsError → Result TaskParts (List ℕ)
-strips_told domain problem None = Ok (parts.Strips (strips_of domain problem))
-strips_told domain problem (Some error) = refused_with (strips_text error)
+abbrev pub strips_told : Grounding → Domain → Problem → Option StripsError
+    → Result TaskParts (List ℕ)
+strips_told grounding domain problem None = Ok (parts.Strips (strips_with grounding domain problem))
+strips_told grounding domain problem (Some error) = refused_with (strips_text error)
 
-abbrev pub problem_told : Domain → Result Problem SyntaxError → Result TaskParts (List ℕ)
-problem_told domain (Ok problem) = strips_told domain problem (first_fault domain problem)
-problem_told domain (Err error) = refused_with (syntax_text 2 error)
+abbrev pub problem_told : Grounding → Domain → Result Problem SyntaxError
+    → Result TaskParts (List ℕ)
+problem_told grounding domain (Ok problem) =
+    strips_told grounding domain problem (fault_with grounding domain problem)
+problem_told grounding domain (Err error) = refused_with (syntax_text 2 error)
 
 -- the domain is read first, then the problem, and then both are grounded
-abbrev pub domain_told : Result Domain SyntaxError → (problem : Result Problem SyntaxError)
-    → Result TaskParts (List ℕ)
-domain_told (Ok domain) problem = problem_told domain problem
-domain_told (Err error) problem = refused_with (syntax_text 1 error)
+abbrev pub domain_told : Grounding → Result Domain SyntaxError
+    → (problem : Result Problem SyntaxError) → Result TaskParts (List ℕ)
+domain_told grounding (Ok domain) problem = problem_told grounding domain problem
+domain_told grounding (Err error) problem = refused_with (syntax_text 1 error)
 
-abbrev pub strips_task : (domain_text problem_text : Option (List ℕ)) → Result TaskParts (List ℕ)
-strips_task None problem_text = Err too_long
-strips_task (Some domain_text) None = Err too_long
-strips_task (Some domain_text) (Some problem_text) =
-    domain_told (domain_reading domain_text) (problem_reading problem_text)
+abbrev pub strips_task : Grounding → (domain_text problem_text : Option (List ℕ))
+    → Result TaskParts (List ℕ)
+strips_task grounding None problem_text = Err too_long
+strips_task grounding (Some domain_text) None = Err too_long
+strips_task grounding (Some domain_text) (Some problem_text) =
+    domain_told grounding (domain_reading domain_text) (problem_reading problem_text)
 
 -- the task of the texts from this place on, read as the words ask; what they say of the row and of
--- swamp doesn't matter for tiles and strips
+-- swamp doesn't matter for tiles and strips, and what they say of the grounding matters for strips
+-- alone
 abbrev pub input_task : InputNames → InputOptions → (first : ℕ) → (texts : List (List ℕ))
     → Result TaskParts (List ℕ)
 input_task (Grid names) options first texts =
     grid_task (slice_get texts first) (slice_get texts (first + 1)) options
 input_task (Tiles board) options first texts = tiles_task (slice_get texts first)
 input_task (Strips names) options first texts =
-    strips_task (slice_get texts first) (slice_get texts (first + 1))
+    strips_task options.grounding (slice_get texts first) (slice_get texts (first + 1))
+
+-- The grounding of a task that the words ask for. The flag is looked at for STRIPS alone: of a map
+-- and of a board nothing is left out.
+abbrev pub grounding_asked : InputNames → InputOptions → Grounding
+grounding_asked (Grid names) options = All
+grounding_asked (Tiles board) options = All
+grounding_asked (Strips names) options = options.grounding
+
+-- The grounding of the task that the texts spell is the one that the words ask for.
+abbrev pub GroundingsAreAsAsked : Type 0
+GroundingsAreAsAsked =
+    (task : TaskParts) (input : InputNames) (options : InputOptions) (first : ℕ)
+    (texts : List (List ℕ)) → input_task input options first texts ≡ Ok task
+    → grounding_of task ≡ grounding_asked input options
 
 -- the task that is to be solved
 abbrev pub solve_task : SolveMeaning → (texts : List (List ℕ)) → Result TaskParts (List ℕ)

@@ -1,5 +1,6 @@
 -- Texts that spell a task by the rules of their format: a map and a scenario, a board, or a domain
--- and a problem by the grammar, which are well typed and within the numbers of atoms and actions.
+-- and a problem by the grammar, which are well typed and within the numbers of atoms and actions of
+-- the grounding that the words ask for.
 use Rattle.std.specs.Prelude.{◌≡◌, ℕ, ◌+◌, Option, None, Some, List, slice_get}
 use Rattle.pb_task.specs.declared.parts.GridParts.{GridParts}
 use Rattle.pb_task.specs.declared.parts.TilesParts.{TilesParts}
@@ -8,7 +9,7 @@ use Rattle.pb_tiles.specs.Spelling.{SpellsTiles}
 use Rattle.pb_pddl.specs.declared.tree.Domain.{Domain}
 use Rattle.pb_pddl.specs.declared.tree.Problem.{Problem}
 use Rattle.pb_lifted.specs.Typing.{IsWellTyped}
-use Rattle.pb_strips.specs.Refusals.{IsWithinLimits}
+use Rattle.pb_strips.specs.Refusals.{IsWithinLimitsWith}
 use Rattle.pb_command.specs.declared.command.InputOptions.{InputOptions}
 use Rattle.pb_command.specs.Values.{InputNames, Grid, Tiles, Strips}
 use Rattle.pb_command.specs.Meaning.{Reading, Refused, Read, Solve, Falling, Check, Journal, Make}
@@ -37,7 +38,7 @@ SpellInput (Tiles board) options first texts =
 SpellInput (Strips names) options first texts =
     (domain : Domain) × (problem : Problem) × SpellTrees (slice_get texts first)
     (slice_get texts (first + 1)) domain problem
-    × IsWellTyped domain problem × IsWithinLimits domain problem
+    × IsWellTyped domain problem × IsWithinLimitsWith options.grounding domain problem
 
 -- the text that is judged is there, and those after it spell such a task
 abbrev pub SpellBehind : InputNames → InputOptions → (texts : List (List ℕ)) → Type 0

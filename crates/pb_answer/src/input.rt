@@ -15,9 +15,9 @@ use pb_grid::{GridError, read_grid};
 use pb_lifted::File;
 use pb_pddl::{Domain, SyntaxError};
 use pb_report::Report;
-use pb_strips::{StripsError, ground};
+use pb_strips::{StripsError, ground_with};
 use pb_syntax::{read_domain, read_problem};
-use pb_task::Task;
+use pb_task::{Grounding, Task};
 use pb_tiles::{TilesError, read_tiles};
 use std::alloc::{AllocError, Global};
 
@@ -127,14 +127,20 @@ fn refuse_strips(alloc: Global, error: StripsError) -> NoTask
     }
 }
 
-// The task of a domain and the text of a problem.
-fn strips_of(alloc: Global, domain: &Domain, text: &[u8]) -> Result<Task, NoTask>
+// The task of this grounding of a domain and the text of a problem.
+fn strips_of(
+    alloc: Global,
+    grounding: Grounding,
+    domain: &Domain,
+    text: &[u8],
+) -> Result<Task, NoTask>
     requires { DomainHasWords domain.now }
-    ensures task { GivesTask result (problem_told domain.now (problem_reading text.now)) }
+    ensures task { GivesTask result
+        (problem_told grounding domain.now (problem_reading text.now)) }
     ensures names { IfOk result NamesTell }
 {
     match read_problem(alloc, text) {
-        Ok(problem) => match ground(alloc, domain, &problem) {
+        Ok(problem) => match ground_with(alloc, grounding, domain, &problem) {
             Ok(task) => Ok(task),
             Err(StripsError::Memory) => Err(NoTask::Memory),
             Err(error) => Err(refuse_strips(alloc, error)),
@@ -145,31 +151,42 @@ fn strips_of(alloc: Global, domain: &Domain, text: &[u8]) -> Result<Task, NoTask
 }
 
 // Reads the texts of a domain and a problem, and grounds their task.
-fn read_strips(alloc: Global, domain: &[u8], problem: &[u8]) -> Result<Task, NoTask>
-    ensures task { GivesTask result (strips_task (Some domain.now) (Some problem.now)) }
+fn read_strips(
+    alloc: Global,
+    grounding: Grounding,
+    domain: &[u8],
+    problem: &[u8],
+) -> Result<Task, NoTask>
+    ensures task { GivesTask result
+        (strips_task grounding (Some domain.now) (Some problem.now)) }
     ensures names { IfOk result NamesTell }
 {
     match read_domain(alloc, domain) {
-        Ok(domain) => strips_of(alloc, &domain, problem),
+        Ok(domain) => strips_of(alloc, grounding, &domain, problem),
         Err(SyntaxError::Memory) => Err(NoTask::Memory),
         Err(error) => Err(refuse_text(alloc, File::Domain, error)),
     }
 }
 
-// The task of a domain and a problem.
-fn strips(alloc: Global, domain: Option<&[u8]>, problem: Option<&[u8]>) -> Result<Task, NoTask>
-    ensures task { GivesTask result (strips_task (option_map (λ t. t.now) domain.entry)
+// The task of this grounding of a domain and a problem.
+fn strips(
+    alloc: Global,
+    grounding: Grounding,
+    domain: Option<&[u8]>,
+    problem: Option<&[u8]>,
+) -> Result<Task, NoTask>
+    ensures task { GivesTask result (strips_task grounding (option_map (λ t. t.now) domain.entry)
         (option_map (λ t. t.now) problem.entry)) }
     ensures names { IfOk result NamesTell }
 {
     match (domain, problem) {
-        (Some(domain), Some(problem)) => read_strips(alloc, domain, problem),
+        (Some(domain), Some(problem)) => read_strips(alloc, grounding, domain, problem),
         _ => Err(refuse_long_text(alloc)),
     }
 }
 
 /// The task that the texts from a place on spell, read as the words ask. The row of the scenario and
-/// `swamp` are looked at for a grid alone.
+/// `swamp` are looked at for a grid alone, and the grounding for STRIPS alone.
 pub fn input_task(
     alloc: Global,
     input: &Input<'_>,
@@ -184,6 +201,9 @@ pub fn input_task(
     match input {
         Input::Grid(_) => grid(alloc, texts.get(first), texts.get(first + 1), options),
         Input::Tiles(_) => tiles(alloc, texts.get(first)),
-        Input::Strips(_) => strips(alloc, texts.get(first), texts.get(first + 1)),
+        Input::Strips(_) => {
+            let grounding = options.grounding;
+            strips(alloc, grounding, texts.get(first), texts.get(first + 1))
+        }
     }
 }

@@ -19,7 +19,7 @@ use std::alloc::{AllocError, Global};
 
 /// The plan that is claimed after a run: the one that the rows lead to, or that of the claim before
 /// if it is cheaper. None if the run found no plan, or used up the budget. An error is out of memory.
-pub(crate) fn claimed_plan(
+pub fn claimed_plan(
     alloc: Global,
     task: &Task,
     graph: &LeaseGraph,

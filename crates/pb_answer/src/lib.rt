@@ -26,7 +26,8 @@ pub use answer::{
 };
 pub use begin::{FallingBegin, begin_falling};
 pub use falling::FallingSearch;
-pub use laws::long_files_are_refused;
+pub use kept::claimed_plan;
+pub use laws::{groundings_are_as_asked, long_files_are_refused};
 pub use status::Status;
 pub use store::SearchedStore;
 pub use texts::Texts;

@@ -11,10 +11,11 @@ use Rattle.pb_print.specs.Saved.{longest_line, PutsLine}
 use Rattle.pb_print.proofs.Callers.{lines-append, lines-last, puts_left, puts_right, short_enough}
 use Rattle.pb_estimate.specs.declared.spelling.Spelling.{Spelling}
 use Rattle.pb_estimate.specs.declared.spelling.Version.{Version}
-use Rattle.pb_estimate.specs.declared.spelling.Version.TheVariants.{One, Two, Three}
+use Rattle.pb_estimate.specs.declared.spelling.Version.TheVariants.{One, Two, Three, Four}
 use Rattle.pb_estimate.specs.declared.choice.Choice.{Choice}
 use Rattle.pb_estimate.specs.declared.choice.Choice.TheVariants.{Plain, Pattern}
-use Rattle.pb_estimate.specs.Spelling.{IsWidthOf, IsSpelling, version_line, kind_line, width_text, choice_text, stated_text, head_of, head_lines}
+use Rattle.pb_estimate.specs.declared.spelling.Stated.{Stated}
+use Rattle.pb_estimate.specs.Spelling.{IsWidthOf, IsSpelling, version_line, kind_line, width_text, choice_text, grounding_line, estimate_line, stated_text, head_of, head_lines}
 use Rattle.pb_cert.specs.Stated.{SpelledCertificate, text_of, first_lines, plan_lines, rows_lines, weight_line, lines_of}
 
 -- ---- a first line, a line for each element of a list, and a last line
@@ -89,19 +90,19 @@ module _ (old new : List ℕ) (spelling : Spelling) (at : ℕ) where
   pub width_put : 2 ≤ at → PutsLine old new (width_text spelling.version spelling.width) (at - 2) → PutsLine old new (head_of spelling) at
   width_put past puts =
       let width = width_text spelling.version spelling.width in
-      let stated = stated_text spelling.stated in
+      let stated = stated_text spelling.version spelling.stated in
       puts_right old new (version_line spelling.version ∷ kind_line spelling.kind ∷ []) (width ++ stated) at (at - 2) past refl (puts_left old new width stated (at - 2) puts)
 
-  pub stated_put : (widths : ℕ) → widths ≡ length (width_text spelling.version spelling.width) → 2 + widths ≤ at → PutsLine old new (stated_text spelling.stated) (at - 2 - widths) → PutsLine old new (head_of spelling) at
+  pub stated_put : (widths : ℕ) → widths ≡ length (width_text spelling.version spelling.width) → 2 + widths ≤ at → PutsLine old new (stated_text spelling.version spelling.stated) (at - 2 - widths) → PutsLine old new (head_of spelling) at
   stated_put widths counted past puts =
       let width = width_text spelling.version spelling.width in
-      let stated = stated_text spelling.stated in
+      let stated = stated_text spelling.version spelling.stated in
       puts_right old new (version_line spelling.version ∷ kind_line spelling.kind ∷ []) (width ++ stated) at (at - 2) (omega (arith, past)) refl
       (puts_right old new width stated (at - 2) (at - 2 - widths) (omega (arith, counted, past)) (omega (arith, counted)) puts)
 
 -- how many lines come before the weight
-pub head_counted : (spelling : Spelling) → head_lines spelling ≡ 2 + length (width_text spelling.version spelling.width) + length (stated_text spelling.stated)
-head_counted spelling = let both = length-append (width_text spelling.version spelling.width) (stated_text spelling.stated) in omega (arith, both)
+pub head_counted : (spelling : Spelling) → head_lines spelling ≡ 2 + length (width_text spelling.version spelling.width) + length (stated_text spelling.version spelling.stated)
+head_counted spelling = let both = length-append (width_text spelling.version spelling.width) (stated_text spelling.version spelling.stated) in omega (arith, both)
 
 -- the line that says how many digits a state has, if there is one
 pub no_width_put : (old new : List ℕ) (version : Version) (width at : ℕ) → version ≡ One → at < length (width_text version width) → PutsLine old new (width_text version width) at
@@ -114,6 +115,10 @@ no_width_put old new Three width at is within = absurd (three_one is)
   where
     three_one : ◌≡◌ {A = Version} Three One → ⊥
     three_one e = cc
+no_width_put old new Four width at is within = absurd (four_one is)
+  where
+    four_one : ◌≡◌ {A = Version} Four One → ⊥
+    four_one e = cc
 
 -- the one line of a word and a number
 pub one_number_put : (old new word : List ℕ) (n at number : ℕ) → number ≡ n → at < 1 → new ≡ old ++ line (spaced word (decimal number)) → length new ≤ length old + longest_line
@@ -128,8 +133,9 @@ pub one_width_put : (old new : List ℕ) (version : Version) (width at number : 
 one_width_put old new One width at number same within e short = absurd (omega (arith, within))
 one_width_put old new Two width at number same within e short = one_number_put old new (codes "width") width at number same within e short
 one_width_put old new Three width at number same within e short = one_number_put old new (codes "width") width at number same within e short
+one_width_put old new Four width at number same within e short = one_number_put old new (codes "width") width at number same within e short
 
--- the line that says the number of a pattern, if there is one
+-- the line that says the number of a pattern in version 3, if there is one
 pub no_pattern_put : (old new : List ℕ) (choice : Choice) (at : ℕ) → choice ≡ Plain → at < length (choice_text choice) → PutsLine old new (choice_text choice) at
 no_pattern_put old new choice at is within =
     let none : at < 0 = subst (λ c. at < length (choice_text c)) is within in absurd (omega (arith, none))
@@ -139,6 +145,23 @@ pub pattern_put : (old new : List ℕ) (choice : Choice) (number at : ℕ) → c
 pattern_put old new choice number at is within e short =
     subst (λ c. PutsLine old new (choice_text c) at) (sym is)
     (one_number_put old new (codes "pattern") number at number refl (subst (λ c. at < length (choice_text c)) is within) e short)
+
+-- the lines of what version 4 states besides
+module _ (old new : List ℕ) (stated : Stated) (at : ℕ) where
+  pub grounding_put : at ≡ 0 → new ≡ old ++ line (grounding_line stated.grounding) → length new ≤ length old + longest_line → PutsLine old new (stated_text Four stated) at
+  grounding_put zeroth e short =
+      (grounding_line stated.grounding, subst (λ n. slice_get (stated_text Four stated) n ≡ Some (grounding_line stated.grounding)) (sym zeroth) refl, e, short)
+
+  pub estimate_put : (at ≡ 0 → ⊥) → at < length (stated_text Four stated) → new ≡ old ++ line (estimate_line stated.choice) → length new ≤ length old + longest_line → PutsLine old new (stated_text Four stated) at
+  estimate_put other within e short =
+      let first : at ≡ 1 = grind (arith, other, within) in
+      (estimate_line stated.choice, subst (λ n. slice_get (stated_text Four stated) n ≡ Some (estimate_line stated.choice)) (sym first) refl, e, short)
+
+-- what a version states besides, where it is known
+module _ (old new : List ℕ) (version : Version) (stated : Stated) (at : ℕ) where
+  pub one_put : (other : Version) → version ≡ other → (at < length (stated_text other stated) → PutsLine old new (stated_text other stated) at) → at < length (stated_text version stated) → PutsLine old new (stated_text version stated) at
+  one_put other is puts within =
+      subst (λ v. PutsLine old new (stated_text v stated) at) (sym is) (puts (subst (λ v. at < length (stated_text v stated)) is within))
 
 module _ (old new : List ℕ) (spelled : SpelledCertificate) (at : ℕ) where
   first_counted : length (first_lines spelled) ≡ head_lines spelled.spelling + 1
@@ -227,6 +250,7 @@ width_of_version : (version : Version) (width : ℕ) → IsWidthOf version width
 width_of_version One width is = (omega (arith, is), omega (arith, is))
 width_of_version Two width is = is
 width_of_version Three width is = is
+width_of_version Four width is = is
 
 pub width_of_spelling : (spelling : Spelling) → IsSpelling spelling → (1 ≤ spelling.width) × (spelling.width ≤ most_digits)
 width_of_spelling spelling is = width_of_version spelling.version spelling.width is.width

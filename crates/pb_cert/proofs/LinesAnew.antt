@@ -17,15 +17,19 @@ use Rattle.pb_model.specs.Certificate.{Line, Certificate}
 use Rattle.pb_model.specs.Texts.{line, lines, spaced, line_text}
 use Rattle.pb_task.specs.declared.kind.Kind.{Kind}
 use Rattle.pb_task.specs.declared.kind.Kind.TheVariants.{Grid, Tiles, Strips}
+use Rattle.pb_task.specs.declared.grounding.Grounding.{Grounding}
+use Rattle.pb_task.specs.declared.grounding.Grounding.TheVariants as groundings
 use Rattle.pb_task.specs.declared.parts.TaskParts.{TaskParts}
 use Rattle.pb_task.specs.Parts.{IsTask}
 use Rattle.pb_task.specs.Widths.{width_of, StatesFitTheirWidth}
 use Rattle.pb_estimate.specs.declared.choice.Choice.{Choice}
 use Rattle.pb_estimate.specs.declared.choice.Choice.TheVariants.{Plain, Pattern}
+use Rattle.pb_estimate.specs.declared.spelling.Stated.{Stated}
 use Rattle.pb_estimate.specs.declared.spelling.Spelling.{Spelling}
 use Rattle.pb_estimate.specs.declared.spelling.Version.{Version}
-use Rattle.pb_estimate.specs.declared.spelling.Version.TheVariants.{One, Two, Three}
-use Rattle.pb_estimate.specs.Spelling.{IsWidthOf, StatesChoice, IsSpelling, version_line, kind_line, width_text, choice_text, stated_text, head_of}
+use Rattle.pb_estimate.specs.declared.spelling.Version.TheVariants.{One, Two, Three, Four}
+use Rattle.pb_estimate.specs.Spelling.{IsWidthOf, StatesChoice, StatesGrounding, IsVersionFor, IsSpelling}
+use Rattle.pb_estimate.specs.Spelling.{version_line, kind_line, width_text, choice_text, grounding_line, estimate_line, stated_text, head_of}
 use Rattle.pb_lines.specs.Words.{part, behind, has_none, line_feeds}
 use Rattle.pb_lines.proofs.Callers.{part_again, none_both, number_none, one_feed, behind_again}
 use Rattle.pb_print.specs.Saved.{longest_line, PutsLine}
@@ -75,7 +79,7 @@ digits_none (suc count) n =
     ap (has_none 10) (one_more count n)
     ∙ none_both 10 (hex_digits count (n / 16)) (hex_digit (n % 16) ∷ []) (digits_none count (n / 16)) (digit_none (n % 16) (mod_below n 16 (lit< tt)))
 
-numbered_good : (word : List ℕ) (n : ℕ) → has_none 10 word ≡ true → length word ≤ 8 → IsNumber n → IsGood (spaced word (decimal n))
+numbered_good : (word : List ℕ) (n : ℕ) → has_none 10 word ≡ true → length word ≤ 16 → IsNumber n → IsGood (spaced word (decimal n))
 numbered_good word n none few small = (
   none_both 10 word (32 ∷ decimal n) none (number_none 10 n (omega arith) small),
   (let long = numbered_short word n few small in omega (arith, long)),
@@ -95,6 +99,7 @@ version_good : (version : Version) → IsGood (version_line version)
 version_good One = (refl, omega arith)
 version_good Two = (refl, omega arith)
 version_good Three = (refl, omega arith)
+version_good Four = (refl, omega arith)
 
 kind_good : (kind : Kind) → IsGood (kind_line kind)
 kind_good Grid = (refl, omega arith)
@@ -105,12 +110,25 @@ width_good : (version : Version) (width : ℕ) → width ≤ most_digits → Are
 width_good One width most = tt
 width_good Two width most = (numbered_good (codes "width") width refl (omega arith) (omega (arith, most)), tt)
 width_good Three width most = (numbered_good (codes "width") width refl (omega arith) (omega (arith, most)), tt)
+width_good Four width most = (numbered_good (codes "width") width refl (omega arith) (omega (arith, most)), tt)
 
-choice_good : (version : Version) (choice : Choice) → StatesChoice version choice → AreGood (choice_text choice)
-choice_good version Plain states = tt
-choice_good One (Pattern number) states = absurd states
-choice_good Two (Pattern number) states = absurd states
-choice_good Three (Pattern number) states = (numbered_good (codes "pattern") number refl (omega arith) states, tt)
+grounding_good : (grounding : Grounding) → IsGood (grounding_line grounding)
+grounding_good groundings.All = (refl, omega arith)
+grounding_good groundings.Reachable = (refl, omega arith)
+
+estimate_good : (choice : Choice) → StatesChoice Four choice → IsGood (estimate_line choice)
+estimate_good Plain states = (refl, omega arith)
+estimate_good (Pattern number) states = numbered_good (codes "estimate pattern") number refl (omega arith) states
+
+choice_good : (choice : Choice) → StatesChoice Three choice → AreGood (choice_text choice)
+choice_good Plain states = tt
+choice_good (Pattern number) states = (numbered_good (codes "pattern") number refl (omega arith) states, tt)
+
+stated_good : (version : Version) (stated : Stated) → StatesChoice version stated.choice → AreGood (stated_text version stated)
+stated_good One stated states = tt
+stated_good Two stated states = tt
+stated_good Three stated states = choice_good stated.choice states
+stated_good Four stated states = (grounding_good stated.grounding, (estimate_good stated.choice states, tt))
 
 actions_good : (actions : List ℕ) → AllByRecursion IsNumber actions → AreGood (map decimal actions)
 actions_good [] all = tt
@@ -158,7 +176,7 @@ unfolding lines_of
 lines_good spelled most states fits =
     let c : Certificate = spelled.certificate in
     let s : Spelling = spelled.spelling in
-    let head : AreGood (head_of s) = (version_good s.version, (kind_good s.kind, both_good (width_text s.version s.width) (stated_text s.stated) (width_good s.version s.width most) (choice_good s.version s.stated.choice states))) in
+    let head : AreGood (head_of s) = (version_good s.version, (kind_good s.kind, both_good (width_text s.version s.width) (stated_text s.version s.stated) (width_good s.version s.width most) (stated_good s.version s.stated states))) in
     let first : AreGood (head_of s ++ weight_line c.weight ∷ []) = both_good (head_of s) (weight_line c.weight ∷ []) head (weight_good c.weight fits.weight.0 fits.weight.1, tt) in
     let rows : AreGood (rows_lines s.width c) = (
       numbered_good (codes "rows") (length c.lines) refl (omega arith) fits.count,
@@ -256,27 +274,24 @@ module _ (width : ℕ) (text : Text) (version : text.spelling.version ≡ One) (
   digits : text.spelling.width ≡ 64
   digits = subst (λ v. IsWidthOf v text.spelling.width) version known.width
 
-  states_none : StatesChoice One text.spelling.stated.choice
-  states_none = subst (λ v. StatesChoice v text.spelling.stated.choice) version known.choice
-
   fit : Fits 64 text.certificate
   fit = subst (λ w. Fits w text.certificate) digits fits
 
   rows_fit : AllByRecursion (RowFits width) text.certificate.lines
   rows_fit = recursion_from_All (RowFits width) text.certificate.lines (λ k d less. ((fit.lines k d less).0, states k d less, (fit.lines k d less).1))
 
-  rest_read : drop 2 (lines_of (spelled_of text)) ≡ rest_lines 64 text.spelling.stated text.certificate
+  rest_read : drop 2 (lines_of (spelled_of text)) ≡ rest_lines 64 text.certificate
   unfolding lines_of
-  rest_read = λ i. (((width_text (version i) (digits i) ++ stated_text text.spelling.stated) ++ weight_line text.certificate.weight ∷ []) ++ plan_lines text.certificate.plan)
+  rest_read = λ i. (((width_text (version i) (digits i) ++ stated_text (version i) text.spelling.stated) ++ weight_line text.certificate.weight ∷ []) ++ plan_lines text.certificate.plan)
       ++ rows_lines (digits i) text.certificate
 
-  rest_saved : lines_of (in_version_2 width text) ≡ version_line Two ∷ kind_line text.spelling.kind ∷ width_line width ∷ rest_lines width text.spelling.stated text.certificate
+  rest_saved : lines_of (in_version_2 width text) ≡ version_line Two ∷ kind_line text.spelling.kind ∷ width_line width ∷ rest_lines width text.certificate
   unfolding lines_of
   rest_saved = refl
 
   pub respelled : lines_of (saved_anew width text) ≡ version_line Two ∷ kind_line text.spelling.kind ∷ width_line width ∷ map (respelled_line width) (drop 2 (lines_of (spelled_of text)))
   respelled = ap lines_of (saved_in_2 width text version) ∙ rest_saved ∙ ap (λ t. version_line Two ∷ kind_line text.spelling.kind ∷ width_line width ∷ t)
-      (sym (rest_respelled width text.spelling.stated text.certificate states_none fit rows_fit) ∙ ap (map (respelled_line width)) (sym rest_read))
+      (sym (rest_respelled width text.certificate fit rows_fit) ∙ ap (map (respelled_line width)) (sym rest_read))
 
   pub one_line_more : length (lines_of (saved_anew width text)) ≡ length (lines_of (spelled_of text)) + 1
   one_line_more =
@@ -328,11 +343,13 @@ one_or_later : (v : Version) → (v ≡ One) ⊎ (v ≢ One)
 one_or_later One = inl refl
 one_or_later Two = inr (λ e. cc)
 one_or_later Three = inr (λ e. cc)
+one_or_later Four = inr (λ e. cc)
 
 stays : (v : Version) → v ≢ One → version_anew v ≡ v
 stays One later = absurd (later refl)
 stays Two later = refl
 stays Three later = refl
+stays Four later = refl
 
 -- and states what it stated
 states_anew : (v : Version) (choice : Choice) → StatesChoice v choice → StatesChoice (version_anew v) choice
@@ -340,6 +357,19 @@ states_anew One Plain states = tt
 states_anew One (Pattern number) states = absurd states
 states_anew Two choice states = states
 states_anew Three choice states = states
+states_anew Four choice states = states
+
+grounding_anew : (v : Version) (grounding : Grounding) → StatesGrounding v grounding → StatesGrounding (version_anew v) grounding
+grounding_anew One grounding states = states
+grounding_anew Two grounding states = states
+grounding_anew Three grounding states = states
+grounding_anew Four grounding states = states
+
+kind_anew : (v : Version) (kind : Kind) → IsVersionFor v kind → IsVersionFor (version_anew v) kind
+kind_anew One kind suits = suits
+kind_anew Two kind suits = suits
+kind_anew Three kind suits = suits
+kind_anew Four kind suits = suits
 
 -- the lines before the next one
 before_first : lines_before One 0 ≡ 0
@@ -349,6 +379,7 @@ before_same : (v : Version) → v ≢ One → (at : ℕ) → lines_before v at �
 before_same One later at = absurd (later refl)
 before_same Two later at = refl
 before_same Three later at = refl
+before_same Four later at = refl
 
 before_later : (at : ℕ) → 3 ≤ at → lines_before One at ≡ at - 1
 before_later at past = grind (arith, nat_tests, past)
@@ -372,6 +403,7 @@ module _ (bytes : List ℕ) (from : Version) (width : ℕ) (can : CanBeRewritten
       by One digits is = omega (arith, is)
       by Two digits is = is.1
       by Three digits is = is.1
+      by Four digits is = is.1
 
   read_good : AreGood (lines_of (spelled_of can.text))
   read_good = lines_good (spelled_of can.text) few_digits can.spelled.known.choice can.spelled.fits
@@ -394,6 +426,7 @@ module _ (bytes : List ℕ) (from : Version) (width : ℕ) (can : CanBeRewritten
       by One is = bytes_are ∙ ap lines (sym read_are)
       by Two is = bytes_are ∙ ap lines (sym read_are)
       by Three is = bytes_are ∙ ap lines (sym read_are)
+      by Four is = bytes_are ∙ ap lines (sym read_are)
 
   -- the lines are those of the text
   pub saved_text : lines (lines_anew width (reading.text_of bytes)) ≡ text_anew width (reading.text_of bytes)
@@ -597,23 +630,37 @@ unfolding behind
 other_line One One rest other = absurd (other refl)
 other_line One Two rest other = refl
 other_line One Three rest other = refl
+other_line One Four rest other = refl
 other_line Two One rest other = refl
 other_line Two Two rest other = absurd (other refl)
 other_line Two Three rest other = refl
+other_line Two Four rest other = refl
 other_line Three One rest other = refl
 other_line Three Two rest other = refl
 other_line Three Three rest other = absurd (other refl)
+other_line Three Four rest other = refl
+other_line Four One rest other = refl
+other_line Four Two rest other = refl
+other_line Four Three rest other = refl
+other_line Four Four rest other = absurd (other refl)
 
 same_or_other : (v w : Version) → (v ≡ w) ⊎ (v ≡ w → ⊥)
 same_or_other One One = inl refl
 same_or_other Two Two = inl refl
 same_or_other Three Three = inl refl
+same_or_other Four Four = inl refl
 same_or_other One Two = inr (λ e. cc)
 same_or_other One Three = inr (λ e. cc)
+same_or_other One Four = inr (λ e. cc)
 same_or_other Two One = inr (λ e. cc)
 same_or_other Two Three = inr (λ e. cc)
+same_or_other Two Four = inr (λ e. cc)
 same_or_other Three One = inr (λ e. cc)
 same_or_other Three Two = inr (λ e. cc)
+same_or_other Three Four = inr (λ e. cc)
+same_or_other Four One = inr (λ e. cc)
+same_or_other Four Two = inr (λ e. cc)
+same_or_other Four Three = inr (λ e. cc)
 
 not_both : (rest : List ℕ) (found : Option (List ℕ)) → found ≡ Some rest → found ≡ None → ⊥
 not_both rest found x y = cc
@@ -635,10 +682,11 @@ unsaid v bytes none spelling certificate spelled is =
     not_both rest (behind (line (version_line v)) bytes)
     (ap (behind (line (version_line v))) (first_line_is bytes spelling certificate spelled ∙ ap (λ w. line (version_line w) ++ rest) is) ∙ behind_again (line (version_line v)) rest) none
 
-pub only_one : (v : Version) → v ≢ Two → v ≢ Three → v ≡ One
-only_one One two three = refl
-only_one Two two three = absurd (two refl)
-only_one Three two three = absurd (three refl)
+pub only_one : (v : Version) → v ≢ Two → v ≢ Three → v ≢ Four → v ≡ One
+only_one One two three four = refl
+only_one Two two three four = absurd (two refl)
+only_one Three two three four = absurd (three refl)
+only_one Four two three four = absurd (four refl)
 
 module _ (reads : ReadAsSpelled) (fitting : StatesFitTheirWidth) (parts : TaskParts) (lawful : IsTask parts) (bytes : List ℕ) (verdict : Verdict) (accepted : IsAccepted parts bytes verdict) where
   abbrev accepted_text : Text
@@ -652,6 +700,7 @@ module _ (reads : ReadAsSpelled) (fitting : StatesFitTheirWidth) (parts : TaskPa
   width_stays One later wide = absurd (later refl)
   width_stays Two later wide = wide
   width_stays Three later wide = wide
+  width_stays Four later wide = wide
 
   pub can_be_rewritten : (from : Version) → accepted.spelling.version ≡ from → CanBeRewritten bytes from (width_of parts)
   can_be_rewritten from is = record {
@@ -673,17 +722,21 @@ module _ (reads : ReadAsSpelled) (fitting : StatesFitTheirWidth) (parts : TaskPa
   width_anew One = ((fitting parts lawful).0, (fitting parts lawful).1)
   width_anew Two = ((fitting parts lawful).0, (fitting parts lawful).1)
   width_anew Three = ((fitting parts lawful).0, (fitting parts lawful).1)
+  width_anew Four = ((fitting parts lawful).0, (fitting parts lawful).1)
 
   task_width : (v : Version) → HasWidthOf parts (version_anew v) (width_of parts)
   task_width One = refl
   task_width Two = refl
   task_width Three = refl
+  task_width Four = refl
 
   pub spelled_anew : IsSpelled (rewritten_text parts bytes) anew accepted.certificate
   spelled_anew = record {
     known = record {
       width = width_anew accepted.spelling.version;
       choice = states_anew accepted.spelling.version accepted.spelling.stated.choice accepted.spelled.known.choice;
+      grounding = grounding_anew accepted.spelling.version accepted.spelling.stated.grounding accepted.spelled.known.grounding;
+      kind = kind_anew accepted.spelling.version accepted.spelling.kind accepted.spelled.known.kind;
     };
     text = ap (text_anew (width_of parts)) is_read;
     fits = record {
@@ -701,6 +754,7 @@ module _ (reads : ReadAsSpelled) (fitting : StatesFitTheirWidth) (parts : TaskPa
     spelled = spelled_anew;
     kind = accepted.kind;
     width = task_width accepted.spelling.version;
+    grounding = accepted.grounding;
     stated = accepted.stated;
     valid = accepted.valid;
     verdict_is = accepted.verdict_is;

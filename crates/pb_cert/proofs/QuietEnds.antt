@@ -15,16 +15,22 @@ use Rattle.pb_model.specs.Store.{Store, IsQuiet}
 use Rattle.pb_model.specs.Sound.{IsSound}
 use Rattle.pb_model.specs.Trace.{TracesBack}
 use Rattle.pb_model.specs.Certificate.{Line, Certificate, AreLinesOf, IsValid, IsPlanIfAny, IsBackedBy}
+use Rattle.pb_task.specs.declared.kind.Kind.TheVariants as kinds
+use Rattle.pb_task.specs.declared.grounding.Grounding.{Grounding}
+use Rattle.pb_task.specs.declared.grounding.Grounding.TheVariants.{All, Reachable}
 use Rattle.pb_task.specs.declared.parts.TaskParts.{TaskParts}
 use Rattle.pb_task.specs.declared.parts.TaskParts.TheVariants.{Grid, Tiles, Strips}
 use Rattle.pb_task.specs.Parts.{space_of, IsTask, greatest_cost}
+use Rattle.pb_task.specs.Kinds.{kind_of}
+use Rattle.pb_task.specs.Groundings.{grounding_of}
 use Rattle.pb_task.specs.Widths.{width_of}
 use Rattle.pb_task.proofs.Callers.{states_fit_their_width, tasks_are_proper}
 use Rattle.pb_estimate.specs.declared.choice.Choice.{Choice}
 use Rattle.pb_estimate.specs.declared.choice.Choice.TheVariants.{Plain, Pattern}
 use Rattle.pb_estimate.specs.declared.spelling.Spelling.{Spelling}
 use Rattle.pb_estimate.specs.Estimates.{estimate_by, suits}
-use Rattle.pb_estimate.specs.Spelling.{IsWidthOf, StatesChoice, version_of, spelling_of, spelled_text}
+use Rattle.pb_estimate.specs.Spelling.{IsWidthOf, CanBeStated, StatesChoice, StatesGrounding}
+use Rattle.pb_estimate.specs.Spelling.{IsVersionFor, IsSpelling, version_of, spelling_of, spelled_text}
 use Rattle.pb_lists.specs.Store.{store_with, guide_to, IsPlaced, IsSoundAt, IsQuietEnd}
 use Rattle.pb_check.specs.declared.fault.CertificateFault.{CertificateFault}
 use Rattle.pb_check.specs.declared.fault.Verdict.{Verdict}
@@ -63,14 +69,66 @@ module _ (space : Space) (most : ℕ) (proper : IsProper space most) where
       let first = proper.positive from action walk.0 walk.1 walk.3 in
       omega (arith, rest, first, walk.5)
 
--- a choice that suits is stated in the version in which it is written
-states_choice : (parts : TaskParts) (choice : Choice) → suits parts choice ≡ true
-    → StatesChoice (version_of choice) choice
-states_choice parts Plain fine = tt
-states_choice parts (Pattern number) fine =
+-- a choice that suits can be stated, and is stated in the version in which it is written
+can_be_stated : (parts : TaskParts) (choice : Choice) → suits parts choice ≡ true
+    → CanBeStated choice
+can_be_stated parts Plain fine = tt
+can_be_stated parts (Pattern number) fine =
     let both = and_parts (leb 1 number) (leb number 12) fine in
     let most = leb-true number 12 both.1 in
     omega (arith, most)
+
+states_choice : (grounding : Grounding) (choice : Choice) → CanBeStated choice
+    → StatesChoice (version_of grounding choice) choice
+states_choice All Plain can = tt
+states_choice All (Pattern number) can = can
+states_choice Reachable choice can = can
+
+states_grounding : (grounding : Grounding) (choice : Choice)
+    → StatesGrounding (version_of grounding choice) grounding
+states_grounding All Plain = refl
+states_grounding All (Pattern number) = refl
+states_grounding Reachable choice = tt
+
+-- a version before 4 is for tasks of each kind
+for_strips : (grounding : Grounding) (choice : Choice)
+    → IsVersionFor (version_of grounding choice) kinds.Strips
+for_strips All Plain = tt
+for_strips All (Pattern number) = tt
+for_strips Reachable choice = refl
+
+is_for : (parts : TaskParts) (choice : Choice)
+    → IsVersionFor (version_of (grounding_of parts) choice) (kind_of parts)
+is_for (Grid grid) Plain = tt
+is_for (Grid grid) (Pattern number) = tt
+is_for (Tiles tiles) Plain = tt
+is_for (Tiles tiles) (Pattern number) = tt
+is_for (Strips strips) choice = for_strips strips.grounding choice
+
+-- each version that is written says how many digits a state has
+known_width : (grounding : Grounding) (choice : Choice) (width : ℕ)
+    → (1 ≤ width) × (width ≤ most_digits) → IsWidthOf (version_of grounding choice) width
+known_width All Plain width within = within
+known_width All (Pattern number) width within = within
+known_width Reachable choice width within = within
+
+same_width : (parts : TaskParts) (grounding : Grounding) (choice : Choice)
+    → HasWidthOf parts (version_of grounding choice) (width_of parts)
+same_width parts All Plain = refl
+same_width parts All (Pattern number) = refl
+same_width parts Reachable choice = refl
+
+-- a certificate of a task is written in a spelling that there is
+is_spelling : (parts : TaskParts) (choice : Choice) → IsTask parts → suits parts choice ≡ true
+    → IsSpelling (spelling_of parts choice)
+is_spelling parts choice lawful fine =
+    let widths = states_fit_their_width parts lawful in
+    record {
+      width = known_width (grounding_of parts) choice (width_of parts) (widths.0, widths.1);
+      choice = states_choice (grounding_of parts) choice (can_be_stated parts choice fine);
+      grounding = states_grounding (grounding_of parts) choice;
+      kind = is_for parts choice;
+    }
 
 -- the text of a valid certificate whose numbers can be stated is accepted, if the choice that it
 -- states suits
@@ -83,17 +141,6 @@ text_is_accepted : (parts : TaskParts) (choice : Choice) (certificate : Certific
 text_is_accepted parts choice certificate lawful stated valid fits =
     go (checked parts bytes) refl
   where
-    widths : (1 ≤ width_of parts) × (width_of parts ≤ most_digits)
-    widths = let fit = states_fit_their_width parts lawful in (fit.0, fit.1)
-
-    known_width : (choice : Choice) → IsWidthOf (version_of choice) (width_of parts)
-    known_width Plain = widths
-    known_width (Pattern number) = widths
-
-    same_width : (choice : Choice) → HasWidthOf parts (version_of choice) (width_of parts)
-    same_width Plain = refl
-    same_width (Pattern number) = refl
-
     bytes : List ℕ
     bytes = spelled_text (spelling_of parts choice) certificate
 
@@ -102,12 +149,13 @@ text_is_accepted parts choice certificate lawful stated valid fits =
       spelling = spelling_of parts choice;
       certificate = certificate;
       spelled = record {
-        known = record { width = known_width choice; choice = states_choice parts choice stated };
+        known = is_spelling parts choice lawful stated;
         text = refl;
         fits = fits;
       };
       kind = refl;
-      width = same_width choice;
+      width = same_width parts (grounding_of parts) choice;
+      grounding = refl;
       stated = stated;
       valid = valid;
       verdict_is = refl;

@@ -16,11 +16,6 @@ use Rattle.pb_model.specs.Plan.{Plan}
 use Rattle.pb_model.specs.Weight.{Weight}
 use Rattle.pb_model.specs.Certificate.{Line, Certificate}
 use Rattle.pb_model.specs.Texts.{spaced, line_text}
-use Rattle.pb_estimate.specs.declared.choice.Choice.{Choice}
-use Rattle.pb_estimate.specs.declared.choice.Choice.TheVariants.{Plain, Pattern}
-use Rattle.pb_estimate.specs.declared.spelling.Stated.{Stated}
-use Rattle.pb_estimate.specs.declared.spelling.Version.TheVariants.{One}
-use Rattle.pb_estimate.specs.Spelling.{StatesChoice, choice_text, stated_text}
 use Rattle.pb_check.specs.Spelling.{Fits, IsNumber, PlanFitsIfAny}
 use Rattle.pb_cert.specs.Stated.{weight_line, plan_lines, rows_lines}
 use Rattle.pb_cert.specs.Rewritten.{zeros, with_digits, respelled_line}
@@ -115,7 +110,7 @@ pub spaced_long : (first second : List ℕ) → length (spaced first second) ≡
 spaced_long first second = let sum = length-append first (32 ∷ second) in omega (arith, sum)
 
 -- a word and a number
-pub numbered_short : (word : List ℕ) (n : ℕ) → length word ≤ 8 → IsNumber n → length (spaced word (decimal n)) ≤ 28
+pub numbered_short : (word : List ℕ) (n : ℕ) → length word ≤ 16 → IsNumber n → length (spaced word (decimal n)) ≤ 36
 numbered_short word n few small =
     let all = spaced_long word (decimal n) in
     let number = number_short n small in
@@ -169,29 +164,16 @@ rows_respelled width certificate count all =
     ∙ (λ i. all_respelled width certificate.lines all i ++ codes "end" ∷ []) in
     λ i. first_kept i ∷ middle i
 
--- what version 1 states besides is said in no line
-choice_kept : (width : ℕ) (choice : Choice) → StatesChoice One choice → map (respelled_line width) (choice_text choice) ≡ choice_text choice
-choice_kept width Plain states = refl
-choice_kept width (Pattern number) states = absurd states
+-- ---- all lines behind the kind in version 1, and behind the width in version 2: nothing is stated
+-- besides
 
-stated_kept : (width : ℕ) (stated : Stated) → StatesChoice One stated.choice → map (respelled_line width) (stated_text stated) ≡ stated_text stated
-stated_kept width stated states = choice_kept width stated.choice states
+abbrev pub rest_lines : (width : ℕ) → Certificate → List (List ℕ)
+rest_lines width certificate = weight_line certificate.weight ∷ plan_lines certificate.plan ++ rows_lines width certificate
 
--- ---- all lines behind the kind, and behind the width in version 2
-
-abbrev pub rest_lines : (width : ℕ) → Stated → Certificate → List (List ℕ)
-rest_lines width stated certificate =
-    (stated_text stated ++ weight_line certificate.weight ∷ []) ++ plan_lines certificate.plan ++ rows_lines width certificate
-
-pub rest_respelled : (width : ℕ) (stated : Stated) (certificate : Certificate) → StatesChoice One stated.choice → Fits 64 certificate → AllByRecursion (RowFits width) certificate.lines
-    → map (respelled_line width) (rest_lines 64 stated certificate) ≡ rest_lines width stated certificate
-rest_respelled width stated certificate states fits all =
+pub rest_respelled : (width : ℕ) (certificate : Certificate) → Fits 64 certificate → AllByRecursion (RowFits width) certificate.lines → map (respelled_line width) (rest_lines 64 certificate) ≡ rest_lines width certificate
+rest_respelled width certificate fits all =
     let f : List ℕ → List ℕ = respelled_line width in
-    let front : List (List ℕ) = stated_text stated ++ weight_line certificate.weight ∷ [] in
     let weight_long = weight_short certificate.weight fits.weight.0 fits.weight.1 in
     let weight_kept : f (weight_line certificate.weight) ≡ weight_line certificate.weight = kept width (weight_line certificate.weight) (omega (arith, weight_long)) in
-    let front_kept : map f front ≡ front =
-    map-append f (stated_text stated) (weight_line certificate.weight ∷ []) ∙ (λ i. stated_kept width stated states i ++ weight_kept i ∷ []) in
-    map-append f (front ++ plan_lines certificate.plan) (rows_lines 64 certificate)
-    ∙ ap (λ t. t ++ map f (rows_lines 64 certificate)) (map-append f front (plan_lines certificate.plan))
-    ∙ (λ i. front_kept i ++ plan_kept width certificate.plan fits.plan i ++ rows_respelled width certificate fits.count all i)
+    map-append f (weight_line certificate.weight ∷ plan_lines certificate.plan) (rows_lines 64 certificate)
+    ∙ (λ i. (weight_kept i ∷ plan_kept width certificate.plan fits.plan i) ++ rows_respelled width certificate fits.count all i)

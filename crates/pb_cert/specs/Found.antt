@@ -40,8 +40,9 @@ abbrev pub certificate_of : Weight → Option Plan → List Line → Certificate
 certificate_of weight plan lines = record { weight = weight; plan = plan; lines = lines }
 
 -- The text is that of a certificate of the task, at this weight and with this plan, or with none.
--- Its lines are those of all rows of this store. It states this choice, by which the search looked
--- up its estimates. By these it is valid, and its text is accepted, with the plan's cost and bound.
+-- Its lines are those of all rows of this store. It is spelled for the task's grounding and for this
+-- choice, by which the search looked up its estimates. By these it is valid, and its text is
+-- accepted, with the plan's cost and bound.
 pub record IsCertificateOf (parts : TaskParts) (choice : Choice) (weight : Weight) (guide : Guide)
     (store : Store) (plan : Option Plan) (text : List ℕ) : Type 0 where
   pub lines : List Line

@@ -42,7 +42,7 @@ LinesAreUnique =
 
 -- What is saved anew of an accepted certificate is the text of the same certificate, with the width
 -- of the task, and in version 2 if it was in version 1. It is accepted with the same verdict. A text
--- of version 2 or 3 stays as it is.
+-- of a later version stays as it is.
 abbrev pub RewrittenTextsAreAccepted : Type 0
 RewrittenTextsAreAccepted =
     (parts : TaskParts) (bytes : List ℕ) (verdict : Verdict) → IsTask parts

@@ -6,7 +6,7 @@ use Rattle.pb_model.specs.Texts.{lines}
 use Rattle.pb_task.specs.declared.parts.TaskParts.{TaskParts}
 use Rattle.pb_task.specs.Widths.{width_of}
 use Rattle.pb_estimate.specs.declared.spelling.Version.{Version}
-use Rattle.pb_estimate.specs.declared.spelling.Version.TheVariants.{One, Two, Three}
+use Rattle.pb_estimate.specs.declared.spelling.Version.TheVariants.{One, Two, Three, Four}
 use Rattle.pb_check.specs.declared.fault.CertificateFault.{CertificateFault}
 use Rattle.pb_check.specs.Reading.{Text}
 use Rattle.pb_check.specs.Reading as reading
@@ -20,6 +20,7 @@ abbrev pub version_anew : Version → Version
 version_anew One = Two
 version_anew Two = Two
 version_anew Three = Three
+version_anew Four = Four
 
 -- the certificate that a text spells, in that version and with states of so many digits
 abbrev pub saved_anew : (width : ℕ) → Text → SpelledCertificate
@@ -96,6 +97,7 @@ abbrev pub lines_before : Version → (at : ℕ) → ℕ
 lines_before One at = if nat_le at 2 then at else at - 1
 lines_before Two at = at
 lines_before Three at = at
+lines_before Four at = at
 
 -- what was read from this byte on are the lines that the line of this number, and those after it,
 -- are made of

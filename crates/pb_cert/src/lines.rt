@@ -2,7 +2,9 @@ ghost use Rattle.std.specs.Prelude.{◌≡◌, ◌+◌, ◌<◌, ◌≤◌, ◌^
 ghost use Rattle.std.specs.Fmt.{decimal};
 ghost use Rattle.pb_packed.specs.Sizes.{most_digits};
 ghost use Rattle.pb_model.specs.Texts.{line, spaced, line_text};
-ghost use Rattle.pb_estimate.specs.Spelling.{version_line, kind_line, width_text, stated_text, head_of, head_lines};
+ghost use Rattle.pb_estimate.specs.declared.spelling.Version.TheVariants.{Four};
+ghost use Rattle.pb_estimate.specs.Spelling.{version_line, kind_line, width_text, head_of, head_lines};
+ghost use Rattle.pb_estimate.specs.Spelling.{choice_text, grounding_line, estimate_line, stated_text};
 ghost use Rattle.pb_print.specs.Saved.{longest_line, PutsLine};
 ghost use Rattle.pb_cert.specs.Stated.{text_of, lines_of, first_lines, plan_lines, rows_lines, weight_line};
 
@@ -11,11 +13,11 @@ use crate::certificate::{Certificate, Line};
 use crate::rows::line_at;
 use pb_estimate::{Choice, Spelling, Stated, Version};
 use pb_print::{NumberedLines, Piece};
-use pb_task::Kind;
+use pb_task::{Grounding, Kind};
 
 // Puts a line of a word and a number at the piece's end.
 fn put_numbered(word: &[u8], n: u64, out: &mut Piece)
-    requires word { length word.now ≤ 8 }
+    requires word { length word.now ≤ 16 }
     requires room { length out.old + longest_line ≤ 4096 }
     ensures line { out.new ≡ out.old ++ line (spaced word.now (decimal n)) }
     ensures short { length out.new ≤ length out.old + longest_line }
@@ -81,6 +83,7 @@ fn put_version(version: Version, out: &mut Piece)
         Version::One => out.push(b"pbnf-certificate 1\n"),
         Version::Two => out.push(b"pbnf-certificate 2\n"),
         Version::Three => out.push(b"pbnf-certificate 3\n"),
+        Version::Four => out.push(b"pbnf-certificate 4\n"),
     }
 }
 
@@ -104,20 +107,72 @@ fn put_width(spelling: &Spelling, _at: u128, out: &mut Piece)
 {
     match spelling.version {
         Version::One => {}
-        Version::Two | Version::Three => put_numbered(b"width", u64::from(spelling.width), out),
+        Version::Two | Version::Three | Version::Four => {
+            put_numbered(b"width", u64::from(spelling.width), out)
+        }
     }
 }
 
-// Puts a line of what is stated besides at the piece's end, if it is one of them. A pattern is said
-// in one line, and the plain choice in none.
-fn put_stated(stated: &Stated, _at: u128, out: &mut Piece)
+// Puts the line that says the choice of an estimate in version 3 at the piece's end, if there is
+// one. A pattern is said in one line, and the plain choice in none.
+fn put_choice(choice: &Choice, _at: u128, out: &mut Piece)
     requires room { length out.old + longest_line ≤ 4096 }
-    ensures { _at < length (stated_text stated.now)
-        → PutsLine out.old out.new (stated_text stated.now) _at }
+    ensures { _at < length (choice_text choice.now)
+        → PutsLine out.old out.new (choice_text choice.now) _at }
 {
-    match &stated.choice {
+    match choice {
         Choice::Plain => {}
         Choice::Pattern(number) => put_numbered(b"pattern", *number, out),
+    }
+}
+
+// Puts the line of a grounding at the piece's end.
+fn put_grounding(grounding: Grounding, out: &mut Piece)
+    requires room { length out.old + longest_line ≤ 4096 }
+    ensures line { out.new ≡ out.old ++ line (grounding_line grounding) }
+    ensures short { length out.new ≤ length out.old + longest_line }
+{
+    out.push(b"grounding ");
+    out.push(grounding.name().as_bytes());
+    out.push(b"\n");
+}
+
+// Puts the line that says the choice of an estimate in version 4 at the piece's end.
+fn put_estimate(choice: &Choice, out: &mut Piece)
+    requires room { length out.old + longest_line ≤ 4096 }
+    ensures line { out.new ≡ out.old ++ line (estimate_line choice.now) }
+    ensures short { length out.new ≤ length out.old + longest_line }
+{
+    match choice {
+        Choice::Plain => out.push(b"estimate plain\n"),
+        Choice::Pattern(number) => put_numbered(b"estimate pattern", *number, out),
+    }
+}
+
+// Puts a line of what version 4 states besides at the piece's end, if it is one of the two.
+fn put_stated_4(stated: &Stated, at: u128, out: &mut Piece)
+    requires room { length out.old + longest_line ≤ 4096 }
+    ensures { at < length (stated_text Four stated.now)
+        → PutsLine out.old out.new (stated_text Four stated.now) at }
+{
+    if at == 0 {
+        put_grounding(stated.grounding, out);
+    } else {
+        put_estimate(&stated.choice, out);
+    }
+}
+
+// Puts a line of what this version states besides at the piece's end, if it is one of them. Versions
+// 1 and 2 have none.
+fn put_stated(version: Version, stated: &Stated, at: u128, out: &mut Piece)
+    requires room { length out.old + longest_line ≤ 4096 }
+    ensures { at < length (stated_text version stated.now)
+        → PutsLine out.old out.new (stated_text version stated.now) at }
+{
+    match version {
+        Version::One | Version::Two => {}
+        Version::Three => put_choice(&stated.choice, at, out),
+        Version::Four => put_stated_4(stated, at, out),
     }
 }
 
@@ -135,7 +190,7 @@ fn put_head(spelling: &Spelling, at: u128, out: &mut Piece)
     } else if at < 2 + widths {
         put_width(spelling, at - 2, out);
     } else {
-        put_stated(&spelling.stated, at - 2 - widths, out);
+        put_stated(spelling.version, &spelling.stated, at - 2 - widths, out);
     }
 }
 

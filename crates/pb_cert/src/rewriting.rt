@@ -9,7 +9,7 @@ ghost use Rattle.pb_outside.specs.Calls.{KeepsLoads};
 ghost use Rattle.pb_outside.specs.Saves.{IsPartSaved, Saves, SavesPart};
 ghost use Rattle.pb_model.specs.Certificate.{Certificate};
 ghost use Rattle.pb_estimate.specs.declared.spelling.Spelling.{Spelling};
-ghost use Rattle.pb_estimate.specs.declared.spelling.Version.TheVariants.{One, Three};
+ghost use Rattle.pb_estimate.specs.declared.spelling.Version.TheVariants.{One, Three, Four};
 ghost use Rattle.pb_lines.specs.Words.{has_none, line_feeds};
 ghost use Rattle.pb_print.specs.Saved.{longest_line, PutsLine};
 ghost use Rattle.pb_check.specs.declared.fault.Verdict.{Verdict};
@@ -75,6 +75,18 @@ fn version_of(bytes: &[u8]) -> Version
     ensures { (spelling : Spelling) (certificate : Certificate)
         → IsSpelled bytes.now spelling certificate → spelling.version ≡ result }
 {
+    match behind(bytes, b"pbnf-certificate 4\n") {
+        Some(_) => Version::Four,
+        None => three_or_less(bytes),
+    }
+}
+
+// Version 3 if the text says it, and else an earlier one.
+fn three_or_less(bytes: &[u8]) -> Version
+    ensures { (spelling : Spelling) (certificate : Certificate)
+        → IsSpelled bytes.now spelling certificate → spelling.version ≢ Four
+        → spelling.version ≡ result }
+{
     match behind(bytes, b"pbnf-certificate 3\n") {
         Some(_) => Version::Three,
         None => one_or_two(bytes),
@@ -84,8 +96,8 @@ fn version_of(bytes: &[u8]) -> Version
 // Version 2 if the text says it, and else version 1.
 fn one_or_two(bytes: &[u8]) -> Version
     ensures { (spelling : Spelling) (certificate : Certificate)
-        → IsSpelled bytes.now spelling certificate → spelling.version ≢ Three
-        → spelling.version ≡ result }
+        → IsSpelled bytes.now spelling certificate → spelling.version ≢ Four
+        → spelling.version ≢ Three → spelling.version ≡ result }
 {
     match behind(bytes, b"pbnf-certificate 2\n") {
         Some(_) => Version::Two,
@@ -102,7 +114,7 @@ fn lines_more(from: Version) -> usize
 {
     match from {
         Version::One => 1,
-        Version::Two | Version::Three => 0,
+        Version::Two | Version::Three | Version::Four => 0,
     }
 }
 
@@ -220,7 +232,7 @@ impl<'a> Rewriting<'a> {
         }
     }
 
-    // Puts the line of a number of a certificate that was read in version 2 or 3: the same line.
+    // Puts the line of a number of a certificate that was read in a later version: the same line.
     fn put_same(&self, at: u128, begin: &mut usize, out: &mut Piece)
         requires version { self.now.from ≢ One }
         requires within { at < length (lines_saved self.now) }
@@ -277,7 +289,7 @@ impl NumberedLines for Rewriting<'_> {
     fn put_line(&self, at: u128, begin: &mut usize, out: &mut Piece) {
         match self.from {
             Version::One => self.put_from_1(at, begin, out),
-            Version::Two | Version::Three => self.put_same(at, begin, out),
+            Version::Two | Version::Three | Version::Four => self.put_same(at, begin, out),
         }
     }
 }

@@ -12,7 +12,7 @@ use Rattle.pb_check.specs.declared.fault.CheckError.TheVariants as errors
 use Rattle.pb_check.specs.declared.fault.Verdict.{Verdict}
 use Rattle.pb_check.specs.Faults.{◌>>=◌, Fails}
 use Rattle.pb_check.specs.Reading.{Text}
-use Rattle.pb_check.specs.Judging.{passes, unless, same_kind, width_fault, stated_fault, is_weight, rows_order_fault, first_fault_by, state_fault, row_fault, verdict_of, start_judged, judged, judged_head, judged_before}
+use Rattle.pb_check.specs.Judging.{passes, unless, same_kind, width_fault, grounding_fault, stated_fault, is_weight, rows_order_fault, first_fault_by, state_fault, row_fault, verdict_of, start_judged, judged, judged_head, judged_before}
 
 -- a step before both is a step before the first
 over : (step first : Result Bool CertificateFault) (then whole : Result Verdict CertificateFault) → whole ≡ (first >>= λ x. then) → (step >>= λ x. whole) ≡ ((step >>= λ x. first) >>= λ x. then)
@@ -42,8 +42,9 @@ head_first parts text =
     let then = after_head parts text in
     over (passes (unless (same_kind (kind_of parts) text.spelling.kind) faults.Kind)) _ then _
     (over (passes (width_fault parts text.spelling.version text.spelling.width)) _ then _
+    (over (passes (grounding_fault parts text.spelling.stated)) _ then _
     (over (passes (stated_fault parts text.spelling.stated)) _ then _
-    (over (passes (unless (is_weight text.certificate.weight) faults.Weight)) _ then _ refl)))
+    (over (passes (unless (is_weight text.certificate.weight) faults.Weight)) _ then _ refl))))
 
 pub judged_is : (parts : TaskParts) (text : Text) → judged parts text ≡ (judged_before parts text >>= λ before. after_before parts text)
 unfolding judged judged_before

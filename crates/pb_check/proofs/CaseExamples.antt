@@ -1,5 +1,5 @@
 -- Which fault comes first, for a few texts and for rows of a corridor of three cells.
-use Rattle.std.proofs.Common.{◌≡◌, ℕ, ◌+◌, ◌-◌, true, false, if◌then◌else◌, nat_lt, ◌==◌, Option, None, Some, List, [], ◌∷◌, ◌++◌, codes, Ok, Err, refl}
+use Rattle.std.proofs.Common.{◌≡◌, ℕ, ◌+◌, ◌-◌, true, false, if◌then◌else◌, nat_lt, ◌==◌, Option, None, Some, List, [], ◌∷◌, ◌++◌, codes, Ok, Err, refl, ap}
 use Rattle.pb_model.specs.declared.row.Estimate.TheVariants.{Cost}
 use Rattle.pb_model.specs.Space.{Space}
 use Rattle.pb_model.specs.Plan.{Plan}
@@ -7,14 +7,18 @@ use Rattle.pb_model.specs.Certificate.{Line}
 use Rattle.pb_task.specs.declared.parts.TaskParts.{TaskParts}
 use Rattle.pb_task.specs.declared.parts.TaskParts.TheVariants as parts
 use Rattle.pb_task.specs.declared.parts.GridParts.{GridParts}
-use Rattle.pb_task.specs.declared.kind.Kind.TheVariants.{Grid}
+use Rattle.pb_task.specs.declared.parts.StripsParts.{StripsParts}
+use Rattle.pb_task.specs.declared.kind.Kind.TheVariants.{Grid, Strips}
+use Rattle.pb_task.specs.declared.grounding.Grounding.TheVariants.{All, Reachable}
+use Rattle.pb_estimate.specs.declared.choice.Choice.{Choice}
 use Rattle.pb_estimate.specs.declared.choice.Choice.TheVariants.{Plain, Pattern}
-use Rattle.pb_estimate.specs.declared.spelling.Version.TheVariants.{One, Two, Three}
+use Rattle.pb_estimate.specs.declared.spelling.Stated.{Stated}
+use Rattle.pb_estimate.specs.declared.spelling.Version.TheVariants.{One, Two, Three, Four}
 use Rattle.pb_check.specs.declared.fault.CertificateFault.{CertificateFault}
 use Rattle.pb_check.specs.declared.fault.CertificateFault.TheVariants as faults
 use Rattle.pb_lines.specs.Words.{place_of, behind, number_after}
-use Rattle.pb_check.specs.Reading.{version_at, version_in, kind_at, kind_in, width_at, width_line_at, width_in, number_at, stated_at, suiting, stated_choice, head_at, weight_at, weight_in, row_in, text_of}
-use Rattle.pb_check.specs.Judging.{width_fault, stated_fault, walk, plan_fault, order_fault, rows_order_fault, first_fault_by, state_fault, g_of, steps_fault, row_fault, checked}
+use Rattle.pb_check.specs.Reading.{version_at, version_in, kind_at, kind_in, width_at, width_line_at, width_in, grounding_at, grounding_in, estimate_at, estimate_in, number_at, stated_at, suiting, stated_choice, head_at, weight_at, weight_in, row_in, text_of}
+use Rattle.pb_check.specs.Judging.{unless, width_fault, same_grounding, grounding_fault, stated_fault, walk, plan_fault, order_fault, rows_order_fault, first_fault_by, state_fault, g_of, steps_fault, row_fault, checked}
 use Rattle.pb_check.specs.Cases.{IsStepFault, EndsElsewhere, IsCostFault}
 
 -- ---- texts
@@ -39,11 +43,11 @@ another_kind : (parts : TaskParts)
 unfolding checked text_of head_at version_at version_in kind_at kind_in place_of behind
 another_kind parts = refl
 
-fourth_version : (parts : TaskParts)
-    → checked parts (codes "pbnf-certificate 4" ++ 10 ∷ codes "kind grid" ++ 10 ∷ [])
+fifth_version : (parts : TaskParts)
+    → checked parts (codes "pbnf-certificate 5" ++ 10 ∷ codes "kind grid" ++ 10 ∷ [])
     ≡ Err (faults.Syntax 1)
 unfolding checked text_of head_at version_at version_in place_of behind
-fourth_version parts = refl
+fifth_version parts = refl
 
 -- version 2 says how many digits a state has, before the weight
 no_width : (parts : TaskParts)
@@ -104,7 +108,7 @@ head_3 =
 
 third_head : head_at (head_3 ++ codes "weight 1 1" ++ 10 ∷ [])
     ≡ Ok (
-      record { kind = Grid; version = Three; width = 6; stated = record { choice = Pattern 3 } },
+      record { kind = Grid; version = Three; width = 6; stated = record { grounding = All; choice = Pattern 3 } },
       codes "weight 1 1" ++ 10 ∷ [],
     )
 unfolding head_at version_at version_in kind_at kind_in width_at width_line_at width_in stated_at number_at place_of behind number_after
@@ -119,24 +123,117 @@ no_weight : (parts : TaskParts) → checked parts head_3 ≡ Err (faults.Syntax 
 unfolding checked text_of head_at version_at version_in kind_at kind_in width_at width_line_at width_in stated_at number_at weight_at place_of behind number_after
 no_weight parts = refl
 
+-- version 4 is for STRIPS alone
+fourth_version : (parts : TaskParts)
+    → checked parts (codes "pbnf-certificate 4" ++ 10 ∷ codes "kind grid" ++ 10 ∷ codes "width 6"
+    ++ 10 ∷ [])
+    ≡ Err (faults.Syntax 2)
+unfolding checked text_of head_at version_at version_in kind_at kind_in place_of behind
+fourth_version parts = refl
+
+-- version 4 says the digits, which ground atoms and actions have numbers, and the choice of an
+-- estimate
+abbrev pub to_width_4 : List ℕ
+to_width_4 =
+    codes "pbnf-certificate 4" ++ 10 ∷ codes "kind strips" ++ 10 ∷ codes "width 6" ++ 10 ∷ []
+
+no_width_in_version_4 : (parts : TaskParts)
+    → checked parts (codes "pbnf-certificate 4" ++ 10 ∷ codes "kind strips" ++ 10 ∷ [])
+    ≡ Err (faults.Syntax 3)
+unfolding checked text_of head_at version_at version_in kind_at kind_in width_at width_line_at place_of behind
+no_width_in_version_4 parts = refl
+
+no_grounding : (parts : TaskParts)
+    → checked parts (to_width_4 ++ codes "estimate plain" ++ 10 ∷ []) ≡ Err (faults.Syntax 4)
+unfolding checked text_of head_at version_at version_in kind_at kind_in width_at width_line_at width_in stated_at grounding_at grounding_in place_of behind number_after
+no_grounding parts = refl
+
+no_estimate : (parts : TaskParts)
+    → checked parts (to_width_4 ++ codes "grounding all" ++ 10 ∷ codes "pattern 3" ++ 10 ∷ [])
+    ≡ Err (faults.Syntax 5)
+unfolding checked text_of head_at version_at version_in kind_at kind_in width_at width_line_at width_in stated_at grounding_at grounding_in estimate_at estimate_in place_of behind number_after
+no_estimate parts = refl
+
+-- the head of a certificate of a STRIPS task in which what is reached has numbers, of a search by
+-- the pattern of number 3
+abbrev pub head_4 : List ℕ
+head_4 =
+    to_width_4 ++ codes "grounding reachable" ++ 10 ∷ codes "estimate pattern 3" ++ 10 ∷ []
+
+fourth_head : head_at (head_4 ++ codes "weight 1 1" ++ 10 ∷ [])
+    ≡ Ok (
+      record {
+        kind = Strips;
+        version = Four;
+        width = 6;
+        stated = record { grounding = Reachable; choice = Pattern 3 };
+      },
+      codes "weight 1 1" ++ 10 ∷ [],
+    )
+unfolding head_at version_at version_in kind_at kind_in width_at width_line_at width_in stated_at grounding_at grounding_in estimate_at estimate_in place_of behind number_after
+fourth_head = refl
+
+plain_head : head_at (to_width_4 ++ codes "grounding all" ++ 10 ∷ codes "estimate plain" ++ 10 ∷ [])
+    ≡ Ok (
+      record {
+        kind = Strips;
+        version = Four;
+        width = 6;
+        stated = record { grounding = All; choice = Plain };
+      },
+      [],
+    )
+unfolding head_at version_at version_in kind_at kind_in width_at width_line_at width_in stated_at grounding_at grounding_in estimate_at estimate_in place_of behind number_after
+plain_head = refl
+
+stated_estimate : stated_choice head_4 ≡ Pattern 3
+unfolding head_at version_at version_in kind_at kind_in width_at width_line_at width_in stated_at grounding_at grounding_in estimate_at estimate_in place_of behind number_after
+stated_estimate = refl
+
+-- the line of the weight is line 6
+no_weight_in_version_4 : (parts : TaskParts) → checked parts head_4 ≡ Err (faults.Syntax 6)
+unfolding checked text_of head_at version_at version_in kind_at kind_in width_at width_line_at width_in stated_at grounding_at grounding_in estimate_at estimate_in weight_at place_of behind number_after
+no_weight_in_version_4 parts = refl
+
+-- ---- the grounding
+
+-- a map has no ground atoms: nothing is left out
+reachable_on_a_grid : (grid : GridParts)
+    → grounding_fault (parts.Grid grid) (record { grounding = Reachable; choice = Plain })
+    ≡ Some faults.Grounding
+reachable_on_a_grid grid = refl
+
+all_on_a_grid : (grid : GridParts)
+    → grounding_fault (parts.Grid grid) (record { grounding = All; choice = Plain }) ≡ None
+all_on_a_grid grid = refl
+
+-- so a certificate of version 1, 2 or 3 is refused where only what is reached has numbers
+all_for_reachable : (strips : StripsParts) → strips.grounding ≡ Reachable
+    → grounding_fault (parts.Strips strips) (record { grounding = All; choice = Plain })
+    ≡ Some faults.Grounding
+all_for_reachable strips is = ap (λ g. unless (same_grounding g All) faults.Grounding) is
+
 -- ---- the number of a pattern
 
-first_pattern : (parts : TaskParts) → stated_fault parts (record { choice = Pattern 1 }) ≡ None
+abbrev pub by_choice : Choice → Stated
+by_choice choice = record { grounding = All; choice = choice }
+
+first_pattern : (parts : TaskParts) → stated_fault parts (by_choice (Pattern 1)) ≡ None
 first_pattern parts = refl
 
-last_pattern : (parts : TaskParts) → stated_fault parts (record { choice = Pattern 12 }) ≡ None
+last_pattern : (parts : TaskParts) → stated_fault parts (by_choice (Pattern 12)) ≡ None
 last_pattern parts = refl
 
 pattern_of_nought : (parts : TaskParts)
-    → stated_fault parts (record { choice = Pattern 0 }) ≡ Some faults.Pattern
+    → stated_fault parts (by_choice (Pattern 0)) ≡ Some faults.Pattern
 pattern_of_nought parts = refl
 
 pattern_above_all : (parts : TaskParts)
-    → stated_fault parts (record { choice = Pattern 13 }) ≡ Some faults.Pattern
+    → stated_fault parts (by_choice (Pattern 13)) ≡ Some faults.Pattern
 pattern_above_all parts = refl
 
 great_pattern : (parts : TaskParts)
-    → stated_fault parts (record { choice = Pattern 4611686018427387904 }) ≡ Some faults.Pattern
+    → stated_fault parts (by_choice (Pattern 4611686018427387904)) ≡ Some faults.Pattern
 great_pattern parts = refl
 
 -- an estimator is made by no such number

@@ -12,13 +12,14 @@ use Rattle.pb_model.specs.Certificate.{Line, Certificate, HasLineWithin, cost_of
 use Rattle.pb_task.specs.declared.parts.TaskParts.{TaskParts}
 use Rattle.pb_task.specs.Parts.{space_of, IsTask, greatest_cost}
 use Rattle.pb_task.specs.Kinds.{kind_of}
+use Rattle.pb_task.specs.Groundings.{grounding_of}
 use Rattle.pb_task.specs.Widths.{width_of}
 use Rattle.pb_task.proofs.Callers.{tasks_are_proper}
 use Rattle.pb_estimate.specs.declared.choice.Choice.{Choice}
 use Rattle.pb_estimate.specs.declared.choice.Choice.TheVariants.{Plain, Pattern}
 use Rattle.pb_estimate.specs.declared.spelling.Spelling.{Spelling}
 use Rattle.pb_estimate.specs.declared.spelling.Version.{Version}
-use Rattle.pb_estimate.specs.declared.spelling.Version.TheVariants.{One, Two, Three}
+use Rattle.pb_estimate.specs.declared.spelling.Version.TheVariants.{One, Two, Three, Four}
 use Rattle.pb_estimate.specs.Estimates.{estimate_by, suits}
 use Rattle.pb_check.specs.declared.fault.CertificateFault.{CertificateFault}
 use Rattle.pb_check.specs.declared.fault.CertificateFault.TheVariants as faults
@@ -26,11 +27,11 @@ use Rattle.pb_check.specs.declared.fault.Verdict.{Verdict}
 use Rattle.pb_check.specs.Faults.{◌>>=◌}
 use Rattle.pb_check.specs.Reading.{Text, first_line, text_of}
 use Rattle.pb_check.specs.Spelling.{IsSpelled, HasWidthOf}
-use Rattle.pb_check.specs.Judging.{passes, or_then, unless, same_kind, width_fault, stated_fault, is_weight, after_step, walk, plan_fault, plan_fault_if_any, AreAbove, order_fault, rows_order_fault, first_fault_by, state_fault, g_of, is_zero, target_fault, step_fault, steps_fault, may_be_cut, row_fault, verdict_of, judged, checked}
-use Rattle.pb_check.specs.Cases.{IsSaid, HasFormOf, IsForTask, HasWeight, HasPlan, HasOrder, HasStates, HasStart, IsStepFault, EndsElsewhere, IsCostFault, HasFault, IsOutOfOrder, IsNoState, MayBeCutRow, IsSoundRow, IsFirstUnsound, IsSuccessorFault, HasNoRow, HasRowAbove, IsCaseOf, RefusalsHaveTheirCase}
+use Rattle.pb_check.specs.Judging.{passes, or_then, unless, same_kind, width_fault, same_grounding, grounding_fault, stated_fault, is_weight, after_step, walk, plan_fault, plan_fault_if_any, AreAbove, order_fault, rows_order_fault, first_fault_by, state_fault, g_of, is_zero, target_fault, step_fault, steps_fault, may_be_cut, row_fault, verdict_of, judged, checked}
+use Rattle.pb_check.specs.Cases.{IsSaid, HasFormOf, HasGroundingOf, IsForTask, HasWeight, HasPlan, HasOrder, HasStates, HasStart, IsStepFault, EndsElsewhere, IsCostFault, HasFault, IsOutOfOrder, IsNoState, MayBeCutRow, IsSoundRow, IsFirstUnsound, IsSuccessorFault, HasNoRow, HasRowAbove, IsCaseOf, RefusalsHaveTheirCase}
 use Rattle.pb_check.proofs.Finding.{order_rises}
-use Rattle.pb_check.proofs.Validity.{holds, kinds_same, width_suits, weighs, walks, planned_if_any, ascends, each, has_row, starts, on_target, step_passes, closed_row, cut_row}
-use Rattle.pb_check.proofs.Completeness.{kind_same, same_number, weight_ok, rises, found, zero_ok, may_ok}
+use Rattle.pb_check.proofs.Validity.{holds, kinds_same, width_suits, groundings_same, weighs, walks, planned_if_any, ascends, each, has_row, starts, on_target, step_passes, closed_row, cut_row}
+use Rattle.pb_check.proofs.Completeness.{kind_same, grounding_met, same_number, weight_ok, rises, found, zero_ok, may_ok}
 use Rattle.pb_check.proofs.Written.{read_as_spelled}
 use Rattle.pb_check.proofs.FirstUnspelled.{syntax_case}
 
@@ -289,6 +290,9 @@ two_not_one e = cc
 three_not_one : ◌≡◌ {A = Version} Three One → ⊥
 three_not_one e = cc
 
+four_not_one : ◌≡◌ {A = Version} Four One → ⊥
+four_not_one e = cc
+
 -- a choice that doesn't suit a task is a pattern whose number is not from 1 to 12
 unsuited : (parts : TaskParts) (choice : Choice) → suits parts choice ≡ false
     → (number : ℕ) × (choice ≡ Pattern number) × ((1 ≤ number) × (number ≤ 12) → ⊥)
@@ -356,8 +360,11 @@ module _ (parts : TaskParts) (lawful : IsTask parts) (bytes : List ℕ) (text : 
   abbrev after_stated : Result Verdict CertificateFault
   after_stated = next (unless (is_weight weight) faults.Weight) after_weight
 
+  abbrev after_grounding : Result Verdict CertificateFault
+  after_grounding = next (stated_fault parts text.spelling.stated) after_stated
+
   abbrev after_width : Result Verdict CertificateFault
-  after_width = next (stated_fault parts text.spelling.stated) after_stated
+  after_width = next (grounding_fault parts text.spelling.stated) after_grounding
 
   abbrev after_kind : Result Verdict CertificateFault
   after_kind = next (width_fault parts text.spelling.version text.spelling.width) after_width
@@ -730,7 +737,7 @@ module _ (parts : TaskParts) (lawful : IsTask parts) (bytes : List ℕ) (text : 
           from_weight (has, weighs weight (holds (is_weight weight) faults.Weight none)) e
 
   -- the number of a pattern is stated, and is not from 1 to 12
-  pattern_case : HasFormOf parts text.spelling
+  pattern_case : HasGroundingOf parts text.spelling
       → stated_fault parts text.spelling.stated ≡ Some fault → Case fault
   pattern_case has e =
       let two = unmet (suits parts text.spelling.stated.choice) faults.Pattern fault e in
@@ -739,6 +746,23 @@ module _ (parts : TaskParts) (lawful : IsTask parts) (bytes : List ℕ) (text : 
         text.certificate,
         spelled,
         (has, unsuited parts text.spelling.stated.choice two.0),
+      )
+
+  -- another grounding is stated than the task's
+  grounding_case : HasFormOf parts text.spelling
+      → grounding_fault parts text.spelling.stated ≡ Some fault → Case fault
+  grounding_case has e =
+      let same = same_grounding (grounding_of parts) text.spelling.stated.grounding in
+      let two = unmet same faults.Grounding fault e in
+      subst Case two.1 (
+        text.spelling,
+        text.certificate,
+        spelled,
+        (
+          has,
+          λ is.
+              never same (grounding_met parts text.spelling.stated.grounding is) two.0,
+        ),
       )
 
   -- the digits that a text states are not those of the task's states
@@ -771,6 +795,8 @@ module _ (parts : TaskParts) (lawful : IsTask parts) (bytes : List ℕ) (text : 
       said_width_case is (λ one. two_not_one (sym version_is ∙ one)) e
   width_case is Three version_is e =
       said_width_case is (λ one. three_not_one (sym version_is ∙ one)) e
+  width_case is Four version_is e =
+      said_width_case is (λ one. four_not_one (sym version_is ∙ one)) e
 
   judged_case : judged parts text ≡ Err fault → Case fault
   unfolding judged
@@ -778,14 +804,26 @@ module _ (parts : TaskParts) (lawful : IsTask parts) (bytes : List ℕ) (text : 
       go (stopped_at (unless (same_kind (kind_of parts) text.spelling.kind) faults.Kind) after_kind
       fault e)
     where
-      stated : text.spelling.kind ≡ kind_of parts
-          → HasWidthOf parts text.spelling.version text.spelling.width
+      stated : HasGroundingOf parts text.spelling
           → (stated_fault parts text.spelling.stated ≡ Some fault)
           ⊎ ((stated_fault parts text.spelling.stated ≡ None) × (after_stated ≡ Err fault))
           → Case fault
-      stated is wide (inl e) = pattern_case (is, wide) e
-      stated is wide (inr (none, e)) =
-          from_stated ((is, wide), holds (suits parts text.spelling.stated.choice) faults.Pattern none) e
+      stated has (inl e) = pattern_case has e
+      stated has (inr (none, e)) =
+          from_stated (has, holds (suits parts text.spelling.stated.choice) faults.Pattern none) e
+
+      grounding : HasFormOf parts text.spelling
+          → (grounding_fault parts text.spelling.stated ≡ Some fault)
+          ⊎ ((grounding_fault parts text.spelling.stated ≡ None) × (after_grounding ≡ Err fault))
+          → Case fault
+      grounding has (inl e) = grounding_case has e
+      grounding has (inr (none, e)) =
+          stated (
+            has,
+            groundings_same (grounding_of parts) text.spelling.stated.grounding
+                (holds (same_grounding (grounding_of parts) text.spelling.stated.grounding)
+                faults.Grounding none),
+          ) (stopped_at (stated_fault parts text.spelling.stated) after_stated fault e)
 
       width : text.spelling.kind ≡ kind_of parts
           → (width_fault parts text.spelling.version text.spelling.width ≡ Some fault)
@@ -793,8 +831,8 @@ module _ (parts : TaskParts) (lawful : IsTask parts) (bytes : List ℕ) (text : 
           × (after_width ≡ Err fault)) → Case fault
       width is (inl e) = width_case is text.spelling.version refl e
       width is (inr (none, e)) =
-          stated is (width_suits parts text.spelling.version text.spelling.width none)
-          (stopped_at (stated_fault parts text.spelling.stated) after_stated fault e)
+          grounding (is, width_suits parts text.spelling.version text.spelling.width none)
+          (stopped_at (grounding_fault parts text.spelling.stated) after_grounding fault e)
 
       go : (unless (same_kind (kind_of parts) text.spelling.kind) faults.Kind ≡ Some fault)
           ⊎ ((unless (same_kind (kind_of parts) text.spelling.kind) faults.Kind ≡ None)

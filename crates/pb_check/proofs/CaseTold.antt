@@ -11,9 +11,10 @@ use Rattle.pb_model.specs.Certificate.{Line, Certificate, HasLineWithin, cost_of
 use Rattle.pb_task.specs.declared.parts.TaskParts.{TaskParts}
 use Rattle.pb_task.specs.Parts.{space_of, IsTask, greatest_cost}
 use Rattle.pb_task.specs.Kinds.{kind_of}
+use Rattle.pb_task.specs.Groundings.{grounding_of}
 use Rattle.pb_task.specs.Widths.{width_of}
 use Rattle.pb_estimate.specs.declared.spelling.Version.{Version}
-use Rattle.pb_estimate.specs.declared.spelling.Version.TheVariants.{One, Two, Three}
+use Rattle.pb_estimate.specs.declared.spelling.Version.TheVariants.{One, Two, Three, Four}
 use Rattle.pb_task.proofs.Callers.{tasks_are_proper}
 use Rattle.pb_estimate.specs.declared.spelling.Spelling.{Spelling}
 use Rattle.pb_estimate.specs.Estimates.{estimate_by, suits}
@@ -23,12 +24,12 @@ use Rattle.pb_check.specs.declared.fault.Verdict.{Verdict}
 use Rattle.pb_check.specs.Faults.{◌>>=◌}
 use Rattle.pb_check.specs.Reading.{Text, first_line}
 use Rattle.pb_check.specs.Spelling.{IsSpelled}
-use Rattle.pb_check.specs.Judging.{passes, or_then, unless, same_kind, width_fault, stated_fault, is_weight, after_step, walk, plan_fault, plan_fault_if_any, AreAbove, Rise, order_fault, rows_order_fault, first_fault_by, state_fault, g_of, is_zero, target_fault, step_fault, steps_fault, may_be_cut, row_fault, verdict_of, judged, checked}
-use Rattle.pb_check.specs.Cases.{HasFormOf, IsForTask, IsPatternFault, HasWeight, HasPlan, HasOrder, HasStates, HasStart, IsStepFault, EndsElsewhere, IsCostFault, HasFault, IsOutOfOrder, IsNoState, MayBeCutRow, IsSoundRow, IsSuccessorFault, HasNoRow, HasRowAbove, IsCaseOf, CasesAreRefused}
+use Rattle.pb_check.specs.Judging.{passes, or_then, unless, same_kind, width_fault, same_grounding, grounding_fault, stated_fault, is_weight, after_step, walk, plan_fault, plan_fault_if_any, AreAbove, Rise, order_fault, rows_order_fault, first_fault_by, state_fault, g_of, is_zero, target_fault, step_fault, steps_fault, may_be_cut, row_fault, verdict_of, judged, checked}
+use Rattle.pb_check.specs.Cases.{HasFormOf, HasGroundingOf, IsForTask, IsPatternFault, HasWeight, HasPlan, HasOrder, HasStates, HasStart, IsStepFault, EndsElsewhere, IsCostFault, HasFault, IsOutOfOrder, IsNoState, MayBeCutRow, IsSoundRow, IsSuccessorFault, HasNoRow, HasRowAbove, IsCaseOf, CasesAreRefused}
 use Rattle.pb_check.proofs.Finding.{equal_at}
 use Rattle.pb_check.proofs.Passes.{steps_end}
-use Rattle.pb_check.proofs.Validity.{kinds_same, weighs, ascends, has_row, starts, cuts}
-use Rattle.pb_check.proofs.Completeness.{kind_same, width_ok, weight_ok, walked, plan_ok_if_any, rises, rows_order_ok, each_ok, found, zero_ok, target_ok, row_ok}
+use Rattle.pb_check.proofs.Validity.{kinds_same, groundings_same, weighs, ascends, has_row, starts, cuts}
+use Rattle.pb_check.proofs.Completeness.{kind_same, width_ok, grounding_met, weight_ok, walked, plan_ok_if_any, rises, rows_order_ok, each_ok, found, zero_ok, target_ok, row_ok}
 use Rattle.pb_check.proofs.Written.{read_of}
 use Rattle.pb_check.proofs.FirstUnspelled.{syntax_told}
 
@@ -188,8 +189,11 @@ module _ (parts : TaskParts) (lawful : IsTask parts) (bytes : List ℕ) (spellin
   abbrev after_stated : Result Verdict CertificateFault
   after_stated = next (unless (is_weight weight) faults.Weight) after_weight
 
+  abbrev after_grounding : Result Verdict CertificateFault
+  after_grounding = next (stated_fault parts spelling.stated) after_stated
+
   abbrev after_width : Result Verdict CertificateFault
-  after_width = next (stated_fault parts spelling.stated) after_stated
+  after_width = next (grounding_fault parts spelling.stated) after_grounding
 
   abbrev after_kind : Result Verdict CertificateFault
   after_kind = next (width_fault parts spelling.version spelling.width) after_width
@@ -212,9 +216,15 @@ module _ (parts : TaskParts) (lawful : IsTask parts) (bytes : List ℕ) (spellin
       to_kind has.0
       ∙ ap (λ o. next o after_width) (width_ok parts spelling.version spelling.width has.1)
 
+  to_grounding : HasGroundingOf parts spelling → checked parts bytes ≡ after_grounding
+  to_grounding has =
+      to_width has.0
+      ∙ ap (λ b. next (unless b faults.Grounding) after_grounding)
+      (grounding_met parts spelling.stated.grounding has.1)
+
   to_stated : IsForTask parts spelling → checked parts bytes ≡ after_stated
   to_stated has =
-      to_width has.0 ∙ ap (λ b. next (unless b faults.Pattern) after_stated) has.1
+      to_grounding has.0 ∙ ap (λ b. next (unless b faults.Pattern) after_stated) has.1
 
   to_weight : HasWeight parts spelling certificate → checked parts bytes ≡ after_weight
   to_weight has =
@@ -263,6 +273,7 @@ module _ (parts : TaskParts) (lawful : IsTask parts) (bytes : List ℕ) (spellin
   width_fault_is One states = absurd (states refl)
   width_fault_is Two states = refl
   width_fault_is Three states = refl
+  width_fault_is Four states = refl
 
   width_told : (said wanted : ℕ) → spelling.kind ≡ kind_of parts → spelling.version ≢ One
       → said ≡ spelling.width → wanted ≡ width_of parts → said ≢ wanted
@@ -276,10 +287,18 @@ module _ (parts : TaskParts) (lawful : IsTask parts) (bytes : List ℕ) (spellin
       ∙ ap (λ (w : ℕ). Err (faults.Width w (width_of parts))) (sym said_is)
       ∙ ap (λ (w : ℕ). Err (faults.Width said w)) (sym wanted_is)
 
-  pattern_told : HasFormOf parts spelling → IsPatternFault spelling
+  grounding_told : HasFormOf parts spelling → spelling.stated.grounding ≢ grounding_of parts
+      → checked parts bytes ≡ Err faults.Grounding
+  grounding_told has refuted =
+      to_width has
+      ∙ ap (λ b. next (unless b faults.Grounding) after_grounding)
+      (not_yes (same_grounding (grounding_of parts) spelling.stated.grounding)
+      (λ met. refuted (groundings_same (grounding_of parts) spelling.stated.grounding met)))
+
+  pattern_told : HasGroundingOf parts spelling → IsPatternFault spelling
       → checked parts bytes ≡ Err faults.Pattern
   pattern_told has (number, choice_is, outside) =
-      to_width has
+      to_grounding has
       ∙ ap (λ b. next (unless b faults.Pattern) after_stated)
       (ap (suits parts) choice_is
       ∙ not_yes (leb 1 number && leb number 12) (λ met.
@@ -464,6 +483,8 @@ cases_are_refused parts bytes fault lawful is = go fault is
     go (faults.Width said wanted) (spelling, certificate, spelled, (is, version, said_is, wanted_is, differ)) =
         width_told parts lawful bytes spelling certificate spelled said wanted is version said_is
         wanted_is differ
+    go faults.Grounding (spelling, certificate, spelled, (has, refuted)) =
+        grounding_told parts lawful bytes spelling certificate spelled has refuted
     go faults.Pattern (spelling, certificate, spelled, (has, bad)) =
         pattern_told parts lawful bytes spelling certificate spelled has bad
     go faults.Weight (spelling, certificate, spelled, (has, refuted)) =

@@ -15,12 +15,15 @@ use Rattle.pb_model.specs.Store.{MayBeCut}
 use Rattle.pb_model.specs.Certificate.{Line, Ascends, HasLineWithin, IsPlanIfAny, IsClosedLine, IsValid, cost_of}
 use Rattle.pb_task.specs.declared.kind.Kind.{Kind}
 use Rattle.pb_task.specs.declared.kind.Kind.TheVariants.{Grid, Tiles, Strips}
+use Rattle.pb_task.specs.declared.grounding.Grounding.{Grounding}
+use Rattle.pb_task.specs.declared.grounding.Grounding.TheVariants as groundings
 use Rattle.pb_task.specs.declared.parts.TaskParts.{TaskParts}
 use Rattle.pb_task.specs.Parts.{space_of}
 use Rattle.pb_task.specs.Kinds.{kind_of}
+use Rattle.pb_task.specs.Groundings.{grounding_of}
 use Rattle.pb_task.specs.Widths.{width_of}
 use Rattle.pb_estimate.specs.declared.spelling.Version.{Version}
-use Rattle.pb_estimate.specs.declared.spelling.Version.TheVariants.{One, Two, Three}
+use Rattle.pb_estimate.specs.declared.spelling.Version.TheVariants.{One, Two, Three, Four}
 use Rattle.pb_estimate.specs.Estimates.{estimate_by, suits}
 use Rattle.pb_check.specs.declared.fault.CertificateFault.{CertificateFault}
 use Rattle.pb_check.specs.declared.fault.CertificateFault.TheVariants as faults
@@ -30,7 +33,7 @@ use Rattle.pb_check.specs.Shown.{IsAccepted}
 use Rattle.pb_check.specs.Faults.{◌>>=◌, Gives}
 use Rattle.pb_check.specs.Reading.{Text, first_line}
 use Rattle.pb_check.specs.Spelling.{HasWidthOf}
-use Rattle.pb_check.specs.Judging.{passes, or_then, unless, same_kind, width_fault, stated_fault, is_weight, after_step, walk, plan_fault, plan_fault_if_any, AreAbove, Rise, order_fault, rows_order_fault, first_fault_by, state_fault, g_of, is_zero, target_fault, step_fault, steps_fault, may_be_cut, row_fault, verdict_of, judged, checked}
+use Rattle.pb_check.specs.Judging.{passes, or_then, unless, same_kind, width_fault, same_grounding, grounding_fault, stated_fault, is_weight, after_step, walk, plan_fault, plan_fault_if_any, AreAbove, Rise, order_fault, rows_order_fault, first_fault_by, state_fault, g_of, is_zero, target_fault, step_fault, steps_fault, may_be_cut, row_fault, verdict_of, judged, checked}
 use Rattle.pb_check.proofs.Finding.{equal_at}
 use Rattle.pb_check.proofs.Written.{read_of}
 
@@ -38,6 +41,10 @@ pub kind_same : (a : Kind) → same_kind a a ≡ true
 kind_same Grid = refl
 kind_same Tiles = refl
 kind_same Strips = refl
+
+pub grounding_same : (a : Grounding) → same_grounding a a ≡ true
+grounding_same groundings.All = refl
+grounding_same groundings.Reachable = refl
 
 pub same_number : (n : ℕ) → eqb n n ≡ true
 same_number n = grind (arith, nat_tests)
@@ -51,6 +58,11 @@ pub width_ok : (parts : TaskParts) (version : Version) (width : ℕ) → HasWidt
 width_ok parts One width is = refl
 width_ok parts Two width is = same_width_ok width (width_of parts) is
 width_ok parts Three width is = same_width_ok width (width_of parts) is
+width_ok parts Four width is = same_width_ok width (width_of parts) is
+
+-- the task's own grounding is no fault
+pub grounding_met : (parts : TaskParts) (grounding : Grounding) → grounding ≡ grounding_of parts → same_grounding (grounding_of parts) grounding ≡ true
+grounding_met parts grounding is = ap (same_grounding (grounding_of parts)) is ∙ grounding_same (grounding_of parts)
 
 pub weight_ok : (weight : Weight) → IsWeight weight → is_weight weight ≡ true
 weight_ok weight w = and_from (leb 1 weight.den) (leb weight.den weight.num && leb weight.num 1000) (le-leb _ _ w.positive) (and_from (leb weight.den weight.num) (leb weight.num 1000) (le-leb _ _ w.at_least_one) (le-leb _ _ w.small))
@@ -151,10 +163,10 @@ module _ (space : Space) (estimate : ℕ → Estimate) (weight : Weight) (best :
 
 -- ---- all together
 
-judged_ok : (parts : TaskParts) (text : Text) → text.spelling.kind ≡ kind_of parts → HasWidthOf parts text.spelling.version text.spelling.width → suits parts text.spelling.stated.choice ≡ true → IsValid (space_of parts) (estimate_by parts text.spelling.stated.choice) text.certificate
-    → judged parts text ≡ Ok (verdict_of text.certificate.weight text.certificate.plan)
+judged_ok : (parts : TaskParts) (text : Text) → text.spelling.kind ≡ kind_of parts → HasWidthOf parts text.spelling.version text.spelling.width → text.spelling.stated.grounding ≡ grounding_of parts → suits parts text.spelling.stated.choice ≡ true
+    → IsValid (space_of parts) (estimate_by parts text.spelling.stated.choice) text.certificate → judged parts text ≡ Ok (verdict_of text.certificate.weight text.certificate.plan)
 unfolding judged
-judged_ok parts text is wide stated valid =
+judged_ok parts text is wide grounded stated valid =
     let space = space_of parts in
     let estimate = estimate_by parts text.spelling.stated.choice in
     let lines = text.certificate.lines in
@@ -164,6 +176,7 @@ judged_ok parts text is wide stated valid =
     let s = found lines rise space.start 0 valid.start in
     let e1 : same_kind (kind_of parts) text.spelling.kind ≡ true = ap (same_kind (kind_of parts)) is ∙ kind_same (kind_of parts) in
     let ew : passes (width_fault parts text.spelling.version text.spelling.width) ≡ Ok true = ap passes (width_ok parts text.spelling.version text.spelling.width wide) in
+    let eg : same_grounding (grounding_of parts) text.spelling.stated.grounding ≡ true = grounding_met parts text.spelling.stated.grounding grounded in
     let e0 : passes (stated_fault parts text.spelling.stated) ≡ Ok true = ap (λ b. passes (unless b faults.Pattern)) stated in
     let e2 : is_weight weight ≡ true = weight_ok weight valid.weight in
     let e3 : plan_fault_if_any space text.certificate.plan ≡ Ok true = plan_ok_if_any space text.certificate.plan valid.plan in
@@ -171,13 +184,13 @@ judged_ok parts text is wide stated valid =
     let e5 : first_fault_by (state_fault space) text.first lines ≡ None = each_ok (state_fault space) (λ line. IsTrue (space.is_state line.state)) text.first lines (λ k row h. ap (λ b. unless b (faults.BadState k)) h) valid.states in
     let e6 : is_zero (g_of lines space.start) ≡ true = zero_ok (g_of lines space.start) s.0 s.1 s.2 in
     let e7 : first_fault_by (row_fault space estimate weight best lines) text.first lines ≡ None = rows_ok space estimate weight best lines rise text.first lines valid.closed valid.cut in
-    rw (e1, ew, e0, e2, e3, e4, e5, e6, e7) refl
+    rw (e1, ew, eg, e0, e2, e3, e4, e5, e6, e7) refl
 
 accepts : (parts : TaskParts) (bytes : List ℕ) (verdict : Verdict) → IsAccepted parts bytes verdict → checked parts bytes ≡ Ok verdict
 unfolding checked
 accepts parts bytes verdict is =
     let text : Text = record { spelling = is.spelling; certificate = is.certificate; first = first_line is.spelling is.certificate.plan } in
-    ap (λ r. r >>= λ text. judged parts text) (read_of bytes is.spelling is.certificate is.spelled) ∙ judged_ok parts text is.kind is.width is.stated is.valid ∙ ap (λ (v : Verdict). Ok v) (sym is.verdict_is)
+    ap (λ r. r >>= λ text. judged parts text) (read_of bytes is.spelling is.certificate is.spelled) ∙ judged_ok parts text is.kind is.width is.grounding is.stated is.valid ∙ ap (λ (v : Verdict). Ok v) (sym is.verdict_is)
 
 pub gives_accepted : (parts : TaskParts) (bytes : List ℕ) (r : Result Verdict CheckError) → Gives (λ x. x) r (checked parts bytes)
     → (verdict : Verdict) → IsAccepted parts bytes verdict → Gives (λ x. x) r (Ok verdict)

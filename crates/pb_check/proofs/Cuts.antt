@@ -9,11 +9,12 @@ use Rattle.pb_model.specs.Plan.{Plan}
 use Rattle.pb_model.specs.Certificate.{Line}
 use Rattle.pb_task.specs.declared.kind.Kind.{Kind}
 use Rattle.pb_task.specs.declared.parts.TaskParts.{TaskParts}
+use Rattle.pb_task.specs.declared.grounding.Grounding.TheVariants.{All}
 use Rattle.pb_estimate.specs.declared.choice.Choice.TheVariants.{Plain, Pattern}
 use Rattle.pb_estimate.specs.declared.spelling.Stated.{Stated}
 use Rattle.pb_estimate.specs.declared.spelling.Spelling.{Spelling}
 use Rattle.pb_estimate.specs.declared.spelling.Version.{Version}
-use Rattle.pb_estimate.specs.declared.spelling.Version.TheVariants.{One, Two, Three}
+use Rattle.pb_estimate.specs.declared.spelling.Version.TheVariants.{One, Two, Three, Four}
 use Rattle.pb_estimate.specs.Spelling.{width_text, stated_text, head_lines}
 use Rattle.pb_check.specs.declared.fault.CertificateFault.{CertificateFault}
 use Rattle.pb_check.specs.declared.fault.CertificateFault.TheVariants.{Syntax}
@@ -21,7 +22,7 @@ use Rattle.pb_check.specs.declared.fault.CheckError.{CheckError}
 use Rattle.pb_check.specs.declared.fault.Verdict.{Verdict}
 use Rattle.pb_lines.specs.Words.{part, is_text, has_none, line_feeds}
 use Rattle.pb_check.specs.Faults.{◌>>=◌, wanted, Gives}
-use Rattle.pb_check.specs.Reading.{line_at, number_behind, version_in, kind_in, width_in, weight_in, row_in, fixed_at, number_at, version_at, kind_at, width_line_at, width_at, stated_at, head_at, weight_at, row_at, actions_at, rows_at, steps_at, plan_at, plan_lines, weight_line, first_line, Text, end_at, body_at, text_of}
+use Rattle.pb_check.specs.Reading.{line_at, number_behind, version_in, kind_in, kind_for, width_in, grounding_in, estimate_in, weight_in, row_in, fixed_at, number_at, version_at, kind_at, width_line_at, width_at, grounding_at, estimate_at, stated_at, head_at, weight_at, row_at, actions_at, rows_at, steps_at, plan_at, plan_lines, weight_line, first_line, Text, end_at, body_at, text_of}
 use Rattle.pb_check.specs.Judging.{judged, checked}
 use Rattle.pb_check.specs.Shown.{IsCutOff, CutCertificatesAreRefused}
 use Rattle.pb_lines.proofs.Callers.{part_is, part_none, part_again, one_feed, no_feed}
@@ -322,11 +323,12 @@ version_step line = line_step (λ version. 1) (λ version. 0) line
     (λ first. version_in line first.0 >>= λ version. Ok (version, first.1)) (λ version. refl)
     (λ first. word_step (line + 1) (version_in line first))
 
-kind_step : (line : ℕ) → IsStep (λ kind. 1) line (kind_at line)
+kind_step : (version : Version) (line : ℕ) → IsStep (λ kind. 1) line (kind_at version line)
 unfolding kind_at
-kind_step line = line_step (λ kind. 1) (λ kind. 0) line
-    (λ first. kind_in line first.0 >>= λ kind. Ok (kind, first.1)) (λ kind. refl)
-    (λ first. word_step (line + 1) (kind_in line first))
+kind_step version line = line_step (λ kind. 1) (λ kind. 0) line
+    (λ first. (kind_in line first.0 >>= kind_for version line) >>= λ kind. Ok (kind, first.1))
+    (λ kind. refl)
+    (λ first. word_step (line + 1) (kind_in line first >>= kind_for version line))
 
 width_line_step : (line : ℕ) → IsStep (λ width. 1) line (width_line_at line)
 unfolding width_line_at
@@ -341,24 +343,48 @@ unfolding width_at
 width_step One line = given_step (λ width. length (width_text One width)) line version_1_digits refl
 width_step Two line = width_line_step line
 width_step Three line = width_line_step line
+width_step Four line = width_line_step line
+
+grounding_step : (line : ℕ) → IsStep (λ grounding. 1) line (grounding_at line)
+unfolding grounding_at
+grounding_step line = line_step (λ grounding. 1) (λ grounding. 0) line
+    (λ first. grounding_in line first.0 >>= λ grounding. Ok (grounding, first.1))
+    (λ grounding. refl) (λ first. word_step (line + 1) (grounding_in line first))
+
+estimate_step : (line : ℕ) → IsStep (λ choice. 1) line (estimate_at line)
+unfolding estimate_at
+estimate_step line = line_step (λ choice. 1) (λ choice. 0) line
+    (λ first. estimate_in line first.0 >>= λ choice. Ok (choice, first.1)) (λ choice. refl)
+    (λ first. word_step (line + 1) (estimate_in line first))
+
+-- how many lines of a text of this version say what is stated besides
+abbrev pub lines_stated : Version → Stated → ℕ
+lines_stated version stated = length (stated_text version stated)
 
 -- what is stated is read in as many lines as it is said in
 stated_step : (version : Version) (line : ℕ)
-    → IsStep (λ (stated : Stated). length (stated_text stated)) line (stated_at version line)
+    → IsStep (lines_stated version) line (stated_at version line)
 unfolding stated_at
-stated_step One line = given_step (λ (stated : Stated). length (stated_text stated)) line
-    (record { choice = Plain }) refl
-stated_step Two line = given_step (λ (stated : Stated). length (stated_text stated)) line
-    (record { choice = Plain }) refl
+stated_step One line = given_step (lines_stated One) line
+    (record { grounding = All; choice = Plain }) refl
+stated_step Two line = given_step (lines_stated Two) line
+    (record { grounding = All; choice = Plain }) refl
 stated_step Three line =
-    named_step (λ n. 1) (λ (stated : Stated). length (stated_text stated))
-    (λ n. record { choice = Pattern n }) (λ n. refl) line (number_at line (codes "pattern "))
-    (number_step line (codes "pattern "))
+    named_step (λ n. 1) (lines_stated Three)
+    (λ n. record { grounding = All; choice = Pattern n }) (λ n. refl) line
+    (number_at line (codes "pattern ")) (number_step line (codes "pattern "))
+stated_step Four line =
+    then_step (λ grounding. 1) (λ choice. 1) (lines_stated Four)
+    (λ grounding choice. record { grounding = grounding; choice = choice })
+    (λ grounding choice. refl) line (grounding_at line)
+    (λ grounding text. estimate_at (line + 1) text) (grounding_step line)
+    (λ grounding. estimate_step (line + 1))
 
 -- how many lines say the digits of a state and what is stated besides
 abbrev pub stated_lines : Spelling → ℕ
 stated_lines spelling =
-    length (width_text spelling.version spelling.width ++ stated_text spelling.stated)
+    length (width_text spelling.version spelling.width
+    ++ stated_text spelling.version spelling.stated)
 
 abbrev pub width_then : Version → Kind → List ℕ → Result (Spelling × List ℕ) CertificateFault
 width_then version kind text =
@@ -367,14 +393,14 @@ width_then version kind text =
     >>= λ stated. Ok (spelling_with version kind width.0 stated.0, stated.1)
 
 abbrev pub kind_then : Version → List ℕ → Result (Spelling × List ℕ) CertificateFault
-kind_then version text = kind_at 2 text >>= λ kind. width_then version kind.0 kind.1
+kind_then version text = kind_at version 2 text >>= λ kind. width_then version kind.0 kind.1
 
 width_then_step : (version : Version) (kind : Kind)
     → IsStep stated_lines 3 (width_then version kind)
 width_then_step version kind =
     then_step (λ width. length (width_text version width))
-    (λ (stated : Stated). length (stated_text stated)) stated_lines (spelling_with version kind)
-    (λ width stated. length-append (width_text version width) (stated_text stated)) 3
+    (lines_stated version) stated_lines (spelling_with version kind)
+    (λ width stated. length-append (width_text version width) (stated_text version stated)) 3
     (width_at version 3)
     (λ width text. stated_at version (3 + length (width_text version width)) text)
     (width_step version 3) (λ width. stated_step version (3 + length (width_text version width)))
@@ -383,7 +409,7 @@ kind_then_step : (version : Version)
     → IsStep (λ (spelling : Spelling). 1 + stated_lines spelling) 2 (kind_then version)
 kind_then_step version =
     tail_step (λ kind. 1) stated_lines (λ (spelling : Spelling). 1 + stated_lines spelling)
-    (λ kind spelling. refl) 2 (kind_at 2) (width_then version) (kind_step 2)
+    (λ kind spelling. refl) 2 (kind_at version 2) (width_then version) (kind_step version 2)
     (λ kind. width_then_step version kind)
 
 head_step : IsStep head_lines 1 head_at

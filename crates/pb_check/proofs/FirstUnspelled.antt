@@ -13,24 +13,24 @@ use Rattle.pb_model.specs.Certificate.{Line}
 use Rattle.pb_model.specs.Texts as texts
 use Rattle.pb_task.specs.declared.kind.Kind.{Kind}
 use Rattle.pb_task.specs.declared.kind.Kind.TheVariants.{Grid, Tiles, Strips}
+use Rattle.pb_task.specs.declared.grounding.Grounding.TheVariants.{All, Reachable}
 use Rattle.pb_estimate.specs.declared.choice.Choice.TheVariants.{Plain, Pattern}
-use Rattle.pb_estimate.specs.declared.spelling.Stated.{Stated}
 use Rattle.pb_estimate.specs.declared.spelling.Spelling.{Spelling}
 use Rattle.pb_estimate.specs.declared.spelling.Version.{Version}
-use Rattle.pb_estimate.specs.declared.spelling.Version.TheVariants.{One, Two, Three}
-use Rattle.pb_estimate.specs.Spelling.{version_line, kind_line, width_text, stated_text, head_lines}
+use Rattle.pb_estimate.specs.declared.spelling.Version.TheVariants.{One, Two, Three, Four}
+use Rattle.pb_estimate.specs.Spelling.{IsVersionFor, version_line, kind_line, width_text, grounding_line, estimate_line, stated_text, head_lines}
 use Rattle.pb_lines.specs.Words.{part, behind, is_text, number_of, has_none, line_feeds}
 use Rattle.pb_lines.proofs.Callers.{part_is, part_none, no_feed, none_both, number_word, number_none, text_again}
 use Rattle.pb_check.specs.declared.fault.CertificateFault.{CertificateFault}
 use Rattle.pb_check.specs.declared.fault.CertificateFault.TheVariants.{Syntax}
 use Rattle.pb_check.specs.Faults.{◌>>=◌, wanted}
 use Rattle.pb_check.specs.Words.{state_of}
-use Rattle.pb_check.specs.Reading.{line_at, number_behind, version_in, kind_in, width_in, weight_in, closed_in, row_in, fixed_at, number_at, version_at, kind_at, width_line_at, width_at, stated_at, head_at, weight_at, row_at, actions_at, rows_at, steps_at, plan_at, plan_lines, weight_line, Text, end_at, body_at, text_of}
+use Rattle.pb_check.specs.Reading.{line_at, number_behind, version_in, kind_in, kind_for, width_in, grounding_in, estimate_in, weight_in, closed_in, row_in, fixed_at, number_at, version_at, kind_at, width_line_at, width_at, grounding_at, estimate_at, stated_at, head_at, weight_at, row_at, actions_at, rows_at, steps_at, plan_at, plan_lines, weight_line, Text, end_at, body_at, text_of}
 use Rattle.pb_check.specs.Spelling.{IsSpelled}
 use Rattle.pb_check.specs.Cases.{IsSyntaxFault}
-use Rattle.pb_check.proofs.Cuts.{after_unnamed, stated_lines, width_then, kind_then, lines_of, later_lines, text_with, one_more}
+use Rattle.pb_check.proofs.Cuts.{after_unnamed, lines_stated, stated_lines, width_then, kind_then, lines_of, later_lines, text_with, one_more}
 use Rattle.pb_check.proofs.Lines.{spelling_with, IsWeightLine}
-use Rattle.pb_check.proofs.Readable.{behind_number_word_read, version_again, version_none, kind_again, kind_none, width_words, width_again, width_none, weight_again, weight_none, row_again, row_none}
+use Rattle.pb_check.proofs.Readable.{behind_number_word_read, version_again, version_none, kind_said_again, kind_none, width_words, width_again, width_none, grounding_again, grounding_none, estimate_again, estimate_none, weight_again, weight_none, row_again, row_none}
 use Rattle.pb_check.proofs.Written.{line_of_row, read_as_spelled, read_of}
 use Rattle.pb_check.proofs.FirstLines.{named, IsReader, IsLastReader, IsAt, Stops, IsWhole, given, at_ok, at_wanted, at_next, at_either, same_reader, same_last, line_reader, then_reader, named_reader, then_last, named_last}
 
@@ -53,10 +53,14 @@ unfolding version_in
 at_version line text =
     at_either line (is_text (version_line One) text) (Ok One)
     (cond (is_text (version_line Two) text) (Ok Two)
-    (cond (is_text (version_line Three) text) (Ok Three) (Err (Syntax line)))) (at_ok line One)
+    (cond (is_text (version_line Three) text) (Ok Three)
+    (cond (is_text (version_line Four) text) (Ok Four) (Err (Syntax line))))) (at_ok line One)
     (at_either line (is_text (version_line Two) text) (Ok Two)
-    (cond (is_text (version_line Three) text) (Ok Three) (Err (Syntax line))) (at_ok line Two)
-    (at_test line (is_text (version_line Three) text) Three))
+    (cond (is_text (version_line Three) text) (Ok Three)
+    (cond (is_text (version_line Four) text) (Ok Four) (Err (Syntax line)))) (at_ok line Two)
+    (at_either line (is_text (version_line Three) text) (Ok Three)
+    (cond (is_text (version_line Four) text) (Ok Four) (Err (Syntax line))) (at_ok line Three)
+    (at_test line (is_text (version_line Four) text) Four)))
 
 at_width : (line : ℕ) (text : List ℕ) → IsAt line (width_in line text)
 unfolding width_in
@@ -73,6 +77,31 @@ at_kind line text =
     (at_either line (is_text (kind_line Tiles) text) (Ok Tiles)
     (cond (is_text (kind_line Strips) text) (Ok Strips) (Err (Syntax line))) (at_ok line Tiles)
     (at_test line (is_text (kind_line Strips) text) Strips))
+
+at_fit : (version : Version) (line : ℕ) (kind : Kind) → IsAt line (kind_for version line kind)
+at_fit One line kind = at_ok line kind
+at_fit Two line kind = at_ok line kind
+at_fit Three line kind = at_ok line kind
+at_fit Four line Grid = at_test line false Grid
+at_fit Four line Tiles = at_test line false Tiles
+at_fit Four line Strips = at_ok line Strips
+
+at_grounding : (line : ℕ) (text : List ℕ) → IsAt line (grounding_in line text)
+unfolding grounding_in
+at_grounding line text =
+    at_either line (is_text (grounding_line All) text) (Ok All)
+    (cond (is_text (grounding_line Reachable) text) (Ok Reachable) (Err (Syntax line)))
+    (at_ok line All) (at_test line (is_text (grounding_line Reachable) text) Reachable)
+
+at_estimate : (line : ℕ) (text : List ℕ) → IsAt line (estimate_in line text)
+unfolding estimate_in
+at_estimate line text =
+    at_either line (is_text (estimate_line Plain) text) (Ok Plain)
+    (number_behind line (codes "estimate pattern ") text >>= λ number. Ok (Pattern number))
+    (at_ok line Plain)
+    (at_next line (number_behind line (codes "estimate pattern ") text)
+    (λ number. Ok (Pattern number)) (at_number line (codes "estimate pattern ") text)
+    (λ number. at_ok line (Pattern number)))
 
 at_closed : (line : ℕ) (text : List ℕ) → IsAt line (closed_in line text)
 unfolding closed_in
@@ -147,24 +176,52 @@ width_reader One line =
     given (λ width. length (width_text One width)) line version_1_digits refl
 width_reader Two line = width_line_reader line
 width_reader Three line = width_line_reader line
+width_reader Four line = width_line_reader line
 
-kind_reader : (line : ℕ) → IsReader (λ kind. 1) line (kind_at line)
+-- each version is for STRIPS
+strips_fits : (version : Version) → IsVersionFor version Strips
+strips_fits One = tt
+strips_fits Two = tt
+strips_fits Three = tt
+strips_fits Four = refl
+
+kind_reader : (version : Version) (line : ℕ) → IsReader (λ kind. 1) line (kind_at version line)
 unfolding kind_at
-kind_reader line =
-    word_reader line (kind_in line) (at_kind line) (kind_line Grid) Grid (kind_none Grid)
-    (kind_again line Grid)
+kind_reader version line =
+    word_reader line (λ text. kind_in line text >>= kind_for version line)
+    (λ text. at_next line (kind_in line text) (kind_for version line) (at_kind line text)
+    (at_fit version line)) (kind_line Strips) Strips (kind_none Strips)
+    (kind_said_again version line Strips (strips_fits version))
+
+grounding_reader : (line : ℕ) → IsReader (λ grounding. 1) line (grounding_at line)
+unfolding grounding_at
+grounding_reader line =
+    word_reader line (grounding_in line) (at_grounding line) (grounding_line All) All
+    (grounding_none All) (grounding_again line All)
+
+estimate_reader : (line : ℕ) → IsReader (λ choice. 1) line (estimate_at line)
+unfolding estimate_at
+estimate_reader line =
+    word_reader line (estimate_in line) (at_estimate line) (estimate_line Plain) Plain
+    (estimate_none Plain tt) (estimate_again line Plain tt)
 
 stated_reader : (version : Version) (line : ℕ)
-    → IsReader (λ (stated : Stated). length (stated_text stated)) line (stated_at version line)
+    → IsReader (lines_stated version) line (stated_at version line)
 unfolding stated_at
-stated_reader One line = given (λ (stated : Stated). length (stated_text stated)) line
-    (record { choice = Plain }) refl
-stated_reader Two line = given (λ (stated : Stated). length (stated_text stated)) line
-    (record { choice = Plain }) refl
+stated_reader One line = given (lines_stated One) line
+    (record { grounding = All; choice = Plain }) refl
+stated_reader Two line = given (lines_stated Two) line
+    (record { grounding = All; choice = Plain }) refl
 stated_reader Three line =
-    named_reader (λ n. 1) (λ (stated : Stated). length (stated_text stated))
-    (λ n. record { choice = Pattern n }) (λ n. refl) line (number_at line (codes "pattern "))
-    (number_reader line (codes "pattern ") refl)
+    named_reader (λ n. 1) (lines_stated Three)
+    (λ n. record { grounding = All; choice = Pattern n }) (λ n. refl) line
+    (number_at line (codes "pattern ")) (number_reader line (codes "pattern ") refl)
+stated_reader Four line =
+    then_reader (λ grounding. 1) (λ choice. 1) (lines_stated Four)
+    (λ grounding choice. record { grounding = grounding; choice = choice })
+    (λ grounding choice. refl) line (grounding_at line)
+    (λ grounding text. estimate_at (line + 1) text) (grounding_reader line)
+    (λ grounding. estimate_reader (line + 1))
 
 weight_reader : (line : ℕ) → IsReader (λ weight. 1) line (weight_at line)
 unfolding weight_at
@@ -254,8 +311,8 @@ width_then_reader : (version : Version) (kind : Kind)
     → IsReader stated_lines 3 (width_then version kind)
 width_then_reader version kind =
     then_reader (λ width. length (width_text version width))
-    (λ (stated : Stated). length (stated_text stated)) stated_lines (spelling_with version kind)
-    (λ width stated. length-append (width_text version width) (stated_text stated)) 3
+    (lines_stated version) stated_lines (spelling_with version kind)
+    (λ width stated. length-append (width_text version width) (stated_text version stated)) 3
     (width_at version 3)
     (λ width text. stated_at version (3 + length (width_text version width)) text)
     (width_reader version 3)
@@ -265,7 +322,7 @@ kind_then_reader : (version : Version)
     → IsReader (λ (spelling : Spelling). 1 + stated_lines spelling) 2 (kind_then version)
 kind_then_reader version =
     tail_reader (λ kind. 1) stated_lines (λ (spelling : Spelling). 1 + stated_lines spelling)
-    (λ kind spelling. refl) 2 (kind_at 2) (width_then version) (kind_reader 2)
+    (λ kind spelling. refl) 2 (kind_at version 2) (width_then version) (kind_reader version 2)
     (λ kind. width_then_reader version kind)
 
 head_reader : IsReader head_lines 1 head_at

@@ -15,7 +15,7 @@ use Rattle.pb_check.specs.declared.fault.CheckError.TheVariants as errors
 use Rattle.pb_check.specs.declared.fault.Verdict.{Verdict}
 use Rattle.pb_check.specs.Faults.{◌>>=◌, Fails, Gives}
 use Rattle.pb_check.specs.Reading.{Text, suiting, stated_choice, text_of}
-use Rattle.pb_check.specs.Judging.{passes, unless, same_kind, width_fault, stated_fault, is_weight, plan_fault_if_any, order_fault, rows_order_fault, judged, checked, Rise}
+use Rattle.pb_check.specs.Judging.{passes, unless, same_kind, width_fault, grounding_fault, stated_fault, is_weight, plan_fault_if_any, order_fault, rows_order_fault, judged, checked, Rise}
 use Rattle.pb_check.specs.Rows.{rises_at}
 use Rattle.pb_check.specs.Kept.{Falls, AreKeptBy, IsKeptText, GivesKept}
 use Rattle.pb_check.proofs.Finding.{order_rises}
@@ -103,10 +103,11 @@ unfolding judged
 judged_without parts spelling weight plan first rows more falls =
     step_same (passes (unless (same_kind (kind_of parts) spelling.kind) faults.Kind)) _ _ (λ kinds.
     step_same (passes (width_fault parts spelling.version spelling.width)) _ _ (λ widths.
+    step_same (passes (grounding_fault parts spelling.stated)) _ _ (λ groundings.
     step_same (passes (stated_fault parts spelling.stated)) _ _ (λ stated.
     step_same (passes (unless (is_weight weight) faults.Weight)) _ _ (λ weights.
     step_same (plan_fault_if_any (space_of parts) plan) _ _ (λ plans.
-    ends_there (rows_order_fault first (rows ++ more)) (rows_order_fault first rows) _ _ (rows_order_same first rows more falls) (falls_in_order first rows falls))))))
+    ends_there (rows_order_fault first (rows ++ more)) (rows_order_fault first rows) _ _ (rows_order_same first rows more falls) (falls_in_order first rows falls)))))))
 
 text_is : (kept text : Text) (h : IsKeptText kept text) → kept ≡ text_from text.spelling text.certificate.weight text.certificate.plan text.first kept.certificate.lines
 text_is kept text h =

@@ -13,12 +13,15 @@ use Rattle.pb_model.specs.Certificate.{Line}
 use Rattle.pb_model.specs.Texts as texts
 use Rattle.pb_task.specs.declared.kind.Kind.{Kind}
 use Rattle.pb_task.specs.declared.kind.Kind.TheVariants.{Grid, Tiles, Strips}
+use Rattle.pb_task.specs.declared.grounding.Grounding.{Grounding}
+use Rattle.pb_task.specs.declared.grounding.Grounding.TheVariants.{All, Reachable}
+use Rattle.pb_estimate.specs.declared.choice.Choice.{Choice}
 use Rattle.pb_estimate.specs.declared.choice.Choice.TheVariants.{Plain, Pattern}
 use Rattle.pb_estimate.specs.declared.spelling.Stated.{Stated}
 use Rattle.pb_estimate.specs.declared.spelling.Spelling.{Spelling}
 use Rattle.pb_estimate.specs.declared.spelling.Version.{Version}
-use Rattle.pb_estimate.specs.declared.spelling.Version.TheVariants.{One, Two, Three}
-use Rattle.pb_estimate.specs.Spelling.{IsWidthOf, StatesChoice, IsSpelling, version_line, kind_line, width_text, stated_text, head_of}
+use Rattle.pb_estimate.specs.declared.spelling.Version.TheVariants.{One, Two, Three, Four}
+use Rattle.pb_estimate.specs.Spelling.{IsWidthOf, CanBeStated, StatesChoice, StatesGrounding, IsVersionFor, IsSpelling, version_line, kind_line, width_text, grounding_line, estimate_line, stated_text, head_of}
 use Rattle.pb_check.specs.declared.fault.CertificateFault.{CertificateFault}
 use Rattle.pb_check.specs.declared.fault.CertificateFault.TheVariants.{Syntax}
 use Rattle.pb_lines.specs.Words.{part, behind, is_text, number_of}
@@ -27,7 +30,7 @@ use Rattle.pb_check.specs.Words.{hex_value, hex_after, state_of}
 use Rattle.pb_check.specs.declared.fault.CheckError.{CheckError}
 use Rattle.pb_check.specs.declared.fault.CheckError.TheVariants as errors
 use Rattle.pb_check.specs.Faults.{◌>>=◌, wanted, Fails, IsFault}
-use Rattle.pb_check.specs.Reading.{line_at, number_behind, version_in, kind_in, width_in, weight_in, closed_in, row_in, fixed_at, number_at, version_at, kind_at, width_line_at, width_at, stated_at, head_at, weight_at, row_at, actions_at, rows_at, steps_at, plan_at, plan_lines, weight_line, first_line, Text, end_at, body_at, suiting, stated_choice, choice_in, text_of}
+use Rattle.pb_check.specs.Reading.{line_at, number_behind, version_in, kind_in, kind_for, width_in, grounding_in, estimate_in, weight_in, closed_in, row_in, fixed_at, number_at, version_at, kind_at, width_line_at, width_at, grounding_at, estimate_at, stated_at, head_at, weight_at, row_at, actions_at, rows_at, steps_at, plan_at, plan_lines, weight_line, first_line, Text, end_at, body_at, suiting, stated_choice, choice_in, text_of}
 use Rattle.pb_check.proofs.Lines.{hex_value_after, IsStateWord, BeginsWith, BeginsWithNumber, closed_text, spelling_with, IsWeightLine, IsRowLine, AreActionLines, AreRowLines, ArePlanLines, Spells}
 
 pub bind_ok : {A B : Type 0} (r : Result A CertificateFault) (f : A → Result B CertificateFault) (y : B) → (r >>= f) ≡ Ok y → (x : A) × (r ≡ Ok x) × (f x ≡ Ok y)
@@ -111,13 +114,48 @@ kind_is line text k e = go (is_text (kind_line Grid) text) (is_text (kind_line T
 
 version_is : (line : ℕ) (text : List ℕ) (v : Version) → version_in line text ≡ Ok v → text ≡ version_line v
 unfolding version_in
-version_is line text v e = go (is_text (version_line One) text) (is_text (version_line Two) text) (is_text (version_line Three) text) refl refl refl e
+version_is line text v e = go (is_text (version_line One) text) (is_text (version_line Two) text) (is_text (version_line Three) text) (is_text (version_line Four) text) refl refl refl refl e
   where
-    go : (a b c : Bool) → is_text (version_line One) text ≡ a → is_text (version_line Two) text ≡ b → is_text (version_line Three) text ≡ c → cond a (Ok One) (cond b (Ok Two) (cond c (Ok Three) (Err (Syntax line)))) ≡ Ok v → text ≡ version_line v
-    go true b c x y z e = text_is (version_line One) text x ∙ ap version_line (ok_is One v e)
-    go false true c x y z e = text_is (version_line Two) text y ∙ ap version_line (ok_is Two v e)
-    go false false true x y z e = text_is (version_line Three) text z ∙ ap version_line (ok_is Three v e)
-    go false false false x y z e = absurd cc
+    go : (a b c d : Bool) → is_text (version_line One) text ≡ a → is_text (version_line Two) text ≡ b → is_text (version_line Three) text ≡ c → is_text (version_line Four) text ≡ d
+        → cond a (Ok One) (cond b (Ok Two) (cond c (Ok Three) (cond d (Ok Four) (Err (Syntax line))))) ≡ Ok v → text ≡ version_line v
+    go true b c d x y z u e = text_is (version_line One) text x ∙ ap version_line (ok_is One v e)
+    go false true c d x y z u e = text_is (version_line Two) text y ∙ ap version_line (ok_is Two v e)
+    go false false true d x y z u e = text_is (version_line Three) text z ∙ ap version_line (ok_is Three v e)
+    go false false false true x y z u e = text_is (version_line Four) text u ∙ ap version_line (ok_is Four v e)
+    go false false false false x y z u e = absurd cc
+
+-- a kind that a version is for is the one that a line says
+kind_fits : (version : Version) (line : ℕ) (said kind : Kind) → kind_for version line said ≡ Ok kind → (said ≡ kind) × IsVersionFor version kind
+kind_fits One line said kind e = (ok_is said kind e, tt)
+kind_fits Two line said kind e = (ok_is said kind e, tt)
+kind_fits Three line said kind e = (ok_is said kind e, tt)
+kind_fits Four line Grid kind e = absurd cc
+kind_fits Four line Tiles kind e = absurd cc
+kind_fits Four line Strips kind e = let same = ok_is Strips kind e in (same, sym same)
+
+grounding_is : (line : ℕ) (text : List ℕ) (g : Grounding) → grounding_in line text ≡ Ok g → text ≡ grounding_line g
+unfolding grounding_in
+grounding_is line text g e = go (is_text (grounding_line All) text) (is_text (grounding_line Reachable) text) refl refl e
+  where
+    go : (a b : Bool) → is_text (grounding_line All) text ≡ a → is_text (grounding_line Reachable) text ≡ b → cond a (Ok All) (cond b (Ok Reachable) (Err (Syntax line))) ≡ Ok g → text ≡ grounding_line g
+    go true b x y e = text_is (grounding_line All) text x ∙ ap grounding_line (ok_is All g e)
+    go false true x y e = text_is (grounding_line Reachable) text y ∙ ap grounding_line (ok_is Reachable g e)
+    go false false x y e = absurd cc
+
+-- a line says this choice of an estimate, which can be stated
+abbrev IsEstimateLine : (text : List ℕ) → Choice → Type 0
+IsEstimateLine text choice = (text ≡ estimate_line choice) × CanBeStated choice
+
+estimate_is : (line : ℕ) (text : List ℕ) (choice : Choice) → estimate_in line text ≡ Ok choice → IsEstimateLine text choice
+unfolding estimate_in
+estimate_is line text choice e = go (is_text (estimate_line Plain) text) refl e
+  where
+    go : (b : Bool) → is_text (estimate_line Plain) text ≡ b → cond b (Ok Plain) (number_behind line (codes "estimate pattern ") text >>= λ number. Ok (Pattern number)) ≡ Ok choice → IsEstimateLine text choice
+    go true is e = subst (IsEstimateLine text) (ok_is Plain choice e) (text_is (estimate_line Plain) text is, tt)
+    go false is e =
+        let a = bind_ok (number_behind line (codes "estimate pattern ") text) _ choice e in
+        let w = behind_number line (codes "estimate pattern ") text a.0 a.1 in
+        subst (IsEstimateLine text) (ok_is (Pattern a.0) choice a.2) (w.2 ∙ ap (λ (t : List ℕ). codes "estimate pattern " ++ t) (number_word_is w.0 a.0 w.1), w.1.small)
 
 width_is : (line : ℕ) (text : List ℕ) (n : ℕ) → width_in line text ≡ Ok n → (text ≡ codes "width " ++ decimal n) × IsWidthOf Two n
 unfolding width_in
@@ -170,12 +208,30 @@ version_line_is line text x e =
     let c = bind_ok (version_in line b.0.0) _ x b.2 in
     subst (λ (y : Version × List ℕ). BeginsWith text (version_line y.0) y.1) (ok_is (c.0, b.0.1) x c.2) (line_is line text b.0 b.1 ∙ ap (λ (t : List ℕ). t ++ 10 ∷ b.0.1) (version_is line b.0.0 c.0 c.1))
 
-kind_line_is : (line : ℕ) (text : List ℕ) (x : Kind × List ℕ) → kind_at line text ≡ Ok x → BeginsWith text (kind_line x.0) x.1
+kind_line_is : (version : Version) (line : ℕ) (text : List ℕ) (x : Kind × List ℕ) → kind_at version line text ≡ Ok x → BeginsWith text (kind_line x.0) x.1 × IsVersionFor version x.0
 unfolding kind_at
-kind_line_is line text x e =
+kind_line_is version line text x e =
     let b = bind_ok (line_at line text) _ x e in
-    let c = bind_ok (kind_in line b.0.0) _ x b.2 in
-    subst (λ (y : Kind × List ℕ). BeginsWith text (kind_line y.0) y.1) (ok_is (c.0, b.0.1) x c.2) (line_is line text b.0 b.1 ∙ ap (λ (t : List ℕ). t ++ 10 ∷ b.0.1) (kind_is line b.0.0 c.0 c.1))
+    let c = bind_ok (kind_in line b.0.0 >>= kind_for version line) _ x b.2 in
+    let d = bind_ok (kind_in line b.0.0) (kind_for version line) c.0 c.1 in
+    let fits = kind_fits version line d.0 c.0 d.2 in
+    subst (λ (y : Kind × List ℕ). BeginsWith text (kind_line y.0) y.1 × IsVersionFor version y.0) (ok_is (c.0, b.0.1) x c.2)
+    (line_is line text b.0 b.1 ∙ ap (λ (t : List ℕ). t ++ 10 ∷ b.0.1) (kind_is line b.0.0 d.0 d.1 ∙ ap kind_line fits.0), fits.1)
+
+grounding_line_is : (line : ℕ) (text : List ℕ) (x : Grounding × List ℕ) → grounding_at line text ≡ Ok x → BeginsWith text (grounding_line x.0) x.1
+unfolding grounding_at
+grounding_line_is line text x e =
+    let b = bind_ok (line_at line text) _ x e in
+    let c = bind_ok (grounding_in line b.0.0) _ x b.2 in
+    subst (λ (y : Grounding × List ℕ). BeginsWith text (grounding_line y.0) y.1) (ok_is (c.0, b.0.1) x c.2) (line_is line text b.0 b.1 ∙ ap (λ (t : List ℕ). t ++ 10 ∷ b.0.1) (grounding_is line b.0.0 c.0 c.1))
+
+estimate_line_is : (line : ℕ) (text : List ℕ) (x : Choice × List ℕ) → estimate_at line text ≡ Ok x → BeginsWith text (estimate_line x.0) x.1 × CanBeStated x.0
+unfolding estimate_at
+estimate_line_is line text x e =
+    let b = bind_ok (line_at line text) _ x e in
+    let c = bind_ok (estimate_in line b.0.0) _ x b.2 in
+    let is = estimate_is line b.0.0 c.0 c.1 in
+    subst (λ (y : Choice × List ℕ). BeginsWith text (estimate_line y.0) y.1 × CanBeStated y.0) (ok_is (c.0, b.0.1) x c.2) (line_is line text b.0 b.1 ∙ ap (λ (t : List ℕ). t ++ 10 ∷ b.0.1) is.0, is.1)
 
 -- one line, and what follows
 pub one_line : (first rest : List ℕ) → texts.lines (first ∷ []) ++ rest ≡ first ++ 10 ∷ rest
@@ -203,6 +259,7 @@ unfolding width_at
 width_line_is One line text x e = subst (λ (y : ℕ × List ℕ). (text ≡ texts.lines (width_text One y.0) ++ y.1) × IsWidthOf One y.0) (ok_is (version_1_digits, text) x e) (refl, refl)
 width_line_is Two line text x e = said_width_is line text x e
 width_line_is Three line text x e = said_width_is line text x e
+width_line_is Four line text x e = said_width_is line text x e
 
 -- two lines, other lines, and what follows
 pub head_then : (first second others rest : List ℕ) → (texts.line first ++ (texts.line second ++ others)) ++ rest ≡ first ++ 10 ∷ (second ++ 10 ∷ (others ++ rest))
@@ -213,38 +270,45 @@ head_then first second others rest =
 
 -- what is stated is read of its lines, and is of the version
 abbrev AreStatedLines : Version → (text : List ℕ) → Stated × List ℕ → Type 0
-AreStatedLines version text x = (text ≡ texts.lines (stated_text x.0) ++ x.1) × StatesChoice version x.0.choice
+AreStatedLines version text x = (text ≡ texts.lines (stated_text version x.0) ++ x.1) × StatesChoice version x.0.choice × StatesGrounding version x.0.grounding
 
 stated_is : (version : Version) (line : ℕ) (text : List ℕ) (x : Stated × List ℕ) → stated_at version line text ≡ Ok x → AreStatedLines version text x
 unfolding stated_at
-stated_is One line text x e = subst (AreStatedLines One text) (ok_is (record { choice = Plain }, text) x e) (refl, tt)
-stated_is Two line text x e = subst (AreStatedLines Two text) (ok_is (record { choice = Plain }, text) x e) (refl, tt)
+stated_is One line text x e = subst (AreStatedLines One text) (ok_is (record { grounding = All; choice = Plain }, text) x e) (refl, tt, refl)
+stated_is Two line text x e = subst (AreStatedLines Two text) (ok_is (record { grounding = All; choice = Plain }, text) x e) (refl, tt, refl)
 stated_is Three line text x e =
     let b = bind_ok (number_at line (codes "pattern ") text) _ x e in
     let w = number_line_is line (codes "pattern ") text b.0 b.1 in
-    subst (AreStatedLines Three text) (ok_is (record { choice = Pattern b.0.0 }, b.0.1) x b.2)
-    (w.2 ∙ ap (λ (t : List ℕ). (codes "pattern " ++ t) ++ 10 ∷ b.0.1) (number_word_is w.0 b.0.0 w.1) ∙ sym (one_line (codes "pattern " ++ decimal b.0.0) b.0.1), w.1.small)
+    subst (AreStatedLines Three text) (ok_is (record { grounding = All; choice = Pattern b.0.0 }, b.0.1) x b.2)
+    (w.2 ∙ ap (λ (t : List ℕ). (codes "pattern " ++ t) ++ 10 ∷ b.0.1) (number_word_is w.0 b.0.0 w.1) ∙ sym (one_line (codes "pattern " ++ decimal b.0.0) b.0.1), w.1.small, refl)
+stated_is Four line text x e =
+    let b = bind_ok (grounding_at line text) _ x e in
+    let c = bind_ok (estimate_at (line + 1) b.0.1) _ x b.2 in
+    let said = estimate_line_is (line + 1) b.0.1 c.0 c.1 in
+    subst (AreStatedLines Four text) (ok_is (record { grounding = b.0.0; choice = c.0.0 }, c.0.1) x c.2)
+    (grounding_line_is line text b.0 b.1 ∙ ap (λ (t : List ℕ). grounding_line b.0.0 ++ 10 ∷ t) said.0 ∙ sym (head_then (grounding_line b.0.0) (estimate_line c.0.0) [] c.0.1), said.1, tt)
 
 pub head_is : (text : List ℕ) (x : Spelling × List ℕ) → head_at text ≡ Ok x → (text ≡ texts.lines (head_of x.0) ++ x.1) × IsSpelling x.0
 unfolding head_at
 head_is text x e =
     let a = bind_ok (version_at 1 text) _ x e in
-    let b = bind_ok (kind_at 2 a.0.1) _ x a.2 in
+    let b = bind_ok (kind_at a.0.0 2 a.0.1) _ x a.2 in
     let w = bind_ok (width_at a.0.0 3 b.0.1) _ x b.2 in
     let line = 3 + length (width_text a.0.0 w.0.0) in
     let c = bind_ok (stated_at a.0.0 line w.0.1) _ x w.2 in
     let made : Spelling = spelling_with a.0.0 b.0.0 w.0.0 c.0.0 in
     let width : List (List ℕ) = width_text a.0.0 w.0.0 in
-    let stated : List (List ℕ) = stated_text c.0.0 in
+    let stated : List (List ℕ) = stated_text a.0.0 c.0.0 in
+    let kinds = kind_line_is a.0.0 2 a.0.1 b.0 b.1 in
     let wide = width_line_is a.0.0 3 b.0.1 w.0 w.1 in
     let said = stated_is a.0.0 line w.0.1 c.0 c.1 in
     let behind_kind : b.0.1 ≡ texts.lines (width ++ stated) ++ c.0.1 =
     wide.0 ∙ ap (λ (t : List ℕ). texts.lines width ++ t) said.0 ∙ sym (others_then width stated c.0.1) in
     let is : text ≡ texts.lines (head_of made) ++ c.0.1 =
     version_line_is 1 text a.0 a.1
-    ∙ ap (λ (t : List ℕ). version_line a.0.0 ++ 10 ∷ t) (kind_line_is 2 a.0.1 b.0 b.1 ∙ ap (λ (t : List ℕ). kind_line b.0.0 ++ 10 ∷ t) behind_kind)
+    ∙ ap (λ (t : List ℕ). version_line a.0.0 ++ 10 ∷ t) (kinds.0 ∙ ap (λ (t : List ℕ). kind_line b.0.0 ++ 10 ∷ t) behind_kind)
     ∙ sym (head_then (version_line a.0.0) (kind_line b.0.0) (texts.lines (width ++ stated)) c.0.1) in
-    subst (λ (y : Spelling × List ℕ). (text ≡ texts.lines (head_of y.0) ++ y.1) × IsSpelling y.0) (ok_is (made, c.0.1) x c.2) (is, record { width = wide.1; choice = said.1 })
+    subst (λ (y : Spelling × List ℕ). (text ≡ texts.lines (head_of y.0) ++ y.1) × IsSpelling y.0) (ok_is (made, c.0.1) x c.2) (is, record { width = wide.1; choice = said.1; grounding = said.2; kind = kinds.1 })
 
 weight_line_is : (line : ℕ) (text : List ℕ) (x : Weight × List ℕ) → weight_at line text ≡ Ok x → (words : List ℕ) × BeginsWith text words x.1 × IsWeightLine words x.0
 unfolding weight_at

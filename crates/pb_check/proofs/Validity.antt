@@ -17,12 +17,15 @@ use Rattle.pb_model.specs.Store.{MayBeCut}
 use Rattle.pb_model.specs.Certificate.{Line, Ascends, HasLineWithin, IsPlanIfAny, IsClosedLine, IsValid, cost_of}
 use Rattle.pb_task.specs.declared.kind.Kind.{Kind}
 use Rattle.pb_task.specs.declared.kind.Kind.TheVariants.{Grid, Tiles, Strips}
+use Rattle.pb_task.specs.declared.grounding.Grounding.{Grounding}
+use Rattle.pb_task.specs.declared.grounding.Grounding.TheVariants as groundings
 use Rattle.pb_task.specs.declared.parts.TaskParts.{TaskParts}
 use Rattle.pb_task.specs.Parts.{space_of}
 use Rattle.pb_task.specs.Kinds.{kind_of}
+use Rattle.pb_task.specs.Groundings.{grounding_of}
 use Rattle.pb_task.specs.Widths.{width_of}
 use Rattle.pb_estimate.specs.declared.spelling.Version.{Version}
-use Rattle.pb_estimate.specs.declared.spelling.Version.TheVariants.{One, Two, Three}
+use Rattle.pb_estimate.specs.declared.spelling.Version.TheVariants.{One, Two, Three, Four}
 use Rattle.pb_estimate.specs.Estimates.{estimate_by, suits}
 use Rattle.pb_check.specs.declared.fault.CertificateFault.{CertificateFault}
 use Rattle.pb_check.specs.declared.fault.CertificateFault.TheVariants as faults
@@ -33,7 +36,7 @@ use Rattle.pb_check.specs.Shown.{IsAccepted}
 use Rattle.pb_check.specs.Faults.{◌>>=◌, Gives}
 use Rattle.pb_check.specs.Reading.{Text, text_of}
 use Rattle.pb_check.specs.Spelling.{HasWidthOf}
-use Rattle.pb_check.specs.Judging.{passes, or_then, unless, same_kind, width_fault, stated_fault, is_weight, after_step, walk, plan_fault, plan_fault_if_any, AreAbove, Rise, rows_order_fault, first_fault_by, state_fault, g_of, is_zero, target_fault, step_fault, steps_fault, may_be_cut, row_fault, verdict_of, judged, checked}
+use Rattle.pb_check.specs.Judging.{passes, or_then, unless, same_kind, width_fault, same_grounding, grounding_fault, stated_fault, is_weight, after_step, walk, plan_fault, plan_fault_if_any, AreAbove, Rise, rows_order_fault, first_fault_by, state_fault, g_of, is_zero, target_fault, step_fault, steps_fault, may_be_cut, row_fault, verdict_of, judged, checked}
 use Rattle.pb_check.proofs.Finding.{order_rises}
 use Rattle.pb_check.proofs.Spelled.{bind_ok, ok_is, spelled}
 use Rattle.pb_check.proofs.Written.{is_spelled}
@@ -52,7 +55,7 @@ first_none : (a b : Option CertificateFault) → or_then a b ≡ None → (a ≡
 first_none None b e = (refl, e)
 first_none (Some f) b e = absurd cc
 
--- ---- kind, width and weight
+-- ---- kind, width, grounding and weight
 
 pub kinds_same : (a b : Kind) → same_kind a b ≡ true → b ≡ a
 kinds_same Grid Grid e = refl
@@ -69,6 +72,13 @@ pub width_suits : (parts : TaskParts) (version : Version) (width : ℕ) → widt
 width_suits parts One width e = tt
 width_suits parts Two width e = eqb-true _ _ (holds (eqb width (width_of parts)) (faults.Width width (width_of parts)) e)
 width_suits parts Three width e = eqb-true _ _ (holds (eqb width (width_of parts)) (faults.Width width (width_of parts)) e)
+width_suits parts Four width e = eqb-true _ _ (holds (eqb width (width_of parts)) (faults.Width width (width_of parts)) e)
+
+pub groundings_same : (a b : Grounding) → same_grounding a b ≡ true → b ≡ a
+groundings_same groundings.All groundings.All e = refl
+groundings_same groundings.Reachable groundings.Reachable e = refl
+groundings_same groundings.All groundings.Reachable e = absurd cc
+groundings_same groundings.Reachable groundings.All e = absurd cc
 
 pub weighs : (weight : Weight) → is_weight weight ≡ true → IsWeight weight
 weighs weight e =
@@ -217,6 +227,7 @@ stated_estimate parts text = estimate_by parts text.spelling.stated.choice
 pub record IsJudged (parts : TaskParts) (text : Text) (verdict : Verdict) : Type 0 where
   pub kind : text.spelling.kind ≡ kind_of parts
   pub width : HasWidthOf parts text.spelling.version text.spelling.width
+  pub grounding : text.spelling.stated.grounding ≡ grounding_of parts
   pub stated : suits parts text.spelling.stated.choice ≡ true
   pub valid : IsValid (space_of parts) (stated_estimate parts text) text.certificate
   pub verdict_is : verdict ≡ verdict_of text.certificate.weight text.certificate.plan
@@ -232,7 +243,8 @@ judged_valid parts greatest text verdict proper e =
     let best = cost_of text.certificate.plan in
     let b1 = bind_ok (passes (unless (same_kind kind text.spelling.kind) faults.Kind)) _ verdict e in
     let bw = bind_ok (passes (width_fault parts text.spelling.version text.spelling.width)) _ verdict b1.2 in
-    let b0 = bind_ok (passes (stated_fault parts text.spelling.stated)) _ verdict bw.2 in
+    let bg = bind_ok (passes (grounding_fault parts text.spelling.stated)) _ verdict bw.2 in
+    let b0 = bind_ok (passes (stated_fault parts text.spelling.stated)) _ verdict bg.2 in
     let b2 = bind_ok (passes (unless (is_weight weight) faults.Weight)) _ verdict b0.2 in
     let b3 = bind_ok (plan_fault_if_any space text.certificate.plan) _ verdict b2.2 in
     let b4 = bind_ok (passes (rows_order_fault text.first lines)) _ verdict b3.2 in
@@ -241,6 +253,7 @@ judged_valid parts greatest text verdict proper e =
     let b7 = bind_ok (passes (first_fault_by (row_fault space estimate weight best lines) text.first lines)) _ verdict b6.2 in record {
       kind = kinds_same kind text.spelling.kind (holds (same_kind kind text.spelling.kind) faults.Kind (passed (unless (same_kind kind text.spelling.kind) faults.Kind) b1.0 b1.1));
       width = width_suits parts text.spelling.version text.spelling.width (passed (width_fault parts text.spelling.version text.spelling.width) bw.0 bw.1);
+      grounding = groundings_same (grounding_of parts) text.spelling.stated.grounding (holds (same_grounding (grounding_of parts) text.spelling.stated.grounding) faults.Grounding (passed (grounding_fault parts text.spelling.stated) bg.0 bg.1));
       stated = holds (suits parts text.spelling.stated.choice) faults.Pattern (passed (stated_fault parts text.spelling.stated) b0.0 b0.1);
       valid = record {
         weight = weighs weight (holds (is_weight weight) faults.Weight (passed (unless (is_weight weight) faults.Weight) b2.0 b2.1));
@@ -265,6 +278,7 @@ accepted parts greatest bytes verdict proper e =
       spelled = is_spelled bytes b.0 (spelled bytes b.0 b.1);
       kind = v.kind;
       width = v.width;
+      grounding = v.grounding;
       stated = v.stated;
       valid = v.valid;
       verdict_is = v.verdict_is;

@@ -9,6 +9,7 @@ use Rattle.pb_model.specs.Certificate.{Line, Certificate, Ascends, HasLineWithin
 use Rattle.pb_task.specs.declared.parts.TaskParts.{TaskParts}
 use Rattle.pb_task.specs.Parts.{space_of, IsTask}
 use Rattle.pb_task.specs.Kinds.{kind_of}
+use Rattle.pb_task.specs.Groundings.{grounding_of}
 use Rattle.pb_task.specs.Widths.{width_of}
 use Rattle.pb_estimate.specs.declared.spelling.Spelling.{Spelling}
 use Rattle.pb_estimate.specs.declared.choice.Choice.TheVariants.{Pattern}
@@ -61,9 +62,15 @@ abbrev pub HasFormOf : TaskParts → Spelling → Type 0
 HasFormOf parts spelling =
     (spelling.kind ≡ kind_of parts) × HasWidthOf parts spelling.version spelling.width
 
+-- .. and the grounding is the task's; before version 4 it is that all ground atoms have numbers
+abbrev pub HasGroundingOf : TaskParts → Spelling → Type 0
+HasGroundingOf parts spelling =
+    HasFormOf parts spelling × (spelling.stated.grounding ≡ grounding_of parts)
+
 -- .. and the choice of an estimate that it states suits the task
 abbrev pub IsForTask : TaskParts → Spelling → Type 0
-IsForTask parts spelling = HasFormOf parts spelling × (suits parts spelling.stated.choice ≡ true)
+IsForTask parts spelling =
+    HasGroundingOf parts spelling × (suits parts spelling.stated.choice ≡ true)
 
 -- .. and its weight is one
 abbrev pub HasWeight : TaskParts → Spelling → Certificate → Type 0
@@ -214,8 +221,11 @@ IsCaseOf parts bytes (faults.Width said wanted) =
     IsSaid bytes (λ spelling certificate. (spelling.kind ≡ kind_of parts)
     × (spelling.version ≢ One) × (said ≡ spelling.width) × (wanted ≡ width_of parts)
     × (said ≢ wanted))
-IsCaseOf parts bytes faults.Pattern =
+IsCaseOf parts bytes faults.Grounding =
     IsSaid bytes (λ spelling certificate. HasFormOf parts spelling
+    × (spelling.stated.grounding ≢ grounding_of parts))
+IsCaseOf parts bytes faults.Pattern =
+    IsSaid bytes (λ spelling certificate. HasGroundingOf parts spelling
     × IsPatternFault spelling)
 IsCaseOf parts bytes faults.Weight =
     IsSaid bytes (λ spelling certificate. IsForTask parts spelling

@@ -9,13 +9,16 @@ use Rattle.pb_model.specs.Plan.{Plan}
 use Rattle.pb_model.specs.Certificate.{Line, cost_of}
 use Rattle.pb_task.specs.declared.kind.Kind.{Kind}
 use Rattle.pb_task.specs.declared.kind.Kind.TheVariants.{Grid, Tiles, Strips}
+use Rattle.pb_task.specs.declared.grounding.Grounding.{Grounding}
+use Rattle.pb_task.specs.declared.grounding.Grounding.TheVariants.{All, Reachable}
 use Rattle.pb_task.specs.declared.parts.TaskParts.{TaskParts}
 use Rattle.pb_task.specs.Parts.{space_of}
 use Rattle.pb_task.specs.Kinds.{kind_of}
+use Rattle.pb_task.specs.Groundings.{grounding_of}
 use Rattle.pb_task.specs.Widths.{width_of}
 use Rattle.pb_estimate.specs.declared.spelling.Stated.{Stated}
 use Rattle.pb_estimate.specs.declared.spelling.Version.{Version}
-use Rattle.pb_estimate.specs.declared.spelling.Version.TheVariants.{One, Two, Three}
+use Rattle.pb_estimate.specs.declared.spelling.Version.TheVariants.{One, Two, Three, Four}
 use Rattle.pb_estimate.specs.Estimates.{estimate_by, suits}
 use Rattle.pb_check.specs.declared.fault.CertificateFault.{CertificateFault}
 use Rattle.pb_check.specs.declared.fault.CertificateFault.TheVariants as faults
@@ -55,14 +58,28 @@ width_fault parts One width = None
 width_fault parts Two width = unless (width == width_of parts) (faults.Width width (width_of parts))
 width_fault parts Three width =
     unless (width == width_of parts) (faults.Width width (width_of parts))
+width_fault parts Four width =
+    unless (width == width_of parts) (faults.Width width (width_of parts))
 
--- the fault of what a text states besides, for this task: that its choice of an estimate doesn't
--- suit the task
+abbrev pub same_grounding : Grounding → Grounding → Bool
+same_grounding All All = true
+same_grounding Reachable Reachable = true
+same_grounding All Reachable = false
+same_grounding Reachable All = false
+
+-- the fault of the grounding that a text states, for this task: that it is another one than the
+-- task's
+abbrev pub grounding_fault : TaskParts → Stated → Option CertificateFault
+grounding_fault parts stated =
+    unless (same_grounding (grounding_of parts) stated.grounding) faults.Grounding
+
+-- the fault of the choice of an estimate that a text states, for this task: that it doesn't suit the
+-- task
 abbrev pub stated_fault : TaskParts → Stated → Option CertificateFault
 stated_fault parts stated = unless (suits parts stated.choice) faults.Pattern
 
--- What a text states besides is no fault if and only if its choice of an estimate suits the task, so
--- that its estimates are admissible. Such a choice is the one that an estimator is made by.
+-- The choice of an estimate that a text states is no fault if and only if it suits the task, so that
+-- its estimates are admissible. Such a choice is the one that an estimator is made by.
 abbrev pub StatedChoicesSuit : Type 0
 StatedChoicesSuit =
     (parts : TaskParts) (stated : Stated)
@@ -187,6 +204,7 @@ unfoldable pub judged : TaskParts → Text → Result Verdict CertificateFault
 judged parts text = do
   kinds ← passes (unless (same_kind (kind_of parts) text.spelling.kind) faults.Kind)
   widths ← passes (width_fault parts text.spelling.version text.spelling.width)
+  groundings ← passes (grounding_fault parts text.spelling.stated)
   stated ← passes (stated_fault parts text.spelling.stated)
   weights ← passes (unless (is_weight text.certificate.weight) faults.Weight)
   plans ← plan_fault_if_any (space_of parts) text.certificate.plan
@@ -204,6 +222,7 @@ unfoldable pub judged_head : TaskParts → Text → Result Bool CertificateFault
 judged_head parts text = do
   kinds ← passes (unless (same_kind (kind_of parts) text.spelling.kind) faults.Kind)
   widths ← passes (width_fault parts text.spelling.version text.spelling.width)
+  groundings ← passes (grounding_fault parts text.spelling.stated)
   stated ← passes (stated_fault parts text.spelling.stated)
   weights ← passes (unless (is_weight text.certificate.weight) faults.Weight)
   plan_fault_if_any (space_of parts) text.certificate.plan

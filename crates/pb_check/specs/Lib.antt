@@ -2,6 +2,7 @@ pub use Rattle.pb_estimate.specs.Estimates
 pub use Rattle.pb_estimate.specs.Spelling as EstimateSpelling
 pub use Rattle.pb_estimate.specs.Tables
 pub use Rattle.pb_lines.specs.Words as LinesWords
+pub use Rattle.pb_task.specs.Groundings
 pub use Rattle.pb_task.specs.Kinds
 pub use Rattle.pb_task.specs.Parts
 pub mod Faults

@@ -7,13 +7,15 @@ use Rattle.pb_model.specs.Plan.{Plan}
 use Rattle.pb_model.specs.Certificate.{Line, Certificate}
 use Rattle.pb_task.specs.declared.kind.Kind.{Kind}
 use Rattle.pb_task.specs.declared.kind.Kind.TheVariants.{Grid, Tiles, Strips}
+use Rattle.pb_task.specs.declared.grounding.Grounding.{Grounding}
+use Rattle.pb_task.specs.declared.grounding.Grounding.TheVariants.{All, Reachable}
 use Rattle.pb_estimate.specs.declared.choice.Choice.{Choice}
 use Rattle.pb_estimate.specs.declared.choice.Choice.TheVariants.{Plain, Pattern}
 use Rattle.pb_estimate.specs.declared.spelling.Stated.{Stated}
 use Rattle.pb_estimate.specs.declared.spelling.Spelling.{Spelling}
 use Rattle.pb_estimate.specs.declared.spelling.Version.{Version}
-use Rattle.pb_estimate.specs.declared.spelling.Version.TheVariants.{One, Two, Three}
-use Rattle.pb_estimate.specs.Spelling.{version_line, kind_line, width_text, head_lines}
+use Rattle.pb_estimate.specs.declared.spelling.Version.TheVariants.{One, Two, Three, Four}
+use Rattle.pb_estimate.specs.Spelling.{version_line, kind_line, width_text, grounding_line, estimate_line, head_lines}
 use Rattle.pb_check.specs.declared.fault.CertificateFault.{CertificateFault}
 use Rattle.pb_check.specs.declared.fault.CertificateFault.TheVariants.{Syntax}
 use Rattle.pb_check.specs.Faults.{◌>>=◌, wanted}
@@ -35,7 +37,8 @@ unfoldable pub version_in : (line : ℕ) → List ℕ → Result Version Certifi
 version_in line text =
     if is_text (version_line One) text then Ok One
     else (if is_text (version_line Two) text then Ok Two
-    else (if is_text (version_line Three) text then Ok Three else Err (Syntax line)))
+    else (if is_text (version_line Three) text then Ok Three
+    else (if is_text (version_line Four) text then Ok Four else Err (Syntax line))))
 
 unfoldable pub kind_in : (line : ℕ) → List ℕ → Result Kind CertificateFault
 kind_in line text =
@@ -43,11 +46,33 @@ kind_in line text =
     else (if is_text (kind_line Tiles) text then Ok Tiles
     else (if is_text (kind_line Strips) text then Ok Strips else Err (Syntax line)))
 
+-- a kind of task that this version is for: version 4 is for STRIPS alone
+abbrev pub kind_for : Version → (line : ℕ) → Kind → Result Kind CertificateFault
+kind_for One line kind = Ok kind
+kind_for Two line kind = Ok kind
+kind_for Three line kind = Ok kind
+kind_for Four line Grid = Err (Syntax line)
+kind_for Four line Tiles = Err (Syntax line)
+kind_for Four line Strips = Ok Strips
+
 -- how many digits a state has, from 1 to 256
 unfoldable pub width_in : (line : ℕ) → List ℕ → Result ℕ CertificateFault
 width_in line text = do
   width ← number_behind line (codes "width ") text
   if nat_le 1 width && nat_le width most_digits then Ok width else Err (Syntax line)
+
+-- which ground atoms and actions have numbers
+unfoldable pub grounding_in : (line : ℕ) → List ℕ → Result Grounding CertificateFault
+grounding_in line text =
+    if is_text (grounding_line All) text then Ok All
+    else (if is_text (grounding_line Reachable) text then Ok Reachable else Err (Syntax line))
+
+-- the choice of an estimate, as version 4 says it: the number of a pattern may be any
+unfoldable pub estimate_in : (line : ℕ) → List ℕ → Result Choice CertificateFault
+estimate_in line text =
+    if is_text (estimate_line Plain) text then Ok Plain else (do
+      number ← number_behind line (codes "estimate pattern ") text
+      Ok (Pattern number))
 
 unfoldable pub weight_in : (line : ℕ) → List ℕ → Result Weight CertificateFault
 weight_in line text = do
@@ -91,10 +116,11 @@ version_at line text = do
   version ← version_in line first.0
   Ok (version, first.1)
 
-unfoldable pub kind_at : (line : ℕ) → List ℕ → Result (Kind × List ℕ) CertificateFault
-kind_at line text = do
+-- the kind of task, in a text of this version
+unfoldable pub kind_at : Version → (line : ℕ) → List ℕ → Result (Kind × List ℕ) CertificateFault
+kind_at version line text = do
   first ← line_at line text
-  kind ← kind_in line first.0
+  kind ← kind_in line first.0 >>= kind_for version line
   Ok (kind, first.1)
 
 -- the line that says how many digits a state has
@@ -109,22 +135,43 @@ unfoldable pub width_at : Version → (line : ℕ) → List ℕ → Result (ℕ 
 width_at One line text = Ok (version_1_digits, text)
 width_at Two line text = width_line_at line text
 width_at Three line text = width_line_at line text
+width_at Four line text = width_line_at line text
 
--- What is stated besides: in version 3 the number of a pattern, which may be any, in a line. Before
--- that the choice is the plain one, and no line says it.
+-- the line that says which ground atoms and actions have numbers
+unfoldable pub grounding_at : (line : ℕ) → List ℕ → Result (Grounding × List ℕ) CertificateFault
+grounding_at line text = do
+  first ← line_at line text
+  grounding ← grounding_in line first.0
+  Ok (grounding, first.1)
+
+-- the line of version 4 that says the choice of an estimate
+unfoldable pub estimate_at : (line : ℕ) → List ℕ → Result (Choice × List ℕ) CertificateFault
+estimate_at line text = do
+  first ← line_at line text
+  choice ← estimate_in line first.0
+  Ok (choice, first.1)
+
+-- What is stated besides. Version 4 says it in two lines: which ground atoms and actions have
+-- numbers, and the choice of an estimate. Before that all of them have numbers, and no line says so.
+-- Version 3 has the number of a pattern, which may be any, in a line. Before that the choice is the
+-- plain one, and no line says it.
 unfoldable pub stated_at : Version → (line : ℕ) → List ℕ
     → Result (Stated × List ℕ) CertificateFault
-stated_at One line text = Ok (record { choice = Plain }, text)
-stated_at Two line text = Ok (record { choice = Plain }, text)
+stated_at One line text = Ok (record { grounding = All; choice = Plain }, text)
+stated_at Two line text = Ok (record { grounding = All; choice = Plain }, text)
 stated_at Three line text = do
   number ← number_at line (codes "pattern ") text
-  Ok (record { choice = Pattern number.0 }, number.1)
+  Ok (record { grounding = All; choice = Pattern number.0 }, number.1)
+stated_at Four line text = do
+  grounding ← grounding_at line text
+  choice ← estimate_at (line + 1) grounding.1
+  Ok (record { grounding = grounding.0; choice = choice.0 }, choice.1)
 
 -- the lines before the weight
 unfoldable pub head_at : List ℕ → Result (Spelling × List ℕ) CertificateFault
 head_at text = do
   version ← version_at 1 text
-  kind ← kind_at 2 version.1
+  kind ← kind_at version.0 2 version.1
   width ← width_at version.0 3 kind.1
   stated ← stated_at version.0 (3 + length (width_text version.0 width.0)) width.1
   Ok (

@@ -7,6 +7,7 @@ use Rattle.pb_model.specs.Certificate.{Certificate, IsValid, ClaimHolds}
 use Rattle.pb_task.specs.declared.parts.TaskParts.{TaskParts}
 use Rattle.pb_task.specs.Parts.{space_of}
 use Rattle.pb_task.specs.Kinds.{kind_of}
+use Rattle.pb_task.specs.Groundings.{grounding_of}
 use Rattle.pb_estimate.specs.declared.spelling.Spelling.{Spelling}
 use Rattle.pb_estimate.specs.Estimates.{estimate_by, suits}
 use Rattle.pb_lines.specs.Words.{line_feeds}
@@ -24,6 +25,7 @@ pub record IsAccepted (parts : TaskParts) (bytes : List ℕ) (verdict : Verdict)
   pub spelled : IsSpelled bytes spelling certificate
   pub kind : spelling.kind ≡ kind_of parts
   pub width : HasWidthOf parts spelling.version spelling.width
+  pub grounding : spelling.stated.grounding ≡ grounding_of parts
   pub stated : suits parts spelling.stated.choice ≡ true
   pub valid : IsValid (space_of parts) (estimate_by parts spelling.stated.choice) certificate
   pub verdict_is : verdict ≡ verdict_of certificate.weight certificate.plan

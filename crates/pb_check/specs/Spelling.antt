@@ -6,7 +6,7 @@ use Rattle.pb_task.specs.declared.parts.TaskParts.{TaskParts}
 use Rattle.pb_task.specs.Widths.{width_of}
 use Rattle.pb_estimate.specs.declared.spelling.Spelling.{Spelling}
 use Rattle.pb_estimate.specs.declared.spelling.Version.{Version}
-use Rattle.pb_estimate.specs.declared.spelling.Version.TheVariants.{One, Two, Three}
+use Rattle.pb_estimate.specs.declared.spelling.Version.TheVariants.{One, Two, Three, Four}
 use Rattle.pb_estimate.specs.Spelling.{IsSpelling, spelled_text}
 use Rattle.pb_check.specs.Reading.{Text, first_line, text_of}
 
@@ -44,6 +44,7 @@ abbrev pub HasWidthOf : TaskParts → Version → (width : ℕ) → Type 0
 HasWidthOf parts One width = ⊤
 HasWidthOf parts Two width = width ≡ width_of parts
 HasWidthOf parts Three width = width ≡ width_of parts
+HasWidthOf parts Four width = width ≡ width_of parts
 
 -- What is read is spelled so, and what is spelled so is read, with the line of the first row.
 abbrev pub ReadAsSpelled : Type 0

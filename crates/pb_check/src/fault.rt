@@ -15,10 +15,13 @@ pub enum CertificateFault {
     Syntax { line: u64 },
     /// It is for a task of another kind.
     Kind,
-    /// It is of version 2 or 3 and says that a state has `said` hexadecimal digits; those of the
-    /// task's states are `wanted`.
+    /// It is of version 2 or a later one and says that a state has `said` hexadecimal digits; those
+    /// of the task's states are `wanted`.
     Width { said: u32, wanted: u32 },
-    /// It is of version 3, and the number of a pattern that it states is not from 1 to 12.
+    /// Its grounding is another one than the task's. Before version 4 it is the one in which all
+    /// ground atoms and actions have numbers.
+    Grounding,
+    /// It states a pattern, by a number that is not from 1 to 12.
     Pattern,
     /// The weight is not a fraction from 1 to 1000 whose denominator is at least 1 and whose
     /// numerator is at most 1000.

@@ -1,17 +1,19 @@
 //! The lines before the weight, and the choice of an estimate that they state.
-ghost use Rattle.std.specs.Prelude.{◌≡◌, ◌≤◌, ◌+◌, ◌<◌, length, IfOk, IfErr, Err, Ok, Result, true};
+ghost use Rattle.std.specs.Prelude.{◌≡◌, ◌≤◌, ◌+◌, ◌<◌, ◌^◌, length, IfOk, IfErr, Err, Ok, Result, true};
 ghost use Rattle.pb_packed.specs.Sizes.{most_digits};
 ghost use Rattle.pb_task.specs.declared.parts.TaskParts.{TaskParts};
 ghost use Rattle.pb_estimate.specs.Estimates.{suits};
 ghost use Rattle.pb_estimate.specs.Spelling.{width_text, stated_text, head_lines};
 ghost use Rattle.pb_check.specs.Faults.{Gives, IsFault};
-ghost use Rattle.pb_check.specs.Reading.{line_at, version_in, kind_in, width_in, number_at, version_at, kind_at, width_line_at, width_at, stated_at, head_at, suiting, stated_choice};
+ghost use Rattle.pb_check.specs.Reading.{line_at, version_in, kind_in, kind_for, width_in, grounding_in, estimate_in, number_at, version_at, kind_at, width_line_at, width_at, grounding_at, estimate_at, stated_at, head_at, suiting, stated_choice};
 
 use crate::fault::CheckError;
-use crate::line::{kind_in, line_at, number_at, version_in, width_in};
+use crate::line::{
+    estimate_in, grounding_in, kind_for, kind_in, line_at, number_at, version_in, width_in,
+};
 use pb_estimate::{Choice, Spelling, Stated, Version};
 use pb_packed::DIGITS;
-use pb_task::Kind;
+use pb_task::{Grounding, Kind};
 
 #[tactic(auto, unfolding(crate::specs::Reading::version_at))]
 fn version_at(line: u64, text: &[u8]) -> Result<(Version, &[u8]), CheckError>
@@ -25,13 +27,14 @@ fn version_at(line: u64, text: &[u8]) -> Result<(Version, &[u8]), CheckError>
 }
 
 #[tactic(auto, unfolding(crate::specs::Reading::kind_at))]
-fn kind_at(line: u64, text: &[u8]) -> Result<(Kind, &[u8]), CheckError>
-    ensures gives { Gives (λ x. (x.0, x.1.now)) result (kind_at line text.now) }
+fn kind_at(version: Version, line: u64, text: &[u8]) -> Result<(Kind, &[u8]), CheckError>
+    ensures gives { Gives (λ x. (x.0, x.1.now)) result (kind_at version line text.now) }
     ensures shorter { IfOk result (λ x. length x.1.now + 1 ≤ length text.now) }
     ensures fault { IfErr result IsFault }
 {
     let (first, rest) = line_at(line, text)?;
-    let kind = kind_in(line, first)?;
+    let said = kind_in(line, first)?;
+    let kind = kind_for(version, line, said)?;
     Ok((kind, rest))
 }
 
@@ -61,22 +64,48 @@ fn width_at(version: Version, line: u64, text: &[u8]) -> Result<(u32, &[u8]), Ch
 {
     match version {
         Version::One => Ok((DIGITS as u32, text)),
-        Version::Two | Version::Three => width_line_at(line, text),
+        Version::Two | Version::Three | Version::Four => width_line_at(line, text),
     }
 }
 
-// What is stated besides: in version 3 the number of a pattern, and before that the plain choice,
-// in no line.
+#[tactic(auto, unfolding(crate::specs::Reading::grounding_at))]
+fn grounding_at(line: u64, text: &[u8]) -> Result<(Grounding, &[u8]), CheckError>
+    ensures gives { Gives (λ x. (x.0, x.1.now)) result (grounding_at line text.now) }
+    ensures shorter { IfOk result (λ x. length x.1.now + 1 ≤ length text.now) }
+    ensures fault { IfErr result IsFault }
+{
+    let (first, rest) = line_at(line, text)?;
+    let grounding = grounding_in(line, first)?;
+    Ok((grounding, rest))
+}
+
+// The line of version 4 that says the choice of an estimate.
+#[tactic(auto, unfolding(crate::specs::Reading::estimate_at))]
+fn estimate_at(line: u64, text: &[u8]) -> Result<(Choice, &[u8]), CheckError>
+    ensures gives { Gives (λ x. (x.0, x.1.now)) result (estimate_at line text.now) }
+    ensures shorter { IfOk result (λ x. length x.1.now + 1 ≤ length text.now) }
+    ensures fault { IfErr result IsFault }
+{
+    let (first, rest) = line_at(line, text)?;
+    let choice = estimate_in(line, first)?;
+    Ok((choice, rest))
+}
+
+// What is stated besides: in version 4 the grounding and the choice of an estimate, and in version
+// 3 the number of a pattern. What isn't stated is that all ground atoms and actions have numbers,
+// and the plain choice.
 #[tactic(auto, unfolding(crate::specs::Reading::stated_at))]
 fn stated_at(version: Version, line: u64, text: &[u8]) -> Result<(Stated, &[u8]), CheckError>
+    requires { line < 2 ^ 63 }
     ensures gives { Gives (λ x. (x.0, x.1.now)) result (stated_at version line text.now) }
-    ensures shorter { IfOk result (λ x. length x.1.now + length (stated_text x.0)
+    ensures shorter { IfOk result (λ x. length x.1.now + length (stated_text version x.0)
         ≤ length text.now) }
     ensures fault { IfErr result IsFault }
 {
     match version {
         Version::One | Version::Two => {
             let stated = Stated {
+                grounding: Grounding::All,
                 choice: Choice::Plain,
             };
             Ok((stated, text))
@@ -84,9 +113,15 @@ fn stated_at(version: Version, line: u64, text: &[u8]) -> Result<(Stated, &[u8])
         Version::Three => {
             let (number, rest) = number_at(line, text, b"pattern ")?;
             let stated = Stated {
+                grounding: Grounding::All,
                 choice: Choice::Pattern(number),
             };
             Ok((stated, rest))
+        }
+        Version::Four => {
+            let (grounding, rest) = grounding_at(line, text)?;
+            let (choice, rest) = estimate_at(line + 1, rest)?;
+            Ok((Stated { grounding, choice }, rest))
         }
     }
 }
@@ -101,7 +136,7 @@ pub(crate) fn head_at(text: &[u8]) -> Result<(Spelling, &[u8]), CheckError>
     ensures fault { IfErr result IsFault }
 {
     let (version, rest) = version_at(1, text)?;
-    let (kind, rest) = kind_at(2, rest)?;
+    let (kind, rest) = kind_at(version, 2, rest)?;
     let (width, rest) = width_at(version, 3, rest)?;
     let line = 3 + u64::from(version.width_lines());
     let (stated, rest) = stated_at(version, line, rest)?;

@@ -7,7 +7,7 @@ ghost use Rattle.pb_estimate.specs.Estimates.{estimate_by, suits};
 ghost use Rattle.pb_estimate.specs.Tables.{IsOfTask};
 ghost use Rattle.pb_check.specs.Faults.{Gives};
 ghost use Rattle.pb_check.specs.Reading.{suiting};
-ghost use Rattle.pb_check.specs.Judging.{passes, unless, same_kind, width_fault, stated_fault, is_weight, rows_order_fault, first_fault_by, state_fault, g_of, is_zero, row_fault, bound_of, verdict_of, start_judged, judged, judged_head, judged_before, Rise};
+ghost use Rattle.pb_check.specs.Judging.{passes, unless, same_kind, width_fault, same_grounding, grounding_fault, stated_fault, is_weight, rows_order_fault, first_fault_by, state_fault, g_of, is_zero, row_fault, bound_of, verdict_of, start_judged, judged, judged_head, judged_before, Rise};
 
 use crate::fault::{CertificateFault, CheckError, Claim, Verdict};
 use crate::passing::{need, pass, unless};
@@ -16,7 +16,7 @@ use crate::row_faults::{rows_fault, rows_order_fault, states_fault};
 use crate::rows::StatedRows;
 use crate::stated::{StatedPlan, StatedText, StatedWeight};
 use pb_estimate::{Choice, Estimator, Stated, Version};
-use pb_task::{Kind, Task};
+use pb_task::{Grounding, Kind, Task};
 use std::alloc::Global;
 
 fn same_kind(one: Kind, two: Kind) -> bool
@@ -35,7 +35,7 @@ fn width_fault(task: &Task, version: Version, width: u32) -> Option<CertificateF
 {
     match version {
         Version::One => None,
-        Version::Two | Version::Three => {
+        Version::Two | Version::Three | Version::Four => {
             let wanted = task.width();
             unless(
                 width == wanted,
@@ -48,7 +48,26 @@ fn width_fault(task: &Task, version: Version, width: u32) -> Option<CertificateF
     }
 }
 
-// The fault of what a text states besides.
+fn same_grounding(one: Grounding, two: Grounding) -> bool
+    ensures { result ≡ same_grounding one two }
+{
+    match (one, two) {
+        (Grounding::All, Grounding::All) | (Grounding::Reachable, Grounding::Reachable) => true,
+        (Grounding::All, Grounding::Reachable) | (Grounding::Reachable, Grounding::All) => false,
+    }
+}
+
+// The fault of the grounding that a text states.
+fn grounding_fault(task: &Task, stated: &Stated) -> Option<CertificateFault>
+    ensures { result ≡ grounding_fault task.now stated.now }
+{
+    unless(
+        same_grounding(task.grounding(), stated.grounding),
+        CertificateFault::Grounding,
+    )
+}
+
+// The fault of the choice of an estimate that a text states.
 fn stated_fault(task: &Task, stated: &Stated) -> Option<CertificateFault>
     ensures fault { result ≡ stated_fault task.now stated.now }
     ensures suits { result ≡ None → suits task.now stated.now.choice ≡ true }
@@ -148,6 +167,7 @@ pub fn judge_head(task: &Task, text: &StatedText<'_>) -> Result<bool, CheckError
         CertificateFault::Kind,
     )?;
     pass(width_fault(task, text.spelling.version, text.spelling.width))?;
+    pass(grounding_fault(task, stated))?;
     pass(stated_fault(task, stated))?;
     need(is_weight(weight), CertificateFault::Weight)?;
     judge_plan_if_any(task, &text.plan)

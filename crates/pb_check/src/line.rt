@@ -3,14 +3,14 @@ ghost use Rattle.std.specs.Prelude.{◌≤◌, ◌+◌, ◌<◌, ◌^◌, length
 ghost use Rattle.pb_packed.specs.Sizes.{most_digits};
 ghost use Rattle.pb_lines.specs.Words.{number_of, behind, part};
 ghost use Rattle.pb_check.specs.Faults.{Gives, IsFault, wanted};
-ghost use Rattle.pb_check.specs.Reading.{line_at, number_behind, version_in, kind_in, width_in, weight_in, fixed_at, number_at};
+ghost use Rattle.pb_check.specs.Reading.{line_at, number_behind, version_in, kind_in, kind_for, width_in, grounding_in, estimate_in, weight_in, fixed_at, number_at};
 
 use crate::fault::{CertificateFault, CheckError};
 use crate::stated::StatedWeight;
-use pb_estimate::Version;
+use pb_estimate::{Choice, Version};
 use pb_lines::{behind, is_text, number_of, part};
 use pb_packed::MOST_DIGITS;
-use pb_task::Kind;
+use pb_task::{Grounding, Kind};
 
 // A line, and the text after it.
 pub(crate) fn line_at(line: u64, text: &[u8]) -> Result<(&[u8], &[u8]), CheckError>
@@ -57,6 +57,8 @@ pub(crate) fn version_in(line: u64, text: &[u8]) -> Result<Version, CheckError>
         Ok(Version::Two)
     } else if is_text(text, b"pbnf-certificate 3") {
         Ok(Version::Three)
+    } else if is_text(text, b"pbnf-certificate 4") {
+        Ok(Version::Four)
     } else {
         Err(CheckError::Fault(CertificateFault::Syntax { line }))
     }
@@ -75,6 +77,20 @@ pub(crate) fn kind_in(line: u64, text: &[u8]) -> Result<Kind, CheckError>
         Ok(Kind::Strips)
     } else {
         Err(CheckError::Fault(CertificateFault::Syntax { line }))
+    }
+}
+
+// A kind of task that this version is for.
+pub(crate) fn kind_for(version: Version, line: u64, kind: Kind) -> Result<Kind, CheckError>
+    ensures gives { Gives (λ x. x) result (kind_for version line kind) }
+    ensures fault { IfErr result IsFault }
+{
+    match (version, kind) {
+        (Version::One | Version::Two | Version::Three, kind) => Ok(kind),
+        (Version::Four, Kind::Strips) => Ok(Kind::Strips),
+        (Version::Four, Kind::Grid | Kind::Tiles) => Err(CheckError::Fault(
+            CertificateFault::Syntax { line },
+        )),
     }
 }
 
@@ -110,6 +126,33 @@ pub(crate) fn width_in(line: u64, text: &[u8]) -> Result<u32, CheckError>
     } else {
         Err(CheckError::Fault(CertificateFault::Syntax { line }))
     }
+}
+
+#[tactic(auto, unfolding(crate::specs::Reading::grounding_in))]
+pub(crate) fn grounding_in(line: u64, text: &[u8]) -> Result<Grounding, CheckError>
+    ensures gives { Gives (λ x. x) result (grounding_in line text.now) }
+    ensures fault { IfErr result IsFault }
+{
+    if is_text(text, b"grounding all") {
+        Ok(Grounding::All)
+    } else if is_text(text, b"grounding reachable") {
+        Ok(Grounding::Reachable)
+    } else {
+        Err(CheckError::Fault(CertificateFault::Syntax { line }))
+    }
+}
+
+// The choice of an estimate, as version 4 says it.
+#[tactic(auto, unfolding(crate::specs::Reading::estimate_in))]
+pub(crate) fn estimate_in(line: u64, text: &[u8]) -> Result<Choice, CheckError>
+    ensures gives { Gives (λ x. x) result (estimate_in line text.now) }
+    ensures fault { IfErr result IsFault }
+{
+    if is_text(text, b"estimate plain") {
+        return Ok(Choice::Plain);
+    }
+    let number = number_behind(line, text, b"estimate pattern ")?;
+    Ok(Choice::Pattern(number))
 }
 
 #[tactic(auto, unfolding(crate::specs::Reading::weight_in))]

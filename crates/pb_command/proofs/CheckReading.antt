@@ -8,15 +8,15 @@ use Rattle.clap.specs.Walk.{Row as MatchRow, Text, rows_after, with_default, fir
 use Rattle.clap.specs.Faults.{check_fault, defaults_fault}
 use Rattle.pb_command.specs.declared.command.InputOptions.{InputOptions}
 use Rattle.pb_command.specs.declared.table.ValuedOption.TheVariants.{Row, Workers, Rewrite}
-use Rattle.pb_command.specs.declared.table.FlagOption.TheVariants.{Swamp}
+use Rattle.pb_command.specs.declared.table.FlagOption.TheVariants.{Swamp, Reachable}
 use Rattle.pb_command.specs.Table.{check_options, check_flags}
-use Rattle.pb_command.specs.Values.{InputNames, Grid, Tiles, Strips, kind_of_text, values_fit, number_at, flag_at, text_at, is_input_name, is_loaded_name}
+use Rattle.pb_command.specs.Values.{InputNames, Grid, Tiles, Strips, kind_of_text, values_fit, number_at, flag_at, text_at, grounding_by, is_input_name, is_loaded_name}
 use Rattle.pb_command.specs.Meaning.{Read, Refused, Check, CheckMeaning, reading_of_words, unless_faulty, check_of, with_kind, if_fit, options_by, check_with, check_tested}
 use Rattle.pb_command.specs.Options.{number_given, options_given, Argument, words_of, placed_words, value_given, AreDistinct, IsAmong, HasNewName, IsArgumentOf, is_of_check, is_flag_of_check, kind_word, file_words}
 use Rattle.pb_command.specs.declared.refusal.CommandFault.TheVariants as fault
-use Rattle.pb_command.proofs.Walking.{Place, Kind, FirstFile, SecondFile, CertificateFile, match_row, flag_rule, defaults_last, last_default_fault, flags_default_fault}
+use Rattle.pb_command.proofs.Walking.{Place, Kind, FirstFile, SecondFile, CertificateFile, flag_id, match_row, flag_rule, defaults_last, last_default_fault, flags_default_fault}
 use Rattle.pb_command.proofs.Arguments.{row_of, rows_for, word_at, FitPlaces, found_flag, walks_all, rows_are, no_fault_at_all}
-use Rattle.pb_command.proofs.Found.{first_file, finds, finds_with, flag_read, text_read, numbers_read, all_fit}
+use Rattle.pb_command.proofs.Found.{first_file, finds, finds_with, row_beside_flag, flag_read, flag_read_beside, text_read, numbers_read, all_fit}
 use Rattle.pb_command.proofs.Shapes.{check_shape, flagless_rules, check_takes, by_words, ToCheck, rules_of_check, no_default_in_check}
 
 abbrev pub check_places : List Place
@@ -44,8 +44,11 @@ pub check_is : (arguments : List Argument) → AllByRecursion (IsArgumentOf is_o
 check_is arguments all distinct fit kind certificate first kind_is certificate_here first_is =
     let w = walks_all check_shape is_of_check is_flag_of_check check_places check_takes arguments all distinct fit in
     let bare = rows_for check_places arguments in
-    let rows = with_default bare (flag_rule Swamp) in
-    let found = finds_with Swamp check_places arguments bare (finds check_places arguments) in
+    let marked = with_default bare (flag_rule Swamp) in
+    let rows = with_default marked (flag_rule Reachable) in
+    let found = finds_with Reachable check_places arguments marked (finds_with Swamp check_places arguments bare (finds check_places arguments)) in
+    let swamp = flag_read_beside Swamp Reachable marked refl ∙ flag_read Swamp arguments bare (found_flag check_places Swamp arguments) in
+    let reachable = flag_read Reachable arguments marked (row_beside_flag Swamp (flag_id Reachable) bare refl ∙ found_flag check_places Reachable arguments) in
     let kind_row : row_of (codes "KIND") rows ≡ Some (match_row (codes "KIND") kind) = found.place Kind ∙ rw kind_is refl in
     let certificate_row : row_of (codes "CERTIFICATE") rows ≡ Some (match_row (codes "CERTIFICATE") certificate) = found.place CertificateFile ∙ rw certificate_here refl in
     let first_row : row_of (codes "FIRST_FILE") rows ≡ Some (match_row (codes "FIRST_FILE") first) = found.place FirstFile ∙ rw first_is refl in
@@ -59,7 +62,7 @@ check_is arguments all distinct fit kind certificate first kind_is certificate_h
     (all_fit is_of_check is_flag_of_check check_places arguments rows all found check_options)
     (text_read rows (codes "KIND") (Some kind) kind_row) (text_read rows (codes "CERTIFICATE") (Some certificate) certificate_row) (text_read rows (codes "FIRST_FILE") (Some first) first_row)
     (text_read rows (codes "SECOND_FILE") (word_at SecondFile check_places (placed_words arguments)) (found.place SecondFile))
-    (ap₂ (λ row swamp. record { row = row; swamp = swamp }) (numbers_read is_of_check is_flag_of_check check_places arguments rows all found Row) (flag_read Swamp arguments bare (found_flag check_places Swamp arguments)))
+    (λ i. record { row = numbers_read is_of_check is_flag_of_check check_places arguments rows all found Row i; swamp = swamp i; grounding = grounding_by (reachable i) })
     (numbers_read is_of_check is_flag_of_check check_places arguments rows all found Workers)
     (text_read rows (codes "rewrite") (value_given Rewrite arguments) (found.option Rewrite)))
 

@@ -11,9 +11,9 @@ use Rattle.pb_command.specs.Meaning.{Reading, reading_of_words, unless_faulty, c
 use Rattle.pb_command.specs.declared.table.ValuedOption.{ValuedOption}
 use Rattle.pb_command.specs.declared.table.ValuedOption.TheVariants.{Row, Workers, Rewrite}
 use Rattle.pb_command.specs.declared.table.FlagOption.{FlagOption}
-use Rattle.pb_command.specs.declared.table.FlagOption.TheVariants.{Plain, Swamp}
-use Rattle.pb_command.specs.Table.{solve_options, solve_flags, check_options, check_flags, journal_options, make_options}
-use Rattle.pb_command.specs.Options.{is_of_solve, is_of_check, is_of_journal, is_of_make, is_flag_of_solve, is_flag_of_check, no_flag}
+use Rattle.pb_command.specs.declared.table.FlagOption.TheVariants.{Plain, Swamp, Reachable}
+use Rattle.pb_command.specs.Table.{solve_options, solve_flags, check_options, check_flags, journal_options, journal_flags, make_options}
+use Rattle.pb_command.specs.Options.{is_of_solve, is_of_check, is_of_journal, is_of_make, is_flag_of_solve, is_flag_of_check, is_flag_of_journal, no_flag}
 use Rattle.pb_command.proofs.Declared.{program_on_literals}
 use Rattle.pb_command.proofs.Walking.{Kind, FirstFile, SecondFile, CertificateFile, JournalFile, Seed, Size, HasOption, HasFlag, HasNoDefault, placed_rule, valued_rule, flag_rule}
 use Rattle.pb_command.proofs.Arguments.{Takes, HasPlaces}
@@ -45,8 +45,13 @@ unfoldable pub check_shape : Shape
 unfolding flagless_rules
 check_shape = shape_with (codes "check") (flagless_rules ++ map flag_rule check_flags)
 
+-- the rules of `journal` that have no default
+unfoldable pub journal_rules : List Rule
+journal_rules = placed_rule 1 Kind ∷ placed_rule 2 JournalFile ∷ placed_rule 3 FirstFile ∷ placed_rule 4 SecondFile ∷ map valued_rule journal_options
+
 unfoldable pub journal_shape : Shape
-journal_shape = shape_with (codes "journal") (placed_rule 1 Kind ∷ placed_rule 2 JournalFile ∷ placed_rule 3 FirstFile ∷ placed_rule 4 SecondFile ∷ map valued_rule journal_options)
+unfolding journal_rules
+journal_shape = shape_with (codes "journal") (journal_rules ++ map flag_rule journal_flags)
 
 unfoldable pub make_shape : Shape
 make_shape = shape_with (codes "make") (placed_rule 1 Kind ∷ placed_rule 2 Seed ∷ placed_rule 3 Size ∷ map valued_rule make_options)
@@ -65,7 +70,7 @@ unfoldable pub program_built : App
 program_built = record { top = top_shape; subs = solve_shape ∷ check_shape ∷ journal_shape ∷ make_shape ∷ [] }
 
 pub built_is : built the_program ≡ program_built
-unfolding program_on_literals program_built top_shape solve_shape plainless_rules check_shape flagless_rules journal_shape make_shape
+unfolding program_on_literals program_built top_shape solve_shape plainless_rules check_shape flagless_rules journal_shape journal_rules make_shape
 built_is = refl
 
 words_are : (words : List Text) → argument_words the_program words ≡ words
@@ -200,6 +205,7 @@ flags_of_check : (f : FlagOption) → is_flag_of_check f ≡ true → HasFlag ch
 unfolding check_shape flagless_rules
 flags_of_check Plain is = cc
 flags_of_check Swamp is = refl
+flags_of_check Reachable is = refl
 
 pub check_takes : Takes check_shape is_of_check is_flag_of_check (Kind ∷ CertificateFile ∷ FirstFile ∷ SecondFile ∷ [])
 check_takes = record {
@@ -211,26 +217,31 @@ check_takes = record {
 }
 
 places_of_journal : HasPlaces journal_shape 1 (Kind ∷ JournalFile ∷ FirstFile ∷ SecondFile ∷ [])
-unfolding journal_shape
+unfolding journal_shape journal_rules
 places_of_journal = (
   record { by_index = refl; by_id = refl; next = refl },
   (record { by_index = refl; by_id = refl; next = refl }, (record { by_index = refl; by_id = refl; next = refl }, (record { by_index = refl; by_id = refl; next = refl }, tt))),
 )
 
 options_of_journal : (o : ValuedOption) → is_of_journal o ≡ true → HasOption journal_shape o
-unfolding journal_shape
+unfolding journal_shape journal_rules
 options_of_journal Row is = record { by_long = refl; by_id = refl }
 options_of_journal _ is = cc
 
 journal_is_strict : journal_shape.args_override_self ≡ false
-unfolding journal_shape
+unfolding journal_shape journal_rules
 journal_is_strict = refl
 
-pub journal_takes : Takes journal_shape is_of_journal no_flag (Kind ∷ JournalFile ∷ FirstFile ∷ SecondFile ∷ [])
+flags_of_journal : (f : FlagOption) → is_flag_of_journal f ≡ true → HasFlag journal_shape f
+unfolding journal_shape journal_rules
+flags_of_journal Reachable is = refl
+flags_of_journal _ is = cc
+
+pub journal_takes : Takes journal_shape is_of_journal is_flag_of_journal (Kind ∷ JournalFile ∷ FirstFile ∷ SecondFile ∷ [])
 journal_takes = record {
   strict = journal_is_strict;
   option = options_of_journal;
-  flag = λ f is. cc;
+  flag = flags_of_journal;
   each_place = places_of_journal;
   apart = ((refl, (refl, (refl, tt))), ((refl, (refl, tt)), ((refl, tt), (tt, tt))));
 }
@@ -279,8 +290,12 @@ pub no_default_in_check : AllByRecursion HasNoDefault flagless_rules
 unfolding flagless_rules
 no_default_in_check = (refl, (refl, (refl, (refl, no_default_in_valued check_options))))
 
-pub no_default_in_journal : AllByRecursion HasNoDefault journal_shape.rules
+pub rules_of_journal : journal_shape.rules ≡ journal_rules ++ map flag_rule journal_flags
 unfolding journal_shape
+rules_of_journal = refl
+
+pub no_default_in_journal : AllByRecursion HasNoDefault journal_rules
+unfolding journal_rules
 no_default_in_journal = (refl, (refl, (refl, (refl, no_default_in_valued journal_options))))
 
 pub no_default_in_make : AllByRecursion HasNoDefault make_shape.rules

@@ -14,7 +14,7 @@ use Rattle.pb_command.specs.declared.command.Engine.TheVariants.{Leases, Owners}
 use Rattle.pb_command.specs.declared.command.InputOptions.{InputOptions}
 use Rattle.pb_command.specs.declared.table.ValuedOption.TheVariants.{Engine as EngineOption, Num, Den, Certificate, Journal, Falling as FallingOption}
 use Rattle.pb_command.specs.declared.table.FlagOption.{FlagOption}
-use Rattle.pb_command.specs.declared.table.FlagOption.TheVariants.{Plain, Swamp}
+use Rattle.pb_command.specs.declared.table.FlagOption.TheVariants.{Plain, Swamp, Reachable}
 use Rattle.pb_command.specs.Table.{solve_options, solve_flags}
 use Rattle.pb_command.specs.Values.{InputNames, Grid, Tiles, Strips, kind_of_text, are_one_name, is_journal_of_owners, is_falling_of_owners, is_journal_of_falling, flag_of, values_fit, number_at, optional_number_at, flag_at, text_at, engine_of, engine_at}
 use Rattle.pb_command.specs.Meaning.{Read, Refused, Solve, Falling, SolveMeaning, reading_of_words, unless_faulty, solve_of, with_kind, if_fit, options_by, settings_by, solve_with, solve_in_steps, solve_tested}
@@ -34,12 +34,16 @@ nothing_missing : (rows : List MatchRow) (kind first : Text) → row_of (codes "
 unfolding solve_shape plainless_rules
 nothing_missing rows kind first has_kind has_first = rw (has_kind, has_first) refl
 
--- the rows with the default of `--plain`, and then with that of `--swamp`
+-- the rows with the default of `--plain`, then with that of `--swamp`, and then with that of
+-- `--reachable`
 abbrev rows_with_plain : List Argument → List MatchRow
 rows_with_plain arguments = with_default (rows_for solve_places arguments) (flag_rule Plain)
 
+abbrev rows_with_swamp : List Argument → List MatchRow
+rows_with_swamp arguments = with_default (rows_with_plain arguments) (flag_rule Swamp)
+
 abbrev pub rows_with_flags : List Argument → List MatchRow
-rows_with_flags arguments = with_default (rows_with_plain arguments) (flag_rule Swamp)
+rows_with_flags arguments = with_default (rows_with_swamp arguments) (flag_rule Reachable)
 
 with_flags : (arguments : List Argument) → fold with_default (rows_for solve_places arguments) solve_shape.rules ≡ rows_with_flags arguments
 with_flags arguments =
@@ -48,19 +52,27 @@ with_flags arguments =
 no_default_fails : (arguments : List Argument) → defaults_fault (rows_for solve_places arguments) solve_shape.rules ≡ []
 no_default_fails arguments =
     ap (defaults_fault (rows_for solve_places arguments)) rules_of_solve
-    ∙ (last_default_fault (rows_for solve_places arguments) plainless_rules (map flag_rule solve_flags) no_default_in_solve ∙ flags_default_fault (rows_for solve_places arguments) (Plain ∷ Swamp ∷ []))
+    ∙ (last_default_fault (rows_for solve_places arguments) plainless_rules (map flag_rule solve_flags) no_default_in_solve ∙ flags_default_fault (rows_for solve_places arguments) solve_flags)
 
 pub finds_with_flags : (arguments : List Argument) → Finds solve_places arguments (rows_with_flags arguments)
 finds_with_flags arguments =
-    finds_with Swamp solve_places arguments (rows_with_plain arguments) (finds_with Plain solve_places arguments (rows_for solve_places arguments) (finds solve_places arguments))
+    finds_with Reachable solve_places arguments (rows_with_swamp arguments)
+    (finds_with Swamp solve_places arguments (rows_with_plain arguments) (finds_with Plain solve_places arguments (rows_for solve_places arguments) (finds solve_places arguments)))
 
 plain_read : (arguments : List Argument) → flag_of (codes "plain") (rows_with_flags arguments) ≡ flag_given Plain arguments
 plain_read arguments =
-    flag_read_beside Plain Swamp (rows_with_plain arguments) refl ∙ flag_read Plain arguments (rows_for solve_places arguments) (found_flag solve_places Plain arguments)
+    flag_read_beside Plain Reachable (rows_with_swamp arguments) refl ∙ (flag_read_beside Plain Swamp (rows_with_plain arguments) refl
+    ∙ flag_read Plain arguments (rows_for solve_places arguments) (found_flag solve_places Plain arguments))
 
 swamp_read : (arguments : List Argument) → flag_of (codes "swamp") (rows_with_flags arguments) ≡ flag_given Swamp arguments
 swamp_read arguments =
-    flag_read Swamp arguments (rows_with_plain arguments) (row_beside_flag Plain (flag_id Swamp) (rows_for solve_places arguments) refl ∙ found_flag solve_places Swamp arguments)
+    flag_read_beside Swamp Reachable (rows_with_swamp arguments) refl
+    ∙ flag_read Swamp arguments (rows_with_plain arguments) (row_beside_flag Plain (flag_id Swamp) (rows_for solve_places arguments) refl ∙ found_flag solve_places Swamp arguments)
+
+reachable_read : (arguments : List Argument) → flag_of (codes "reachable") (rows_with_flags arguments) ≡ flag_given Reachable arguments
+reachable_read arguments =
+    flag_read Reachable arguments (rows_with_swamp arguments) (row_beside_flag Swamp (flag_id Reachable) (rows_with_plain arguments) refl
+    ∙ (row_beside_flag Plain (flag_id Reachable) (rows_for solve_places arguments) refl ∙ found_flag solve_places Reachable arguments))
 
 pub solve_walk : (arguments : List Argument) → AllByRecursion (IsArgumentOf is_of_solve is_flag_of_solve) arguments → AreDistinct arguments → FitPlaces solve_places (placed_words arguments)
     → IsWalkedWhole solve_shape solve_places arguments
@@ -69,6 +81,7 @@ solve_walk arguments all distinct fit = walks_all solve_shape is_of_solve is_fla
 flags_read : (arguments : List Argument) (f : FlagOption) → flag_at (rows_with_flags arguments) f ≡ flag_given f arguments
 flags_read arguments Plain = plain_read arguments
 flags_read arguments Swamp = swamp_read arguments
+flags_read arguments Reachable = reachable_read arguments
 
 solve_values : (rows : List MatchRow) (kind first second certificate journal : Option Text) (falling : Option ℕ) (options : InputOptions) (settings : Settings) (engine : Engine)
     → values_fit solve_options rows ≡ true

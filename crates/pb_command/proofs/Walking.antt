@@ -24,8 +24,8 @@ use Rattle.pb_command.specs.Names.{IsName}
 use Rattle.pb_command.specs.declared.table.ValuedOption.{ValuedOption}
 use Rattle.pb_command.specs.declared.table.ValuedOption.TheVariants.{Row}
 use Rattle.pb_command.specs.declared.table.FlagOption.{FlagOption}
-use Rattle.pb_command.specs.declared.table.FlagOption.TheVariants.{Plain, Swamp}
-use Rattle.pb_command.specs.Table.{Form, Number, OptionalNumber, FileName, OneOf, option_name, option_form, flag_name, is_value, solve_options, solve_flags, check_options, check_flags, journal_options, make_options}
+use Rattle.pb_command.specs.declared.table.FlagOption.TheVariants.{Plain, Swamp, Reachable}
+use Rattle.pb_command.specs.Table.{Form, Number, OptionalNumber, FileName, OneOf, option_name, option_form, flag_name, is_value, solve_options, solve_flags, check_options, check_flags, journal_options, journal_flags, make_options}
 use Rattle.pb_command.specs.Options.{option_word, is_same, is_value_of, flag_word, is_same_flag}
 
 -- ---- the words that their place tells
@@ -122,7 +122,7 @@ abbrev pub flag_id : FlagOption → Text
 flag_id f = flag_name f
 
 abbrev flag_named : Text → Option FlagOption
-flag_named name = find (λ (f : FlagOption). bytes_eq (flag_name f) name) (solve_flags ++ check_flags)
+flag_named name = find (λ (f : FlagOption). bytes_eq (flag_name f) name) (solve_flags ++ (check_flags ++ journal_flags))
 
 flag_named_itself : (f : FlagOption) → flag_named (flag_name f) ≡ Some f
 flag_named_itself Plain = refl
@@ -154,6 +154,7 @@ flag_nowhere _ = refl
 pub flag_no_option : (f : FlagOption) (o : ValuedOption) → bytes_eq (flag_id f) (option_id o) ≡ false
 flag_no_option Plain Row = refl
 flag_no_option Swamp Row = refl
+flag_no_option Reachable Row = refl
 flag_no_option _ _ = refl
 
 pub option_no_flag : (o : ValuedOption) (f : FlagOption) → bytes_eq (option_id o) (flag_id f) ≡ false
@@ -416,3 +417,5 @@ flags_default_fault rows (f ∷ fs) = rw (faultless f (has_row (flag_id f) rows)
   faultless Plain false = refl
   faultless Swamp true = refl
   faultless Swamp false = refl
+  faultless Reachable true = refl
+  faultless Reachable false = refl

@@ -11,10 +11,10 @@ use Rattle.pb_command.specs.declared.command.InputOptions.{InputOptions}
 use Rattle.pb_command.specs.declared.table.ValuedOption.{ValuedOption}
 use Rattle.pb_command.specs.declared.table.ValuedOption.TheVariants.{Row as ScenarioRow, Workers, Num, Den, Budget, Lot, Blocks, Pattern, Certificate, Journal as JournalName, Rewrite, Falling as FallingSteps}
 use Rattle.pb_command.specs.declared.table.FlagOption.{FlagOption}
-use Rattle.pb_command.specs.declared.table.FlagOption.TheVariants.{Plain, Swamp}
+use Rattle.pb_command.specs.declared.table.FlagOption.TheVariants.{Plain, Swamp, Reachable}
 use Rattle.pb_command.specs.Parser.{the_program, seed_most}
 use Rattle.pb_command.specs.Table.{IsInRangeOf, solve_options, check_options, journal_options, make_options}
-use Rattle.pb_command.specs.Values.{InputNames, kind_of_text, input_of, values_fit, number_at, optional_number_at, text_at, flag_at, engine_at, seed_of, size_of, least_size, most_size, is_size, are_one_name, is_journal_of_owners, is_falling_of_owners, is_journal_of_falling, is_loaded_name}
+use Rattle.pb_command.specs.Values.{InputNames, kind_of_text, input_of, values_fit, number_at, optional_number_at, text_at, flag_at, grounding_by, engine_at, seed_of, size_of, least_size, most_size, is_size, are_one_name, is_journal_of_owners, is_falling_of_owners, is_journal_of_falling, is_loaded_name}
 use Rattle.pb_command.specs.declared.refusal.CommandFault.{CommandFault}
 use Rattle.pb_command.specs.declared.refusal.CommandFault.TheVariants as fault
 
@@ -82,9 +82,14 @@ if_fit fit reading = if fit then reading else Refused fault.Form
 
 -- ---- what options ask for
 
--- how files are read: the row of the scenario, and whether swamp costs 2
+-- how files are read: the row of the scenario, whether swamp costs 2, and which ground atoms and
+-- actions have numbers
 abbrev pub options_by : (number : ValuedOption → ℕ) → (flag : FlagOption → Bool) → InputOptions
-options_by number flag = record { row = number ScenarioRow; swamp = flag Swamp }
+options_by number flag = record {
+  row = number ScenarioRow;
+  swamp = flag Swamp;
+  grounding = grounding_by (flag Reachable);
+}
 
 -- what a search is run with: the number of workers, the weight as a fraction, the budget of
 -- expansions, how many of them a lease gets at most, and how many blocks there are at most. Whether
@@ -177,12 +182,16 @@ journal_with (Some journal) (Some first) second options kind =
     (λ input. Read (Journal (record { input = input; journal = journal; options = options })))
 journal_with _ _ _ _ kind = Refused fault.Form
 
--- `journal` has no flag for swamp
+-- how `journal` reads files: it has no flag for swamp
+abbrev pub journal_options_by : (number : ValuedOption → ℕ) → (flag : FlagOption → Bool)
+    → InputOptions
+journal_options_by number flag = record (options_by number flag) { swamp = false }
+
 abbrev pub journal_of : List Row → Reading
 journal_of rows = if_fit (values_fit journal_options rows)
     (with_kind (kind_of_text (first_of (codes "KIND") rows))
     (journal_with (first_of (codes "JOURNAL") rows) (first_of (codes "FIRST_FILE") rows)
-    (first_of (codes "SECOND_FILE") rows) (options_by (number_at rows) (λ flag. false))))
+    (first_of (codes "SECOND_FILE") rows) (journal_options_by (number_at rows) (flag_at rows))))
 
 -- ---- `make`
 

@@ -16,12 +16,12 @@ use Rattle.pb_command.specs.declared.command.Engine.{Engine}
 use Rattle.pb_command.specs.declared.command.Engine.TheVariants.{Leases, Owners}
 use Rattle.pb_command.specs.declared.command.InputOptions.{InputOptions}
 use Rattle.pb_command.specs.declared.table.ValuedOption.{ValuedOption}
-use Rattle.pb_command.specs.declared.table.ValuedOption.TheVariants.{Row, Workers, Engine as EngineOption, Num, Den, Certificate, Journal, Rewrite, Falling}
+use Rattle.pb_command.specs.declared.table.ValuedOption.TheVariants.{Workers, Engine as EngineOption, Num, Den, Certificate, Journal, Rewrite, Falling}
 use Rattle.pb_command.specs.declared.table.FlagOption.{FlagOption}
 use Rattle.pb_command.specs.Names.{IsName}
-use Rattle.pb_command.specs.Table.{Form, Number, OptionalNumber, FileName, OneOf, option_name, option_form, flag_name, is_value, solve_options, solve_flags, check_options, check_flags, journal_options, make_options}
+use Rattle.pb_command.specs.Table.{Form, Number, OptionalNumber, FileName, OneOf, option_name, option_form, flag_name, is_value, solve_options, solve_flags, check_options, check_flags, journal_options, journal_flags, make_options}
 use Rattle.pb_command.specs.Values.{InputNames, Grid, Tiles, Strips, engine_of}
-use Rattle.pb_command.specs.Meaning.{Read, Refused, Solve, SolveMeaning, Falling as FallingCommand, Check, Journal as JournalCommand, Make, options_by, settings_by, reading_of_words}
+use Rattle.pb_command.specs.Meaning.{Read, Refused, Solve, SolveMeaning, Falling as FallingCommand, Check, Journal as JournalCommand, Make, options_by, journal_options_by, settings_by, reading_of_words}
 use Rattle.pb_command.specs.declared.refusal.CommandFault.TheVariants as fault
 
 -- the word that an option is given by: `--` before its name
@@ -94,6 +94,11 @@ abbrev pub options_given : List Argument → InputOptions
 options_given arguments =
     options_by (λ option. number_given option arguments) (λ flag. flag_given flag arguments)
 
+-- the same for `journal`, which has no flag for swamp
+abbrev pub journal_options_given : List Argument → InputOptions
+journal_options_given arguments = journal_options_by (λ option. number_given option arguments)
+    (λ flag. flag_given flag arguments)
+
 -- and what a search is run with
 abbrev pub settings_given : List Argument → Settings
 settings_given arguments =
@@ -151,7 +156,10 @@ is_flag_of_solve = has_flag solve_flags
 abbrev pub is_flag_of_check : FlagOption → Bool
 is_flag_of_check = has_flag check_flags
 
--- a command with no flag, as `journal` and `make`
+abbrev pub is_flag_of_journal : FlagOption → Bool
+is_flag_of_journal = has_flag journal_flags
+
+-- a command with no flag, as `make`
 abbrev pub no_flag : FlagOption → Bool
 no_flag _ = false
 
@@ -317,17 +325,17 @@ LoadedNameIsRefused =
     → IsAmong name (certificate ∷ file_words input)
     → reading_of_words (codes "check" ∷ words_of arguments) ≡ Refused fault.Names
 
--- `journal` with the kind, the journal and the files, and with a row anywhere among them, checks
--- that journal for this task.
+-- `journal` with the kind, the journal and the files, and with options anywhere among them, checks
+-- that journal for this task with their values.
 abbrev pub JournalReadsOptions : Type 0
 JournalReadsOptions =
     (input : InputNames) (journal : Text) (arguments : List Argument)
-    → AllByRecursion (IsArgumentOf is_of_journal no_flag) arguments → AreDistinct arguments
-    → placed_words arguments ≡ kind_word input ∷ journal ∷ file_words input
+    → AllByRecursion (IsArgumentOf is_of_journal is_flag_of_journal) arguments
+    → AreDistinct arguments → placed_words arguments ≡ kind_word input ∷ journal ∷ file_words input
     → reading_of_words (codes "journal" ∷ words_of arguments) ≡ Read (JournalCommand (record {
       input = input;
       journal = journal;
-      options = record { row = number_given Row arguments; swamp = false };
+      options = journal_options_given arguments;
     }))
 
 -- a grid has a side from 1 to 2,048, a board from 0 to 1,000,000 moves, and a STRIPS problem from 1

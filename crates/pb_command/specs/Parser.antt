@@ -5,7 +5,7 @@ use Rattle.clap.specs.declared.builder.action.ArgAction.TheVariants.{SetTrue}
 use Rattle.clap.specs.declared.builder.value_parser.ValueParser.TheVariants as vp
 use Rattle.pb_command.specs.declared.table.ValuedOption.{ValuedOption}
 use Rattle.pb_command.specs.declared.table.FlagOption.{FlagOption}
-use Rattle.pb_command.specs.Table.{Form, Number, OptionalNumber, FileName, OneOf, option_name, option_form, flag_name, solve_options, solve_flags, check_options, check_flags, journal_options, make_options}
+use Rattle.pb_command.specs.Table.{Form, Number, OptionalNumber, FileName, OneOf, option_name, option_form, flag_name, solve_options, solve_flags, check_options, check_flags, journal_options, journal_flags, make_options}
 
 -- `--NAME NUMBER`, a whole number from `least` to `most`
 abbrev pub number_rule : Text → ℕ → ℕ → Rule
@@ -77,7 +77,7 @@ unfoldable pub the_journal : App
 the_journal =
     command_with (codes "journal") (required_rule (codes "KIND")
     ∷ required_rule (codes "JOURNAL") ∷ required_rule (codes "FIRST_FILE")
-    ∷ new_rule (codes "SECOND_FILE") ∷ []) journal_options []
+    ∷ new_rule (codes "SECOND_FILE") ∷ []) journal_options journal_flags
 
 -- `make KIND SEED SIZE` and its options
 unfoldable pub the_make : App

@@ -11,7 +11,7 @@ use Rattle.pb_command.specs.declared.command.Engine.TheVariants.{Leases, Owners}
 use Rattle.pb_command.specs.declared.table.ValuedOption.{ValuedOption}
 use Rattle.pb_command.specs.declared.table.ValuedOption.TheVariants.{Row, Workers, Engine as EngineOption, Num, Den, Budget, Lot, Blocks, Pattern, Certificate, Journal, Rewrite, Falling}
 use Rattle.pb_command.specs.declared.table.FlagOption.{FlagOption}
-use Rattle.pb_command.specs.declared.table.FlagOption.TheVariants.{Plain, Swamp}
+use Rattle.pb_command.specs.declared.table.FlagOption.TheVariants.{Plain, Swamp, Reachable}
 
 -- whole numbers from `least` to `most`, and the one that stands for an option that isn't given
 pub record Range : Type 0 where
@@ -77,10 +77,12 @@ option_name option = (entry_of option).name
 abbrev pub option_form : ValuedOption → Form
 option_form option = (entry_of option).form
 
--- the options without a value: no block is marked hot, and entering swamp costs 2
+-- The options without a value: no block is marked hot, entering swamp costs 2, and of a STRIPS
+-- problem only the atoms and actions that are reached have numbers.
 abbrev pub flag_name : FlagOption → Text
 flag_name Plain = codes "plain"
 flag_name Swamp = codes "swamp"
+flag_name Reachable = codes "reachable"
 
 -- ---- which command has which options, in the order in which clap knows them
 
@@ -90,16 +92,19 @@ solve_options =
     ∷ Journal ∷ Falling ∷ []
 
 abbrev pub solve_flags : List FlagOption
-solve_flags = Plain ∷ Swamp ∷ []
+solve_flags = Plain ∷ Swamp ∷ Reachable ∷ []
 
 abbrev pub check_options : List ValuedOption
 check_options = Row ∷ Workers ∷ Rewrite ∷ []
 
 abbrev pub check_flags : List FlagOption
-check_flags = Swamp ∷ []
+check_flags = Swamp ∷ Reachable ∷ []
 
 abbrev pub journal_options : List ValuedOption
 journal_options = Row ∷ []
+
+abbrev pub journal_flags : List FlagOption
+journal_flags = Reachable ∷ []
 
 abbrev pub make_options : List ValuedOption
 make_options = Workers ∷ []

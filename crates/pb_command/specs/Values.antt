@@ -8,6 +8,8 @@ use Rattle.clap.specs.ValueTests.{is_unsigned_in}
 use Rattle.pb_task.specs.declared.kind.Kind.{Kind}
 use Rattle.pb_task.specs.declared.kind.Kind.TheVariants as kind
 use Rattle.pb_task.specs.Kinds.{kind_name}
+use Rattle.pb_task.specs.declared.grounding.Grounding.{Grounding}
+use Rattle.pb_task.specs.declared.grounding.Grounding.TheVariants as grounding
 use Rattle.pb_command.specs.declared.command.Engine.{Engine}
 use Rattle.pb_command.specs.declared.command.Engine.TheVariants.{Leases, Owners}
 use Rattle.pb_command.specs.declared.table.ValuedOption.{ValuedOption}
@@ -156,6 +158,12 @@ flag_of name rows = option_map_or (λ text. bytes_eq text (codes "true")) (first
 
 abbrev pub flag_at : List Row → FlagOption → Bool
 flag_at rows flag = flag_of (flag_name flag) rows
+
+-- which ground atoms and actions have numbers: with `--reachable` those that are reached, and else
+-- all
+abbrev pub grounding_by : (reachable : Bool) → Grounding
+grounding_by true = grounding.Reachable
+grounding_by false = grounding.All
 
 -- the least and the greatest size of a made task: the side of a grid, the moves of a 3 by 3 board,
 -- and the blocks of a STRIPS problem

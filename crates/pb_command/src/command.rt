@@ -1,5 +1,5 @@
 use pb_machine::Settings;
-use pb_task::Kind;
+use pb_task::{Grounding, Kind};
 
 /// The names of the files of a grid.
 #[derive(Clone, Copy)]
@@ -39,6 +39,9 @@ pub struct InputOptions {
     pub row: u64,
     /// `--swamp`: entering an `S` cell of a map costs 2. Only a grid has a map.
     pub swamp: bool,
+    /// `--reachable`: which ground atoms and actions of a STRIPS problem have numbers. It is looked
+    /// at for STRIPS alone.
+    pub grounding: Grounding,
 }
 
 /// How a task is searched.
@@ -95,7 +98,7 @@ pub struct CheckCommand<'a> {
     /// `--workers W`: how many workers judge the rows of the certificate: 1 to 64.
     pub workers: u64,
     /// `--rewrite NAME`: the name under which the certificate is to be saved, if one is given and
-    /// the certificate is accepted. One of version 1 is saved in version 2, one of version 2 or 3
+    /// the certificate is accepted. One of version 1 is saved in version 2, one of a later version
     /// as it is. The name isn't that of a file that is loaded.
     pub rewrite: Option<&'a str>,
 }
@@ -108,6 +111,7 @@ pub struct JournalCommand<'a> {
     /// The journal's file.
     pub journal: &'a str,
     /// How the files of the task are read: without swamp, since the blocks are the same with it.
+    /// Another grounding makes other blocks.
     pub options: InputOptions,
 }
 

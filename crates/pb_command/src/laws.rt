@@ -49,8 +49,9 @@ pub fn falling_tests_options()
     ensures journal { FallingWithJournalIsRefused }
 {}
 
-/// `--row`, `--workers`, `--rewrite` and `--swamp` give `check` their values, anywhere among the
-/// kind, the certificate and the files. An option that isn't given has its default.
+/// `--row`, `--workers`, `--rewrite`, `--swamp` and `--reachable` give `check` their values,
+/// anywhere among the kind, the certificate and the files. An option that isn't given has its
+/// default.
 pub fn check_reads_options()
     ensures { CheckReadsOptions }
 {}
@@ -61,8 +62,8 @@ pub fn check_tests_options()
     ensures { LoadedNameIsRefused }
 {}
 
-/// `--row` gives `journal` its value, anywhere among the kind, the journal and the files. If it
-/// isn't given, it has its default.
+/// `--row` and `--reachable` give `journal` their values, anywhere among the kind, the journal and
+/// the files. If they aren't given, they have their defaults.
 pub fn journal_reads_options()
     ensures { JournalReadsOptions }
 {}

@@ -9,8 +9,8 @@ ghost use Rattle.pb_command.specs.Table.{flag_name};
 ghost use Rattle.pb_command.specs.Parser.{required_rule, required_number_rule};
 
 use crate::table::{
-    CHECK_FLAGS, CHECK_OPTIONS, FlagOption, JOURNAL_OPTIONS, MAKE_OPTIONS, SOLVE_FLAGS,
-    SOLVE_OPTIONS, ValueForm, ValuedOption,
+    CHECK_FLAGS, CHECK_OPTIONS, FlagOption, JOURNAL_FLAGS, JOURNAL_OPTIONS, MAKE_OPTIONS,
+    SOLVE_FLAGS, SOLVE_OPTIONS, ValueForm, ValuedOption,
 };
 use crate::values::{SEED_MOST, SIZE_WORD_MOST};
 use clap::builder::ValueParser;
@@ -187,7 +187,8 @@ pub(crate) fn journal<'a>(alloc: Global) -> Result<Command<'a>, AllocError>
     let with_journal = add(with_kind, required_word(alloc, "JOURNAL"));
     let with_first = add(with_journal, required_word(alloc, "FIRST_FILE"));
     let with_second = add(with_first, optional_word(alloc, "SECOND_FILE"));
-    add_options(alloc, with_second, &JOURNAL_OPTIONS)
+    let with_options = add_options(alloc, with_second, &JOURNAL_OPTIONS);
+    add_flags(alloc, with_options, &JOURNAL_FLAGS)
 }
 
 // `make KIND SEED SIZE` and its options.

@@ -22,7 +22,7 @@ use crate::table::{
     CHECK_OPTIONS, FlagOption, JOURNAL_OPTIONS, MAKE_OPTIONS, SOLVE_OPTIONS, ValuedOption,
 };
 use crate::values::{
-    SEED_MOST, SIZE_WORD_MOST, engine_at, flag_at, input_of, is_falling_of_owners,
+    SEED_MOST, SIZE_WORD_MOST, engine_at, flag_at, grounding_at, input_of, is_falling_of_owners,
     is_journal_of_falling, is_journal_of_owners, is_loaded_name, is_one_name, is_size, known_kind,
     number, number_at, optional_number_at, text, text_at, values_fit,
 };
@@ -39,6 +39,7 @@ fn input_options(matches: &ArgMatches<'_>) -> InputOptions
     InputOptions {
         row: number_at(matches, ValuedOption::Row),
         swamp: flag_at(matches, FlagOption::Swamp),
+        grounding: grounding_at(matches),
     }
 }
 
@@ -192,6 +193,7 @@ fn read_journal<'a>(matches: &ArgMatches<'a>) -> Result<CommandLine<'a>, Command
     let first = text(matches, "FIRST_FILE");
     let second = text(matches, "SECOND_FILE");
     let row = number_at(matches, ValuedOption::Row);
+    let grounding = grounding_at(matches);
     if !values_fit(matches, &JOURNAL_OPTIONS) {
         return Err(CommandFault::Form);
     }
@@ -203,7 +205,11 @@ fn read_journal<'a>(matches: &ArgMatches<'a>) -> Result<CommandLine<'a>, Command
             Some(input) => Ok(CommandLine::Journal(JournalCommand {
                 input,
                 journal,
-                options: InputOptions { row, swamp: false },
+                options: InputOptions {
+                    row,
+                    swamp: false,
+                    grounding,
+                },
             })),
             None => Err(CommandFault::Files),
         },

@@ -44,6 +44,9 @@ pub enum FlagOption {
     Plain,
     /// `--swamp`: entering an `S` cell of a map costs 2.
     Swamp,
+    /// `--reachable`: of a STRIPS problem, only the ground atoms and actions that are reached have
+    /// numbers.
+    Reachable,
 }
 
 // What a value of an option is.
@@ -82,7 +85,11 @@ pub(crate) const SOLVE_OPTIONS: [ValuedOption; 12] = [
     ValuedOption::Falling,
 ];
 
-pub(crate) const SOLVE_FLAGS: [FlagOption; 2] = [FlagOption::Plain, FlagOption::Swamp];
+pub(crate) const SOLVE_FLAGS: [FlagOption; 3] = [
+    FlagOption::Plain,
+    FlagOption::Swamp,
+    FlagOption::Reachable,
+];
 
 pub(crate) const CHECK_OPTIONS: [ValuedOption; 3] = [
     ValuedOption::Row,
@@ -90,9 +97,11 @@ pub(crate) const CHECK_OPTIONS: [ValuedOption; 3] = [
     ValuedOption::Rewrite,
 ];
 
-pub(crate) const CHECK_FLAGS: [FlagOption; 1] = [FlagOption::Swamp];
+pub(crate) const CHECK_FLAGS: [FlagOption; 2] = [FlagOption::Swamp, FlagOption::Reachable];
 
 pub(crate) const JOURNAL_OPTIONS: [ValuedOption; 1] = [ValuedOption::Row];
+
+pub(crate) const JOURNAL_FLAGS: [FlagOption; 1] = [FlagOption::Reachable];
 
 pub(crate) const MAKE_OPTIONS: [ValuedOption; 1] = [ValuedOption::Workers];
 
@@ -206,6 +215,7 @@ impl FlagOption {
         match self {
             FlagOption::Plain => "plain",
             FlagOption::Swamp => "swamp",
+            FlagOption::Reachable => "reachable",
         }
     }
 }

@@ -3,9 +3,9 @@ ghost use Rattle.std.specs.Prelude.{◌≡◌, ◌≤◌, false, None, Some, ℕ
 ghost use Rattle.clap.specs.Words.{first_of, found_of, one_of, rows_of};
 ghost use Rattle.pb_command.specs.Values.{number_in, flag_of, kind_of_text, input_of, is_size};
 ghost use Rattle.pb_command.specs.Values.{are_one_name, option_fits, values_fit, number_at};
-ghost use Rattle.pb_command.specs.Values.{optional_number_at, text_at, flag_at, engine_at};
+ghost use Rattle.pb_command.specs.Values.{optional_number_at, text_at, flag_at, grounding_by};
 ghost use Rattle.pb_command.specs.Values.{is_input_name, is_loaded_name, is_journal_of_owners};
-ghost use Rattle.pb_command.specs.Values.{is_falling_of_owners, is_journal_of_falling};
+ghost use Rattle.pb_command.specs.Values.{engine_at, is_falling_of_owners, is_journal_of_falling};
 ghost use Rattle.pb_command.specs.Table.{IsInRangeOf};
 ghost use Rattle.pb_command.specs.declared.command.Engine.TheVariants.{Leases, Owners};
 ghost use Rattle.pb_command.specs.Causes.{input_meant};
@@ -13,7 +13,7 @@ ghost use Rattle.pb_command.specs.Causes.{input_meant};
 use crate::command::{Engine, GridFiles, Input, StripsFiles};
 use crate::table::{FlagOption, ValueForm, ValuedOption};
 use clap::ArgMatches;
-use pb_task::Kind;
+use pb_task::{Grounding, Kind};
 
 // The greatest seed of a made task, 2^32 - 1.
 pub(crate) const SEED_MOST: u64 = 4_294_967_295;
@@ -164,6 +164,18 @@ pub(crate) fn flag_at(matches: &ArgMatches<'_>, flag: FlagOption) -> bool
     ensures { result ≡ flag_at (rows_of (found_of matches.now)) flag }
 {
     is_given(matches, flag.name())
+}
+
+// Which ground atoms and actions have numbers.
+pub(crate) fn grounding_at(matches: &ArgMatches<'_>) -> Grounding
+    ensures { result
+        ≡ grounding_by (flag_at (rows_of (found_of matches.now)) FlagOption.Reachable) }
+{
+    if flag_at(matches, FlagOption::Reachable) {
+        Grounding::Reachable
+    } else {
+        Grounding::All
+    }
 }
 
 // Whether both names are given and are one.

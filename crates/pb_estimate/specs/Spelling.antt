@@ -6,20 +6,26 @@ use Rattle.pb_packed.specs.Sizes.{version_1_digits, most_digits}
 use Rattle.pb_model.specs.Certificate.{Certificate}
 use Rattle.pb_model.specs.Texts.{spaced, certificate_text}
 use Rattle.pb_task.specs.declared.kind.Kind.{Kind}
+use Rattle.pb_task.specs.declared.kind.Kind.TheVariants.{Strips}
+use Rattle.pb_task.specs.declared.grounding.Grounding.{Grounding}
+use Rattle.pb_task.specs.declared.grounding.Grounding.TheVariants.{All, Reachable}
 use Rattle.pb_task.specs.declared.parts.TaskParts.{TaskParts}
 use Rattle.pb_task.specs.Kinds.{kind_of, kind_name}
+use Rattle.pb_task.specs.Groundings.{grounding_of, grounding_name}
 use Rattle.pb_task.specs.Widths.{width_of}
 use Rattle.pb_estimate.specs.declared.choice.Choice.{Choice}
 use Rattle.pb_estimate.specs.declared.choice.Choice.TheVariants.{Plain, Pattern}
 use Rattle.pb_estimate.specs.declared.spelling.Stated.{Stated}
 use Rattle.pb_estimate.specs.declared.spelling.Version.{Version}
-use Rattle.pb_estimate.specs.declared.spelling.Version.TheVariants.{One, Two, Three}
+use Rattle.pb_estimate.specs.declared.spelling.Version.TheVariants.{One, Two, Three, Four}
 use Rattle.pb_estimate.specs.declared.spelling.Spelling.{Spelling}
 
--- the version in which a certificate is written whose search had this choice of an estimate
-abbrev pub version_of : Choice → Version
-version_of Plain = Two
-version_of (Pattern number) = Three
+-- The version in which a certificate of a task with this grounding is written whose search had this
+-- choice of an estimate.
+abbrev pub version_of : Grounding → Choice → Version
+version_of Reachable choice = Four
+version_of All Plain = Two
+version_of All (Pattern number) = Three
 
 -- How a certificate of this task is written whose search had this choice of an estimate: with as
 -- many digits as the task's states need.
@@ -27,9 +33,9 @@ abbrev pub spelling_of : TaskParts → Choice → Spelling
 spelling_of parts choice =
     record {
       kind = kind_of parts;
-      version = version_of choice;
+      version = version_of (grounding_of parts) choice;
       width = width_of parts;
-      stated = record { choice = choice };
+      stated = record { grounding = grounding_of parts; choice = choice };
     }
 
 -- the states of this version have so many digits
@@ -37,19 +43,43 @@ abbrev pub IsWidthOf : Version → (width : ℕ) → Type 0
 IsWidthOf One width = width ≡ version_1_digits
 IsWidthOf Two width = (1 ≤ width) × (width ≤ most_digits)
 IsWidthOf Three width = (1 ≤ width) × (width ≤ most_digits)
+IsWidthOf Four width = (1 ≤ width) × (width ≤ most_digits)
+
+-- the plain choice, or a pattern by any number that a text can state
+abbrev pub CanBeStated : Choice → Type 0
+CanBeStated Plain = ⊤
+CanBeStated (Pattern number) = number < 2 ^ 63
 
 -- This version states this choice. Version 3 states a pattern, by any number that a text can state,
--- and the others say nothing of a choice.
+-- and version 4 any choice. The others say nothing of a choice.
 abbrev pub StatesChoice : Version → Choice → Type 0
 StatesChoice One Plain = ⊤
 StatesChoice Two Plain = ⊤
 StatesChoice Three (Pattern number) = number < 2 ^ 63
+StatesChoice Four choice = CanBeStated choice
 StatesChoice version choice = ⊥
+
+-- This version states this grounding. Before version 4 none is stated: all ground atoms have
+-- numbers.
+abbrev pub StatesGrounding : Version → Grounding → Type 0
+StatesGrounding One grounding = grounding ≡ All
+StatesGrounding Two grounding = grounding ≡ All
+StatesGrounding Three grounding = grounding ≡ All
+StatesGrounding Four grounding = ⊤
+
+-- this version is for tasks of this kind
+abbrev pub IsVersionFor : Version → Kind → Type 0
+IsVersionFor One kind = ⊤
+IsVersionFor Two kind = ⊤
+IsVersionFor Three kind = ⊤
+IsVersionFor Four kind = kind ≡ Strips
 
 -- a spelling that there is
 pub record IsSpelling (spelling : Spelling) : Type 0 where
   pub width : IsWidthOf spelling.version spelling.width
   pub choice : StatesChoice spelling.version spelling.stated.choice
+  pub grounding : StatesGrounding spelling.version spelling.stated.grounding
+  pub kind : IsVersionFor spelling.version spelling.kind
 
 -- ---- the lines before the weight
 
@@ -57,6 +87,7 @@ abbrev pub version_line : Version → List ℕ
 version_line One = codes "pbnf-certificate 1"
 version_line Two = codes "pbnf-certificate 2"
 version_line Three = codes "pbnf-certificate 3"
+version_line Four = codes "pbnf-certificate 4"
 
 abbrev pub kind_line : Kind → List ℕ
 kind_line kind = spaced (codes "kind") (kind_name kind)
@@ -66,21 +97,33 @@ abbrev pub width_text : Version → (width : ℕ) → List (List ℕ)
 width_text One width = []
 width_text Two width = spaced (codes "width") (decimal width) ∷ []
 width_text Three width = spaced (codes "width") (decimal width) ∷ []
+width_text Four width = spaced (codes "width") (decimal width) ∷ []
 
--- the lines that say the choice of an estimate; the plain one needs none
+-- the lines that say the choice of an estimate in version 3; the plain one needs none
 abbrev pub choice_text : Choice → List (List ℕ)
 choice_text Plain = []
 choice_text (Pattern number) = spaced (codes "pattern") (decimal number) ∷ []
 
+abbrev pub grounding_line : Grounding → List ℕ
+grounding_line grounding = spaced (codes "grounding") (grounding_name grounding)
+
+-- the line that says the choice of an estimate in version 4
+abbrev pub estimate_line : Choice → List ℕ
+estimate_line Plain = codes "estimate plain"
+estimate_line (Pattern number) = spaced (codes "estimate pattern") (decimal number)
+
 -- the lines that say what is stated besides
-abbrev pub stated_text : Stated → List (List ℕ)
-stated_text stated = choice_text stated.choice
+abbrev pub stated_text : Version → Stated → List (List ℕ)
+stated_text One stated = []
+stated_text Two stated = []
+stated_text Three stated = choice_text stated.choice
+stated_text Four stated = grounding_line stated.grounding ∷ estimate_line stated.choice ∷ []
 
 abbrev pub head_of : Spelling → List (List ℕ)
 head_of spelling =
     version_line spelling.version
     ∷ kind_line spelling.kind
-    ∷ (width_text spelling.version spelling.width ++ stated_text spelling.stated)
+    ∷ (width_text spelling.version spelling.width ++ stated_text spelling.version spelling.stated)
 
 -- how many lines come before the weight
 abbrev pub head_lines : Spelling → ℕ

@@ -1,27 +1,41 @@
 //! How a certificate is spelled. What writes certificates and what reads them both stand on this.
 ghost use Rattle.std.specs.Prelude.{◌≡◌, ◌≤◌, ℕ, length, true};
 ghost use Rattle.pb_estimate.specs.Estimates.{suits};
-ghost use Rattle.pb_estimate.specs.Spelling.{IsSpelling, spelling_of, version_of, width_text, stated_text, head_lines};
+ghost use Rattle.pb_estimate.specs.Spelling.{IsSpelling, spelling_of, version_of, width_text, choice_text, stated_text, head_lines};
 
 use crate::choice::Choice;
-use pb_task::{Kind, Task};
+use pb_task::{Grounding, Kind, Task};
 
 /// What a certificate states beside the kind of its task and the width of its states.
 #[derive(Drop)]
 pub struct Stated {
+    /// Which ground atoms and actions of its task have numbers.
+    pub grounding: Grounding,
     /// The choice of the estimate by which its cut rows are judged.
     pub choice: Choice,
 }
 
+// How many lines of a certificate of version 3 say the choice of an estimate.
+fn choice_lines(choice: &Choice) -> u32
+    ensures lines { result ≡ length (choice_text choice.now) }
+    ensures few { result ≤ 1 }
+{
+    match choice {
+        Choice::Plain => 0,
+        Choice::Pattern(_) => 1,
+    }
+}
+
 impl Stated {
-    /// How many lines of a certificate say it.
-    pub fn lines(&self) -> u32
-        ensures lines { result ≡ length (stated_text self.now) }
+    /// How many lines of a certificate of this version say it.
+    pub fn lines(&self, version: Version) -> u32
+        ensures lines { result ≡ length (stated_text version self.now) }
         ensures few { result ≤ 16 }
     {
-        match &self.choice {
-            Choice::Plain => 0,
-            Choice::Pattern(_) => 1,
+        match version {
+            Version::One | Version::Two => 0,
+            Version::Three => choice_lines(&self.choice),
+            Version::Four => 2,
         }
     }
 }
@@ -35,6 +49,9 @@ pub enum Version {
     Two,
     /// Another line states the number of a pattern.
     Three,
+    /// Of a STRIPS task alone. Two lines behind the width state which ground atoms and actions have
+    /// numbers, and the choice of an estimate.
+    Four,
 }
 
 impl Version {
@@ -45,8 +62,7 @@ impl Version {
     {
         match self {
             Version::One => 0,
-            Version::Two => 1,
-            Version::Three => 1,
+            Version::Two | Version::Three | Version::Four => 1,
         }
     }
 }
@@ -64,13 +80,15 @@ pub struct Spelling {
     pub stated: Stated,
 }
 
-// The version in which a certificate is written whose search had this choice of an estimate.
-fn version_of(choice: &Choice) -> Version
-    ensures { result ≡ version_of choice.now }
+// The version in which a certificate of a task with this grounding is written whose search had this
+// choice of an estimate.
+fn version_of(grounding: Grounding, choice: &Choice) -> Version
+    ensures { result ≡ version_of grounding choice.now }
 {
-    match choice {
-        Choice::Plain => Version::Two,
-        Choice::Pattern(_) => Version::Three,
+    match (grounding, choice) {
+        (Grounding::Reachable, _) => Version::Four,
+        (Grounding::All, Choice::Plain) => Version::Two,
+        (Grounding::All, Choice::Pattern(_)) => Version::Three,
     }
 }
 
@@ -80,11 +98,12 @@ impl Spelling {
         ensures spelling { result ≡ spelling_of task.now choice }
         ensures known { suits task.now choice ≡ true → IsSpelling result }
     {
+        let grounding = task.grounding();
         Spelling {
             kind: task.kind(),
-            version: version_of(&choice),
+            version: version_of(grounding, &choice),
             width: task.width(),
-            stated: Stated { choice },
+            stated: Stated { grounding, choice },
         }
     }
 
@@ -93,6 +112,6 @@ impl Spelling {
         ensures lines { result ≡ head_lines self.now }
         ensures few { result ≤ 19 }
     {
-        2 + self.version.width_lines() + self.stated.lines()
+        2 + self.version.width_lines() + self.stated.lines(self.version)
     }
 }

@@ -6,7 +6,7 @@ use crate::find_tables;
 use pb_model::Estimate;
 use pb_packed::Packed;
 use pb_tables::{ImageList, Table, Tables};
-use pb_task::{ActionName, Actions, GroundAction, StripsParts};
+use pb_task::{ActionName, Actions, GroundAction, Grounding, StripsParts};
 use std::alloc::{AllocError, Global};
 use std::process::Abort;
 use std::test::Fail;
@@ -42,6 +42,7 @@ fn spending(alloc: Global, goal: u64, again: u64) -> Result<StripsParts, AllocEr
         start: Packed::of_word(4),
         goal: Packed::of_word(goal),
         never: false,
+        grounding: Grounding::All,
     })
 }
 

@@ -6,6 +6,7 @@ use Rattle.pb_packed.specs.Sizes.{most_atoms}
 use Rattle.pb_packed.specs.Bits.{bits_of}
 use Rattle.pb_model.specs.Space.{Space, IsProper}
 use Rattle.pb_task.specs.declared.parts.GroundAction.{GroundAction}
+use Rattle.pb_task.specs.declared.grounding.Grounding.TheVariants as groundings
 use Rattle.pb_task.specs.declared.parts.StripsParts.{StripsParts}
 use Rattle.pb_task.specs.declared.parts.TilesParts.{TilesParts}
 use Rattle.pb_task.specs.Tiles.{board_of, board_state, cell_count, is_board, is_board_state, IsTiles, tiles_space}
@@ -29,7 +30,7 @@ same_actions tracked [] = refl
 same_actions tracked (action ∷ actions) = ap (λ rest. projected_action tracked action ∷ rest) (same_actions tracked actions)
 
 made : (atoms : ℕ) (actions : List GroundAction) (start goal : ℕ) → StripsParts
-made atoms actions start goal = record { atoms = atoms; actions = actions; start = start; goal = goal; never = false }
+made atoms actions start goal = record { atoms = atoms; actions = actions; start = start; goal = goal; never = false; grounding = groundings.All }
 
 pub parts_are : (strips : StripsParts) (tracked : List ℕ) (sets : Sets) → sets.atoms ≡ length tracked → sets.rules.items ≡ map (rule_of tracked) strips.actions → sets.start ≡ image_of_set tracked strips.start
     → sets.goal ≡ image_of_set tracked strips.goal → parts_of sets ≡ projected_strips strips tracked

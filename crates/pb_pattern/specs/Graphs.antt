@@ -3,6 +3,7 @@
 use Rattle.std.specs.Prelude.{ℕ, suc, ◌^◌, ◌≤◌, false, List, [], map}
 use Rattle.pb_model.specs.Space.{Space, IsProper}
 use Rattle.pb_task.specs.declared.parts.GroundAction.{GroundAction}
+use Rattle.pb_task.specs.declared.grounding.Grounding.TheVariants as groundings
 use Rattle.pb_task.specs.declared.parts.StripsParts.{StripsParts}
 use Rattle.pb_task.specs.declared.parts.TilesParts.{TilesParts}
 use Rattle.pb_task.specs.Strips.{strips_space, IsStrips}
@@ -42,6 +43,7 @@ parts_of sets = record {
   start = sets.start;
   goal = sets.goal;
   never = false;
+  grounding = groundings.All;
 }
 
 abbrev pub sets_space : Sets → Space

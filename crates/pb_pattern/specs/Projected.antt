@@ -4,6 +4,7 @@ use Rattle.std.specs.Prelude.{ℕ, zero, suc, ◌+◌, ◌-◌, ◌*◌, ◌^◌
 use Rattle.std.specs.List.{list_all}
 use Rattle.pb_model.specs.Space.{Space}
 use Rattle.pb_task.specs.declared.parts.GroundAction.{GroundAction}
+use Rattle.pb_task.specs.declared.grounding.Grounding.TheVariants as groundings
 use Rattle.pb_task.specs.declared.parts.StripsParts.{StripsParts}
 use Rattle.pb_task.specs.declared.parts.TilesParts.{TilesParts}
 use Rattle.pb_task.specs.Tiles.{cell_count, board_state, board_of, neighbour}
@@ -108,4 +109,5 @@ projected_strips strips tracked = record {
   start = image_of_set tracked strips.start;
   goal = image_of_set tracked strips.goal;
   never = false;
+  grounding = groundings.All;
 }

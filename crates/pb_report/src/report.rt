@@ -150,6 +150,7 @@ impl Report {
                 b" ",
                 u64::from(wanted),
             ),
+            CertificateFault::Grounding => Report::of_line(alloc, b"refused Grounding"),
             CertificateFault::Pattern => Report::of_line(alloc, b"refused Pattern"),
             CertificateFault::Weight => Report::of_line(alloc, b"refused Weight"),
             CertificateFault::PlanStep { i } => Report::with_number(alloc, b"refused PlanStep ", i),

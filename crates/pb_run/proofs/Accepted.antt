@@ -1,5 +1,5 @@
 -- What one call of the program saves, another one accepts.
-use Rattle.std.proofs.Common.{◌≡◌, ◌⊎◌, inl, inr, ℕ, false, ◌<◌, ◌≤◌, Option, None, Some, List, [], ◌∷◌, ◌++◌, length, Ok, refl, sym, ap, ap₂, subst, ◌∙◌, arith}
+use Rattle.std.proofs.Common.{◌≡◌, ◌⊎◌, inl, inr, ℕ, false, ◌<◌, ◌≤◌, Option, None, Some, List, [], ◌∷◌, ◌++◌, length, Ok, Bool, refl, sym, ap, subst, ◌∙◌, arith}
 use Rattle.pb_model.specs.Plan.{Plan}
 use Rattle.pb_model.specs.Texts.{stopped_report}
 use Rattle.pb_task.specs.declared.parts.TaskParts.{TaskParts}
@@ -13,7 +13,7 @@ use Rattle.pb_command.specs.declared.command.Engine.{Engine}
 use Rattle.pb_command.specs.declared.command.Engine.TheVariants.{Leases, Owners}
 use Rattle.pb_command.specs.declared.command.InputOptions.{InputOptions}
 use Rattle.pb_command.specs.declared.table.ValuedOption.TheVariants.{Journal as JournalOption}
-use Rattle.pb_command.specs.Values.{InputNames, Grid, Tiles, Strips}
+use Rattle.pb_command.specs.Values.{InputNames, Grid, Tiles, Strips, grounding_by}
 use Rattle.pb_command.specs.Meaning.{Reading, Read, Solve, Check, Journal, SolveMeaning, CheckMeaning, JournalMeaning, reading_of_words}
 use Rattle.pb_command.specs.Options.{Argument, value_given, engine_given, HaveKeptJournal, SolveReadsOptions, CheckReadsOptions, JournalReadsOptions}
 use Rattle.pb_answer.specs.Outputs.{Output, output}
@@ -190,6 +190,11 @@ saved_journals_are_accepted law lengths marks blocks solve journal ran judged na
 
 -- ---- by the words
 
+-- what options say of how files are read, if they say the same of the row, of swamp and of the grounding
+pub options_agree : (row other : ℕ) (swamp another flag mine : Bool) → row ≡ other → swamp ≡ another → flag ≡ mine
+    → ◌≡◌ {A = InputOptions} (record { row = row; swamp = swamp; grounding = grounding_by flag }) (record { row = other; swamp = another; grounding = grounding_by mine })
+options_agree row other swamp another flag mine rows swamps flags i = record { row = rows i; swamp = swamps i; grounding = grounding_by (flags i) }
+
 -- where the shelf and the sink serve, the certificate or the journal is accepted or memory ran out
 served_is : (status : ℕ) → 71 < status → IsAnswer status ⊎ (status ≡ 71) → (status ≡ 0) ⊎ (status ≡ 71)
 served_is status past (inl (inl k)) = inl k
@@ -252,7 +257,7 @@ certificates_are_accepted_by_words solve_reads check_reads input name file text 
     matching.kept) kept
     kept_too _ name
     text (check_reads input file others matching.each matching.distinct matching.placed new) refl
-    (ap₂ (λ row swamp. record { row = row; swamp = swamp }) matching.row same_swamp) named answered saved texts
+    (options_agree _ _ _ _ _ _ matching.row same_swamp matching.reachable) named answered saved texts
 
 -- a journal that may be asked for is one of a search by leases
 by_leases : (arguments : List Argument) (name : List ℕ) → HaveKeptJournal arguments
@@ -274,4 +279,4 @@ journals_are_accepted_by_words law solve_reads journal_reads input name file tex
     matching.kept) kept
     kept_too law (by_leases arguments name matching.kept named) _
     name text (journal_reads input file others matching.each matching.distinct matching.placed) refl
-    (ap (λ row. record { row = row; swamp = false }) matching.row) named answered saved texts
+    (options_agree _ _ false false _ _ matching.row refl matching.reachable) named answered saved texts

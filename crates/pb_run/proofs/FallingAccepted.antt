@@ -1,5 +1,5 @@
 -- The certificates that a call with falling weights saves are accepted by another call.
-use Rattle.std.proofs.Common.{◌≡◌, ◌⊎◌, inl, inr, ℕ, ◌+◌, Option, None, Some, List, [], ◌∷◌, ◌++◌, length, Result, Ok, refl, sym, ap, ap₂, subst, ◌∙◌}
+use Rattle.std.proofs.Common.{◌≡◌, ◌⊎◌, inl, inr, ℕ, ◌+◌, Option, None, Some, List, [], ◌∷◌, ◌++◌, length, Result, Ok, refl, sym, ap, subst, ◌∙◌}
 use Rattle.std.specs.List.{AllByRecursion}
 use Rattle.pb_model.specs.Weight.{Weight}
 use Rattle.pb_model.specs.Plan.{Plan}
@@ -20,7 +20,7 @@ use Rattle.pb_run.specs.Outcome.{Outcome, IfFalling, IfCheck, IsBroken}
 use Rattle.pb_run.specs.Commands.{IsOfVerdict, CheckHolds}
 use Rattle.pb_run.specs.FallingHeadline.{PrintedClaim, IsNumberedFile, SavesOne, AreNumberedFiles, SavesEach, IsNext, IsSilent, EndsProved, EndsNone, EndsStopped, EndsShort, EndsUnprinted, IsRefusedInPart, FallingHolds}
 use Rattle.pb_run.specs.FallingLaws.{SavesWhole, IsSaved, SavedClaimsAreAccepted, ClaimsAreAcceptedByWords}
-use Rattle.pb_run.proofs.Accepted.{accepts_it}
+use Rattle.pb_run.proofs.Accepted.{accepts_it, options_agree}
 use Rattle.pb_run.proofs.FallingTold.{all_joined}
 
 -- ---- files that are accepted
@@ -135,6 +135,6 @@ claims_are_accepted_by_words falling_reads check_reads input steps file argument
     let reads : ran.asked ≡ Read (Falling falling) = asked ∙ falling_reads input steps arguments m.solve m.falling m.weight m.engine m.journal in
     let also = kept.asked ∙ check_reads input file others m.each m.distinct m.placed m.new in
     accepts_it checked_ran.said.status
-    (saved_claims_are_accepted falling _ ran checked_ran saved reads refl (ap₂ (λ row swamp. record { row = row; swamp = swamp }) m.row m.swamp) whole is texts
+    (saved_claims_are_accepted falling _ ran checked_ran saved reads refl (options_agree _ _ _ _ _ _ m.row m.swamp m.reachable) whole is texts
     (subst (λ (r : Reading). IfFalling r (λ f. FallingHolds f ran)) reads holds)
     (subst (λ (r : Reading). IfCheck r (λ c. CheckHolds c checked_ran)) also kept.check))

@@ -11,7 +11,8 @@ use Rattle.pb_task.specs.Parts.{space_of, action_name}
 use Rattle.pb_pddl.specs.declared.tree.Domain.{Domain}
 use Rattle.pb_pddl.specs.declared.tree.Problem.{Problem}
 use Rattle.pb_lifted.specs.Plans.{IsPlan, plan_cost}
-use Rattle.pb_strips.specs.Grounding.{strips_of}
+use Rattle.pb_task.specs.declared.grounding.Grounding.{Grounding}
+use Rattle.pb_strips.specs.Grounding.{strips_with}
 use Rattle.pb_command.specs.Meaning.{FallingMeaning}
 use Rattle.pb_answer.specs.Named.{OfTrees, NoneCheaperByNames, HasNoNamedPlan}
 use Rattle.pb_answer.specs.Loaded.{OfTexts}
@@ -23,9 +24,9 @@ use Rattle.pb_run.specs.FallingKinds.{PrintsClaims, PrintsInPart, PrintsCheapest
 use Rattle.pb_run.proofs.FallingTold.{all_first, all_last}
 use Rattle.pb_run.proofs.FallingByKind as kind
 
-module _ (domain : Domain) (problem : Problem) (are : AreTask domain problem) where
+module _ (grounding : Grounding) (domain : Domain) (problem : Problem) (are : AreTask grounding domain problem) where
   abbrev task : TaskParts
-  task = kinds.Strips (strips_of domain problem)
+  task = kinds.Strips (strips_with grounding domain problem)
 
   -- ---- a claim by names
 
@@ -46,7 +47,7 @@ module _ (domain : Domain) (problem : Problem) (are : AreTask domain problem) wh
 
   name_claim : (claim : PrintedClaim) → Holds claim → Least claim → (named : NamedClaim) × IsNamed claim named
   name_claim claim (is, bounded) least =
-      let found = plan_by_names domain problem are claim.weight claim.plan claim.bound is bounded least in (
+      let found = plan_by_names grounding domain problem are claim.weight claim.plan claim.bound is bounded least in (
         record { weight = claim.weight; actions = found.0; bound = claim.bound },
         record {
           weight = refl;
@@ -158,7 +159,7 @@ module _ (domain : Domain) (problem : Problem) (are : AreTask domain problem) wh
         text ∙ texts (claims ++ last ∷ []) (before.0 ++ final.0 ∷ []) named,
         every_with MayBeCheaper (NamedMayBeCheaper domain problem) (λ claim n is more same. more (sym is.bound ∙ same ∙ sym is.cost)) claims before.0 before.1 improvable,
         final.1.bound ∙ proved ∙ cost,
-        none_below_by_names domain problem are (plan_cost domain problem final.0.actions)
+        none_below_by_names grounding domain problem are (plan_cost domain problem final.0.actions)
             (λ other is. subst (λ (n : ℕ). n ≤ other.cost) cost (least other is)),
       )
 
@@ -166,19 +167,19 @@ module _ (domain : Domain) (problem : Problem) (are : AreTask domain problem) wh
       → PrintsNamedInPart report weight steps budget domain problem
   named_in_part report weight steps budget (rest, inl claims) = (rest, inl (named_claims (report ++ rest) weight steps [] claims))
   named_in_part report weight steps budget (rest, inr (inl claims)) = (rest, inr (inl (named_claims (report ++ rest) weight steps (stopped_report budget) claims)))
-  named_in_part report weight steps budget (rest, inr (inr (text, none))) = (rest, inr (inr (text, no_named_plan domain problem are none)))
+  named_in_part report weight steps budget (rest, inr (inr (text, none))) = (rest, inr (inr (text, no_named_plan grounding domain problem are none)))
 
 -- ---- of what the texts spell
 
 pub named_holds : (falling : FallingMeaning) (it : Outcome) → FallingHolds falling it → FallingNamedHolds falling it
 named_holds falling it holds = record {
   proved = λ e. texts_by_names it.texts (kind.Last falling it) (PrintsNamedLast it.said.report (weight_of_words falling.solve) falling.steps)
-      (λ domain problem are last. named_last domain problem are it.said.report (weight_of_words falling.solve) falling.steps last)
+      (λ grounding domain problem are last. named_last grounding domain problem are it.said.report (weight_of_words falling.solve) falling.steps last)
       falling.solve (kind.proved falling it holds e);
   none = λ e. texts_by_names it.texts (λ task. HasNoPlan (space_of task)) HasNoNamedPlan no_named_plan falling.solve (kind.none falling it holds e);
   stopped = λ e. texts_by_names it.texts (kind.Claims falling it (kind.budget_line falling it))
       (PrintsNamedClaims it.said.report (weight_of_words falling.solve) falling.steps (kind.budget_line falling it))
-      (λ domain problem are claims. named_claims domain problem are it.said.report (weight_of_words falling.solve) falling.steps (kind.budget_line falling it) claims)
+      (λ grounding domain problem are claims. named_claims grounding domain problem are it.said.report (weight_of_words falling.solve) falling.steps (kind.budget_line falling it) claims)
       falling.solve (kind.stopped falling it holds e);
   short = λ e. go (kind.short falling it holds e);
   unsaved = λ e. go (kind.unsaved falling it holds e);
@@ -189,7 +190,7 @@ named_holds falling it holds = record {
         → (it.said.report ≡ []) ⊎ OfTrees falling.solve.input 0 it.texts (PrintsNamedClaims it.said.report (weight_of_words falling.solve) falling.steps [])
     go (inl silent) = inl silent
     go (inr claims) = inr (texts_by_names it.texts (kind.Claims falling it []) (PrintsNamedClaims it.said.report (weight_of_words falling.solve) falling.steps [])
-        (λ domain problem are c. named_claims domain problem are it.said.report (weight_of_words falling.solve) falling.steps [] c) falling.solve claims)
+        (λ grounding domain problem are c. named_claims grounding domain problem are it.said.report (weight_of_words falling.solve) falling.steps [] c) falling.solve claims)
 
     part : IsRefusedInPart falling.solve it.texts it.said ⊎ OfTexts falling.solve it.texts (kind.InPart falling it)
         → IsRefusedInPart falling.solve it.texts it.said
@@ -197,4 +198,4 @@ named_holds falling it holds = record {
     part (inl refused) = inl refused
     part (inr begun) = inr (texts_by_names it.texts (kind.InPart falling it)
         (PrintsNamedInPart it.said.report (weight_of_words falling.solve) falling.steps falling.solve.settings.budget)
-        (λ domain problem are b. named_in_part domain problem are it.said.report (weight_of_words falling.solve) falling.steps falling.solve.settings.budget b) falling.solve begun)
+        (λ grounding domain problem are b. named_in_part grounding domain problem are it.said.report (weight_of_words falling.solve) falling.steps falling.solve.settings.budget b) falling.solve begun)

@@ -14,12 +14,15 @@ use Rattle.pb_model.specs.Certificate.{Line, Certificate}
 use Rattle.pb_model.specs.Texts.{line, lines, spaced, plan_report, stopped_report, line_text, plan_text, weight_text, rows_text}
 use Rattle.pb_task.specs.declared.kind.Kind.{Kind}
 use Rattle.pb_task.specs.declared.kind.Kind.TheVariants.{Grid, Tiles, Strips}
+use Rattle.pb_task.specs.declared.grounding.Grounding.{Grounding}
+use Rattle.pb_task.specs.declared.grounding.Grounding.TheVariants.{All, Reachable}
 use Rattle.pb_estimate.specs.declared.choice.Choice.{Choice}
 use Rattle.pb_estimate.specs.declared.choice.Choice.TheVariants.{Plain, Pattern}
 use Rattle.pb_estimate.specs.declared.spelling.Spelling.{Spelling}
+use Rattle.pb_estimate.specs.declared.spelling.Stated.{Stated}
 use Rattle.pb_estimate.specs.declared.spelling.Version.{Version}
-use Rattle.pb_estimate.specs.declared.spelling.Version.TheVariants.{One, Two, Three}
-use Rattle.pb_estimate.specs.Spelling.{version_line, kind_line, width_text, choice_text, head_of, spelled_text}
+use Rattle.pb_estimate.specs.declared.spelling.Version.TheVariants.{One, Two, Three, Four}
+use Rattle.pb_estimate.specs.Spelling.{version_line, kind_line, width_text, choice_text, grounding_line, estimate_line, stated_text, head_of, spelled_text}
 
 pub line_long : (text : List ℕ) → length (line text) ≡ length text + 1
 line_long text = length-append text (10 ∷ [])
@@ -130,7 +133,7 @@ IsSmallPlanIfAny most None = ⊤
 IsSmallPlanIfAny most (Some plan) = IsSmallPlan most plan
 
 stated_plan_long : (most : ℕ) (plan : Option Plan) → most < 2 ^ 63 → IsSmallPlanIfAny most plan
-    → length (plan_text plan) ≤ 64 + 6 * most
+    → length (plan_text plan) ≤ 51 + 6 * most
 stated_plan_long most None few small = omega arith
 stated_plan_long most (Some plan) few small =
     let count : ℕ = length plan.actions in
@@ -156,7 +159,7 @@ stated_plan_long most (Some plan) few small =
         )
 
 weight_long : (weight : Weight) → weight.num < 2 ^ 63 → weight.den < 2 ^ 63
-    → length (weight_text weight) ≤ 64
+    → length (weight_text weight) ≤ 47
 weight_long weight num den =
     let whole = line_long (spaced (codes "weight") (spaced (decimal weight.num) (decimal weight.den))) in
     let one = spaced_long (codes "weight") (spaced (decimal weight.num) (decimal weight.den)) in
@@ -179,6 +182,7 @@ version_long : (version : Version) → length (line (version_line version)) ≤ 
 version_long One = omega arith
 version_long Two = omega arith
 version_long Three = omega arith
+version_long Four = omega arith
 
 one_line_long : (text : List ℕ) → length (lines (text ∷ [])) ≡ length text + 1
 one_line_long text =
@@ -186,19 +190,20 @@ one_line_long text =
     let both = length-append (line text) [] in
     omega (arith, one, both)
 
+width_line_long : (width : ℕ) → width < 2 ^ 63
+    → length (lines (spaced (codes "width") (decimal width) ∷ [])) ≤ 26
+width_line_long width small =
+    let one = one_line_long (spaced (codes "width") (decimal width)) in
+    let two = spaced_long (codes "width") (decimal width) in
+    let number = number_long width small in
+    omega (arith, one, two, number)
+
 width_long : (version : Version) (width : ℕ) → width < 2 ^ 63
     → length (lines (width_text version width)) ≤ 26
 width_long One width small = omega arith
-width_long Two width small =
-    let one = one_line_long (spaced (codes "width") (decimal width)) in
-    let two = spaced_long (codes "width") (decimal width) in
-    let number = number_long width small in
-    omega (arith, one, two, number)
-width_long Three width small =
-    let one = one_line_long (spaced (codes "width") (decimal width)) in
-    let two = spaced_long (codes "width") (decimal width) in
-    let number = number_long width small in
-    omega (arith, one, two, number)
+width_long Two width small = width_line_long width small
+width_long Three width small = width_line_long width small
+width_long Four width small = width_line_long width small
 
 choice_long : (choice : Choice) → IsSmallChoice choice → length (lines (choice_text choice)) ≤ 28
 choice_long Plain small = omega arith
@@ -217,11 +222,39 @@ lines_append (text ∷ first) second =
     let two = length-append (line text) (lines first) in
     omega (arith, rest, one, two)
 
+grounding_long : (grounding : Grounding) → length (line (grounding_line grounding)) ≤ 20
+grounding_long All = omega arith
+grounding_long Reachable = omega arith
+
+estimate_long : (choice : Choice) → IsSmallChoice choice → length (line (estimate_line choice)) ≤ 37
+estimate_long Plain small = omega arith
+estimate_long (Pattern number) small =
+    let one = line_long (spaced (codes "estimate pattern") (decimal number)) in
+    let two = spaced_long (codes "estimate pattern") (decimal number) in
+    let digits = number_long number small in
+    omega (arith, one, two, digits)
+
+stated_long : (version : Version) (stated : Stated) → IsSmallChoice stated.choice
+    → length (lines (stated_text version stated)) ≤ 57
+stated_long One stated small = omega arith
+stated_long Two stated small = omega arith
+stated_long Three stated small =
+    let choice = choice_long stated.choice small in
+    omega (arith, choice)
+stated_long Four stated small =
+    let estimate = lines (estimate_line stated.choice ∷ []) in
+    let both = length-append (line (grounding_line stated.grounding)) estimate in
+    let one = one_line_long (estimate_line stated.choice) in
+    let other = line_long (estimate_line stated.choice) in
+    let grounding = grounding_long stated.grounding in
+    let choice = estimate_long stated.choice small in
+    omega (arith, both, one, other, grounding, choice)
+
 head_long : (spelling : Spelling) → spelling.width < 2 ^ 63 → IsSmallChoice spelling.stated.choice
-    → length (lines (head_of spelling)) ≤ 85
+    → length (lines (head_of spelling)) ≤ 114
 head_long spelling small fine =
     let widths = width_text spelling.version spelling.width in
-    let stated = choice_text spelling.stated.choice in
+    let stated = stated_text spelling.version spelling.stated in
     let first = length-append (line (version_line spelling.version))
     (line (kind_line spelling.kind) ++ lines (widths ++ stated)) in
     let second = length-append (line (kind_line spelling.kind)) (lines (widths ++ stated)) in
@@ -229,8 +262,8 @@ head_long spelling small fine =
     let version = version_long spelling.version in
     let kind = kind_long spelling.kind in
     let width = width_long spelling.version spelling.width small in
-    let choice = choice_long spelling.stated.choice fine in
-    omega (arith, first, second, third, version, kind, width, choice)
+    let besides = stated_long spelling.version spelling.stated fine in
+    omega (arith, first, second, third, version, kind, width, besides)
 
 -- a certificate whose numbers are small, with so many rows and steps at most
 pub record IsSmallCertificate (most : ℕ) (certificate : Certificate) : Type 0 where

@@ -16,7 +16,7 @@ use Rattle.pb_check.specs.declared.fault.CertificateFault.{CertificateFault}
 use Rattle.pb_check.specs.Faults.{◌>>=◌}
 use Rattle.pb_check.specs.Reading.{Text, text_of}
 use Rattle.pb_check.specs.declared.fault.CertificateFault.TheVariants as faults
-use Rattle.pb_check.specs.Judging.{passes, unless, same_kind, width_fault, stated_fault, is_weight, plan_fault_if_any, rows_order_fault, first_fault_by, state_fault, is_zero, g_of, row_fault, judged, checked, verdict_of}
+use Rattle.pb_check.specs.Judging.{passes, unless, same_kind, width_fault, grounding_fault, stated_fault, is_weight, plan_fault_if_any, rows_order_fault, first_fault_by, state_fault, is_zero, g_of, row_fault, judged, checked, verdict_of}
 use Rattle.pb_check.specs.Spelling.{PlanFitsIfAny, ReadAsSpelled}
 use Rattle.pb_report.specs.Texts.{made_text}
 use Rattle.pb_command.specs.Meaning.{Read, Make, MakeMeaning}
@@ -57,7 +57,8 @@ judged_is parts text verdict e =
     (cost_of plan) lines) text.first lines in
     let a = goes_on (passes kind) _ verdict e in
     let b = goes_on (passes (width_fault parts version text.spelling.width)) _ verdict a.2 in
-    let c = goes_on (passes (stated_fault parts stated)) _ verdict b.2 in
+    let grounding = goes_on (passes (grounding_fault parts stated)) _ verdict b.2 in
+    let c = goes_on (passes (stated_fault parts stated)) _ verdict grounding.2 in
     let d = goes_on (passes (unless (is_weight weight) faults.Weight)) _ verdict c.2 in
     let f = goes_on (plan_fault_if_any space plan) _ verdict d.2 in
     let g = goes_on (passes (rows_order_fault text.first lines)) _ verdict f.2 in

@@ -5,19 +5,24 @@ use Rattle.pb_model.specs.Plan.{Plan}
 use Rattle.pb_model.specs.Texts.{line, lines, spaced, weight_text, plan_text, rows_text}
 use Rattle.pb_task.specs.declared.kind.Kind.{Kind}
 use Rattle.pb_task.specs.Kinds.{kind_of, kind_name}
+use Rattle.pb_task.specs.declared.grounding.Grounding.{Grounding}
+use Rattle.pb_task.specs.declared.grounding.Grounding.TheVariants.{All, Reachable}
+use Rattle.pb_task.specs.Groundings.{grounding_of, grounding_name}
 use Rattle.pb_task.specs.Widths.{width_of}
 use Rattle.pb_task.specs.declared.parts.TaskParts.{TaskParts}
+use Rattle.pb_estimate.specs.declared.choice.Choice.{Choice}
 use Rattle.pb_estimate.specs.declared.choice.Choice.TheVariants.{Plain, Pattern}
+use Rattle.pb_estimate.specs.declared.spelling.Spelling.{Spelling}
 use Rattle.pb_estimate.specs.Estimates.{choice_with}
-use Rattle.pb_estimate.specs.Spelling.{head_of, spelling_of}
+use Rattle.pb_estimate.specs.Spelling.{head_of, spelling_of, version_of}
 use Rattle.pb_command.specs.Meaning.{Reading, Read, Solve, SolveMeaning}
 use Rattle.pb_command.specs.Options.{SolveReadsOptions, kind_word}
 use Rattle.pb_answer.specs.Outputs.{Output, output}
-use Rattle.pb_answer.specs.Loaded.{solve_task}
+use Rattle.pb_answer.specs.Loaded.{solve_task, grounding_asked}
 use Rattle.pb_answer.specs.Searches.{settings_of, choice_asked, weight_asked}
 use Rattle.pb_answer.specs.Claims.{IsCertificate, journal_outputs_if_any, Certifies}
 use Rattle.pb_answer.specs.Answer.{Saves}
-use Rattle.pb_answer.proofs.Callers.{input_kind}
+use Rattle.pb_answer.proofs.Callers.{input_kind, input_grounding}
 use Rattle.pb_run.specs.Outcome.{Outcome, IfSolve}
 use Rattle.pb_run.specs.Headline.{CertificateHolds}
 use Rattle.pb_run.specs.Commands.{SolveHolds}
@@ -26,21 +31,47 @@ use Rattle.pb_run.proofs.Accepted.{none_of, first_text}
 
 -- ---- the first lines
 
--- those of a certificate by this number of a pattern
+-- how a certificate of a task with this grounding is spelled
+abbrev spelled : TaskParts → Grounding → Choice → Spelling
+spelled task grounding choice = record {
+  kind = kind_of task;
+  version = version_of grounding choice;
+  width = width_of task;
+  stated = record { grounding = grounding; choice = choice };
+}
+
+abbrev kind_of_task : TaskParts → List ℕ
+kind_of_task task = spaced (codes "kind") (kind_name (kind_of task))
+
+abbrev width_of_task : TaskParts → List ℕ
+width_of_task task = spaced (codes "width") (decimal (width_of task))
+
+of_all : (task : TaskParts) (pattern : ℕ) (none : Bool)
+    → head_of (spelled task All (if none then Plain else Pattern pattern))
+    ≡ (if none then codes "pbnf-certificate 2" ∷ kind_of_task task ∷ width_of_task task ∷ []
+    else codes "pbnf-certificate 3" ∷ kind_of_task task ∷ width_of_task task
+    ∷ spaced (codes "pattern") (decimal pattern) ∷ [])
+of_all task pattern true = refl
+of_all task pattern false = refl
+
+of_reachable : (task : TaskParts) (pattern : ℕ) (none : Bool)
+    → head_of (spelled task Reachable (if none then Plain else Pattern pattern))
+    ≡ codes "pbnf-certificate 4" ∷ kind_of_task task ∷ width_of_task task
+    ∷ spaced (codes "grounding") (grounding_name Reachable)
+    ∷ (if none then codes "estimate plain" else spaced (codes "estimate pattern") (decimal pattern)) ∷ []
+of_reachable task pattern true = refl
+of_reachable task pattern false = refl
+
+by_grounding : (task : TaskParts) (pattern : ℕ) (grounding : Grounding)
+    → head_of (spelled task grounding (choice_with pattern))
+    ≡ first_lines (kind_name (kind_of task)) (width_of task) grounding pattern
+by_grounding task pattern All = of_all task pattern (pattern == 0)
+by_grounding task pattern Reachable = of_reachable task pattern (pattern == 0)
+
+-- those of a certificate by its grounding and this number of a pattern
 head_is : (task : TaskParts) (pattern : ℕ) → head_of (spelling_of task (choice_with pattern))
-    ≡ first_lines (kind_name (kind_of task)) (width_of task) pattern
-head_is task pattern = go (pattern == 0)
-  where
-    go : (none : Bool) → head_of (spelling_of task (if none then Plain else Pattern pattern))
-        ≡ (if none then codes "pbnf-certificate 2"
-        ∷ spaced (codes "kind") (kind_name (kind_of task))
-        ∷ spaced (codes "width") (decimal (width_of task)) ∷ []
-        else codes "pbnf-certificate 3"
-        ∷ spaced (codes "kind") (kind_name (kind_of task))
-        ∷ spaced (codes "width") (decimal (width_of task))
-        ∷ spaced (codes "pattern") (decimal pattern) ∷ [])
-    go true = refl
-    go false = refl
+    ≡ first_lines (kind_name (kind_of task)) (width_of task) (grounding_of task) pattern
+head_is task pattern = by_grounding task pattern (grounding_of task)
 
 -- the first lines of a text, and all behind them
 regroup : (head weight plan rows end : List ℕ)
@@ -69,19 +100,20 @@ module _ (solve : SolveMeaning) (ran : Outcome) (name text : List ℕ)
 
   abbrev pub States : Type 0
   States = (task : TaskParts) × (solve_task solve ran.texts ≡ Ok task)
-      × BeginsWithLines (first_lines (kind_word solve.input) (width_of task) solve.settings.pattern)
-      text
+      × BeginsWithLines (first_lines (kind_word solve.input) (width_of task)
+      (grounding_asked solve.input solve.options) solve.settings.pattern) text
 
   states : (task : TaskParts) (plan : Option Plan) → solve_task solve ran.texts ≡ Ok task
       → Certifies (Saves ran.said) solve task plan → States
   states task plan is certifies =
       let first = begins task plan certifies in
-      let kinds = input_kind task solve.input solve.options 0 ran.texts is in (
+      let kinds = input_kind task solve.input solve.options 0 ran.texts is in
+      let groundings = input_grounding task solve.input solve.options 0 ran.texts is in (
         task,
         is,
         subst (λ (lines : List (List ℕ)). BeginsWithLines lines text)
             (head_is task solve.settings.pattern
-            ∙ ap (λ (k : Kind). first_lines (kind_name k) (width_of task) solve.settings.pattern) kinds)
+            ∙ (λ i. first_lines (kind_name (kinds i)) (width_of task) (groundings i) solve.settings.pattern))
             first,
       )
 

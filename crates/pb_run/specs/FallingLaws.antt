@@ -8,7 +8,7 @@ use Rattle.pb_model.specs.Plan.{NoneCheaper}
 use Rattle.pb_outside.specs.Calls.{Call}
 use Rattle.pb_command.specs.declared.command.Engine.TheVariants.{Leases}
 use Rattle.pb_command.specs.declared.table.ValuedOption.TheVariants.{Row, Num, Den, Journal as JournalOption, Falling as FallingOption}
-use Rattle.pb_command.specs.declared.table.FlagOption.TheVariants.{Swamp}
+use Rattle.pb_command.specs.declared.table.FlagOption.TheVariants.{Swamp, Reachable}
 use Rattle.pb_command.specs.Values.{InputNames}
 use Rattle.pb_command.specs.Meaning.{Reading, Read, Falling, FallingMeaning, CheckMeaning, reading_of_words}
 use Rattle.pb_command.specs.Options.{Argument, words_of, placed_words, value_given, number_given, flag_given, engine_given, AreDistinct, IsArgumentOf, is_of_check, is_flag_of_check, kind_word, file_words, AreOfSolve, HasNewName}
@@ -48,8 +48,9 @@ IsSaved said file =
     (before : List Output) × (after : List Output) × (said.outputs ≡ before ++ file ∷ after)
 
 -- A call searched a task with falling weights. Another call checks the text of any one of the files
--- that it saved, which was loaded whole, for the same input, row and swamp. It accepts it, unless
--- it answers nothing. That holds too if the first call ran out of memory or its output failed.
+-- that it saved, which was loaded whole, for the same input, row, swamp and grounding. It accepts
+-- it, unless it answers nothing. That holds too if the first call ran out of memory or its output
+-- failed.
 abbrev pub SavedClaimsAreAccepted : Type 0
 SavedClaimsAreAccepted =
     (falling : FallingMeaning) (check : CheckMeaning) (ran checked : Outcome) (file : Output)
@@ -62,7 +63,8 @@ SavedClaimsAreAccepted =
 
 -- Arguments of `solve` for this input, with `--falling` and other options in any order, for the
 -- engine that has falling weights and without a journal. Also arguments of `check` for the same
--- input, row and swamp, with this file beside it, and a new name for `--rewrite`, if that is given.
+-- input, row, swamp and grounding, with this file beside it, and a new name for `--rewrite`, if that
+-- is given.
 pub record AreFallingMatching (input : InputNames) (steps file : List ℕ)
     (arguments others : List Argument) : Type 0 where
   pub solve : AreOfSolve input arguments
@@ -75,6 +77,7 @@ pub record AreFallingMatching (input : InputNames) (steps file : List ℕ)
   pub placed : placed_words others ≡ kind_word input ∷ file ∷ file_words input
   pub row : number_given Row others ≡ number_given Row arguments
   pub swamp : flag_given Swamp others ≡ flag_given Swamp arguments
+  pub reachable : flag_given Reachable others ≡ flag_given Reachable arguments
   pub new : HasNewName input file others
 
 -- A call with the words `solve .. --falling S` saved certificates whole. Another call has the words

@@ -1,6 +1,6 @@
 -- The five promises to whoever runs `solve` without `--falling`. The task is that of the loaded
--- texts and of the words `--row` and `--swamp`. The same promises for each kind of task in its own
--- words are in `Kinds`, and what else each command promises is in `Commands`.
+-- texts and of the words `--row`, `--swamp` and `--reachable`. The same promises for each kind of
+-- task in its own words are in `Kinds`, and what else each command promises is in `Commands`.
 use Rattle.std.specs.Prelude.{◌≡◌, None}
 use Rattle.pb_model.specs.Plan.{HasNoPlan}
 use Rattle.pb_model.specs.Texts.{none_report, stopped_report}

@@ -5,6 +5,9 @@ use Rattle.std.specs.Fmt.{decimal}
 use Rattle.std.specs.List.{AllByRecursion}
 use Rattle.pb_model.specs.Texts.{lines, spaced}
 use Rattle.pb_task.specs.declared.parts.TaskParts.{TaskParts}
+use Rattle.pb_task.specs.declared.grounding.Grounding.{Grounding}
+use Rattle.pb_task.specs.declared.grounding.Grounding.TheVariants.{All, Reachable}
+use Rattle.pb_task.specs.Groundings.{grounding_name}
 use Rattle.pb_task.specs.Widths.{width_of}
 use Rattle.pb_command.specs.Values.{InputNames}
 use Rattle.pb_command.specs.Meaning.{Read, Solve, SolveMeaning, CheckMeaning, JournalMeaning, reading_of_words}
@@ -12,11 +15,11 @@ use Rattle.pb_command.specs.declared.command.Engine.TheVariants.{Leases}
 use Rattle.pb_command.specs.declared.table.ValuedOption.{ValuedOption}
 use Rattle.pb_command.specs.declared.table.ValuedOption.TheVariants.{Row, Num, Den, Pattern, Certificate, Journal as JournalOption}
 use Rattle.pb_command.specs.declared.table.FlagOption.{FlagOption}
-use Rattle.pb_command.specs.declared.table.FlagOption.TheVariants.{Swamp}
-use Rattle.pb_command.specs.Options.{Argument, words_of, placed_words, value_given, number_given, flag_given, AreDistinct, IsArgumentOf, is_of_check, is_of_journal, is_flag_of_check, no_flag, kind_word, file_words, options_given, AreOfSolve, HaveTwoNames, HaveKeptJournal, HaveOneRun, HasNewName}
+use Rattle.pb_command.specs.declared.table.FlagOption.TheVariants.{Swamp, Reachable as ReachableFlag}
+use Rattle.pb_command.specs.Options.{Argument, words_of, placed_words, value_given, number_given, flag_given, AreDistinct, IsArgumentOf, is_of_check, is_of_journal, is_flag_of_check, is_flag_of_journal, kind_word, file_words, options_given, AreOfSolve, HaveTwoNames, HaveKeptJournal, HaveOneRun, HasNewName}
 use Rattle.pb_journal.specs.Lengths.{most_bytes}
 use Rattle.pb_answer.specs.Outputs.{Output, output}
-use Rattle.pb_answer.specs.Loaded.{OfTexts, input_task}
+use Rattle.pb_answer.specs.Loaded.{OfTexts, input_task, grounding_asked}
 use Rattle.pb_answer.specs.Journals.{IsJournalOf}
 use Rattle.pb_answer.specs.Answer.{Said}
 use Rattle.pb_run.specs.Outcome.{Outcome, IsAnswer, IsBroken}
@@ -32,8 +35,9 @@ abbrev pub IsSavedLast : Said → (name text : List ℕ) → Type 0
 IsSavedLast said name text = (first : List Output) × (said.outputs ≡ first ++ output name text ∷ [])
 
 -- A call searched a task, answered a plan or none, and saved a certificate under a name. Another
--- call checks the text of that certificate, which was loaded whole, for the same input, row and
--- swamp. It accepts it, unless it answers nothing: this follows from what is promised of both.
+-- call checks the text of that certificate, which was loaded whole, for the same input, row, swamp
+-- and grounding. It accepts it, unless it answers nothing: this follows from what is promised of
+-- both.
 abbrev pub SavedCertificatesAreAccepted : Type 0
 SavedCertificatesAreAccepted =
     (solve : SolveMeaning) (check : CheckMeaning) (solved checked : Outcome) (name text : List ℕ)
@@ -46,8 +50,8 @@ SavedCertificatesAreAccepted =
     → (checked.said.status ≡ 0) ⊎ IsBroken checked.said.status
 
 -- A call searched a task by leases, answered a plan, none or a stop, and saved a journal under a
--- name. Another call judges the text of that journal, which was loaded whole, for the same input
--- and row, with swamp or without. It accepts it, unless it answers nothing.
+-- name. Another call judges the text of that journal, which was loaded whole, for the same input,
+-- row and grounding, with swamp or without. It accepts it, unless it answers nothing.
 abbrev pub SavedJournalsAreAccepted : Type 0
 SavedJournalsAreAccepted =
     (solve : SolveMeaning) (journal : JournalMeaning) (solved judged : Outcome)
@@ -86,7 +90,8 @@ pub record Keeps (words : List (List ℕ)) (it : Outcome) : Type 0 where
 
 -- Arguments of `solve` for this input, with options in any order but without `--falling`, for
 -- either engine. Also arguments of a command with these options and flags, `check` or `journal`,
--- for the same input and the same row, with this file beside it.
+-- for the same input and the same row, with this file beside it, and with `--reachable` exactly if
+-- `solve` has it.
 pub record AreMatching (input : InputNames) (has_option : ValuedOption → Bool)
     (has_flag : FlagOption → Bool) (file : List ℕ) (arguments others : List Argument)
     : Type 0 where
@@ -99,6 +104,7 @@ pub record AreMatching (input : InputNames) (has_option : ValuedOption → Bool)
   pub distinct : AreDistinct others
   pub placed : placed_words others ≡ kind_word input ∷ file ∷ file_words input
   pub row : number_given Row others ≡ number_given Row arguments
+  pub reachable : flag_given ReachableFlag others ≡ flag_given ReachableFlag arguments
 
 -- The call accepts, unless it answers nothing. If it has an answer, or memory ran out, it accepts
 -- or memory ran out. This second part is for a shelf that can load and a sink that can take the
@@ -132,7 +138,8 @@ CertificatesAreAcceptedByWords =
 abbrev pub JournalsAreAcceptedByWords : Type 0
 JournalsAreAcceptedByWords =
     (input : InputNames) (name file text : List ℕ) (arguments others : List Argument)
-    (solved judged : Outcome) → AreMatching input is_of_journal no_flag file arguments others
+    (solved judged : Outcome) → AreMatching input is_of_journal is_flag_of_journal file
+    arguments others
     → value_given JournalOption arguments ≡ Some name
     → Keeps (codes "solve" ∷ words_of arguments) solved
     → Keeps (codes "journal" ∷ words_of others) judged
@@ -146,10 +153,11 @@ JournalsAreAcceptedByWords =
 abbrev pub BeginsWithLines : (first : List (List ℕ)) → (text : List ℕ) → Type 0
 BeginsWithLines first text = (rest : List ℕ) × (text ≡ lines first ++ rest)
 
--- The first lines of a certificate of a task of this kind, whose states have so many digits, by the
--- number of the pattern that its search looked up. The number 0 is that of none.
-abbrev pub first_lines : (kind : List ℕ) → (digits pattern : ℕ) → List (List ℕ)
-first_lines kind digits pattern =
+-- The first lines of a certificate of a task of this kind and grounding, whose states have so many
+-- digits, by the number of the pattern that its search looked up. The number 0 is that of none.
+abbrev pub first_lines : (kind : List ℕ) → (digits : ℕ) → Grounding → (pattern : ℕ)
+    → List (List ℕ)
+first_lines kind digits All pattern =
     if pattern == 0 then codes "pbnf-certificate 2"
     ∷ spaced (codes "kind") kind
     ∷ spaced (codes "width") (decimal digits) ∷ []
@@ -157,11 +165,20 @@ first_lines kind digits pattern =
     ∷ spaced (codes "kind") kind
     ∷ spaced (codes "width") (decimal digits)
     ∷ spaced (codes "pattern") (decimal pattern) ∷ []
+first_lines kind digits Reachable pattern =
+    codes "pbnf-certificate 4"
+    ∷ spaced (codes "kind") kind
+    ∷ spaced (codes "width") (decimal digits)
+    ∷ spaced (codes "grounding") (grounding_name Reachable)
+    ∷ (if pattern == 0 then codes "estimate plain"
+    else spaced (codes "estimate pattern") (decimal pattern)) ∷ []
 
 -- A call with the words `solve ..`, with `--cert NAME` among them and without `--falling`, answered
 -- a plan or none and saved a certificate under that name. Its first lines have the kind of the
--- input and the width of the task. It states the number of `--pattern`, if that is given and isn't
--- 0: its fourth line is `pattern K`. Else it is of version 2, which has no such line.
+-- input and the width of the task. For STRIPS with `--reachable` it is of version 4: its fourth line
+-- is `grounding reachable`, and its fifth says the estimate. Else it states the number of
+-- `--pattern`, if that is given and isn't 0: its fourth line is `pattern K`. Without that it is of
+-- version 2, which has no such line.
 abbrev pub CertificatesStateTheirPattern : Type 0
 CertificatesStateTheirPattern =
     (input : InputNames) (name text : List ℕ) (arguments : List Argument) (solved : Outcome)
@@ -174,4 +191,4 @@ CertificatesStateTheirPattern =
     → IsSavedFirst solved.said name text
     → (parts : TaskParts) × (input_task input (options_given arguments) 0 solved.texts ≡ Ok parts)
     × BeginsWithLines (first_lines (kind_word input) (width_of parts)
-    (number_given Pattern arguments)) text
+    (grounding_asked input (options_given arguments)) (number_given Pattern arguments)) text

@@ -15,15 +15,15 @@ use pb_grid::swamp_changes_marks_alone;
 use pb_journal::{journal_texts_are_short, written_journals_are_accepted};
 
 /// A call saves the certificate of a plan, or of there being none. Another call that checks it for
-/// the same input, row and swamp accepts it. This follows from the clauses `solve`, `certified` and
-/// `check` of both.
+/// the same input, row, swamp and grounding accepts it. This follows from the clauses `solve`,
+/// `certified` and `check` of both.
 pub fn saved_certificates_are_accepted()
     ensures { SavedCertificatesAreAccepted }
 {}
 
 /// The journal that one call saves of a search by leases is accepted by another call that judges it
-/// for the same input. This follows from the clauses `solve`, `certified`, `stopped` and `journal`
-/// of both.
+/// for the same input and grounding. This follows from the clauses `solve`, `certified`, `stopped`
+/// and `journal` of both.
 pub fn saved_journals_are_accepted()
     ensures { SavedJournalsAreAccepted }
 {
@@ -64,8 +64,8 @@ pub fn journals_are_accepted_by_words()
 }
 
 /// A saved certificate states the number of its search's pattern, by the words of the call:
-/// `solve ..` with `--pattern K` and `--cert NAME`. With 0, or without `--pattern`, it is of version
-/// 2.
+/// `solve ..` with `--pattern K` and `--cert NAME`. For STRIPS with `--reachable` it is of version 4,
+/// and states that too. Else, with 0 or without `--pattern`, it is of version 2.
 pub fn certificates_state_their_pattern()
     ensures { CertificatesStateTheirPattern }
 {

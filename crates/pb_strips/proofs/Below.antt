@@ -16,6 +16,7 @@ use Rattle.pb_ground.specs.declared.atoms.GroundAtom.{GroundAtom}
 use Rattle.pb_ground.specs.Atoms.{grounded, number_in, same_atom}
 use Rattle.pb_ground.specs.Actions.{with_number_in, numbers_with, numbers_of, action_of, kept_actions_of, kept_actions_from, kept_actions, kept_rows}
 use Rattle.pb_ground.specs.Steps.{Facts}
+use Rattle.pb_task.specs.declared.grounding.Grounding.{Grounding}
 use Rattle.pb_task.specs.Strips.{IsGroundAction, IsStrips}
 use Rattle.pb_strips.specs.Grounding.{packed_action, strips_by}
 use Rattle.pb_strips.specs.Packing.{AreAtoms, HasAtoms}
@@ -100,9 +101,9 @@ all_packed domain problem count (action ∷ actions) range =
     All-cons (IsGroundAction count) (packed_action domain problem count action) (map (packed_action domain problem count) actions) (packed_is domain problem count action (range 0 action (omega arith)))
     (all_packed domain problem count actions (λ k d less. range (suc k) d (omega arith)))
 
-pub is_strips : (domain : Domain) (problem : Problem) (kept : Facts) (atoms : List GroundAtom) → first_refusal domain problem ≡ None → length atoms ≤ most_atoms
-    → length (kept_actions (lifted_of domain problem) kept atoms) ≤ 65536 → IsStrips (strips_by domain problem kept atoms)
-is_strips domain problem kept atoms accepted few_atoms few_actions =
+pub is_strips : (domain : Domain) (problem : Problem) (grounding : Grounding) (kept : Facts) (atoms : List GroundAtom) → first_refusal domain problem ≡ None → length atoms ≤ most_atoms
+    → length (kept_actions (lifted_of domain problem) kept atoms) ≤ 65536 → IsStrips (strips_by domain problem grounding kept atoms)
+is_strips domain problem grounding kept atoms accepted few_atoms few_actions =
     let lifted : Lifted = lifted_of domain problem in
     let actions : List instance.ActionInstance = kept_actions lifted kept atoms in
     let many : length (map (packed_action domain problem (length atoms)) actions) ≡ length actions = length-map actions (packed_action domain problem (length atoms)) in

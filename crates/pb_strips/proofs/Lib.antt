@@ -3,6 +3,7 @@ mod AtomSets
 mod Below
 mod Bridges
 mod CostsBelow
+mod Groundings
 mod Instances
 mod Numbered
 mod Packed

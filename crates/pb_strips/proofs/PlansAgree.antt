@@ -122,11 +122,11 @@ module _ (domain : Domain) (problem : Problem) (task : StripsParts) (facts : ℕ
 -- ---- the cases
 
 pub kept_plans : KeptPlansAreByNames
-kept_plans domain problem kept none keeping =
-    plans_are_by_names domain problem (kept_strips domain problem kept) (kept_facts domain problem kept) (kept_steps domain problem kept none keeping)
+kept_plans domain problem grounding kept none keeping =
+    plans_are_by_names domain problem (kept_strips domain problem grounding kept) (kept_facts domain problem kept) (kept_steps domain problem grounding kept none keeping)
     (set_below (length (kept_atoms (lifted_of domain problem) kept)) _)
 
-all_plans : (domain : Domain) (problem : Problem) → first_fault domain problem ≡ None → PlansAreByNames domain problem (strips_of domain problem)
+pub all_plans : (domain : Domain) (problem : Problem) → first_fault domain problem ≡ None → PlansAreByNames domain problem (strips_of domain problem)
 all_plans domain problem none =
     plans_are_by_names domain problem (strips_of domain problem) (facts_of_state domain problem) (all_steps domain problem none)
     (set_below (length (ground_atoms (lifted_of domain problem))) _)

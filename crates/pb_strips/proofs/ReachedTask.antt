@@ -17,6 +17,7 @@ use Rattle.pb_reach.specs.declared.error.ReachError.TheVariants as reaching
 use Rattle.pb_reach.specs.Limits.{IsFirst, IsWithin, TellsReach}
 use Rattle.pb_reach.specs.Rounds.{is_reached}
 use Rattle.pb_reach.proofs.Callers.{kept_are_ground_atoms}
+use Rattle.pb_task.specs.declared.grounding.Grounding.TheVariants.{Reachable}
 use Rattle.pb_task.specs.declared.parts.StripsParts.{StripsParts}
 use Rattle.pb_strips.specs.declared.error.StripsError.{StripsError}
 use Rattle.pb_strips.specs.declared.error.StripsError.TheVariants as errors
@@ -26,11 +27,11 @@ use Rattle.pb_strips.specs.Refusals.{TellsReached}
 
 -- parts over the atoms that are reached are the task's
 pub reached_parts : (domain : Domain) (problem : Problem) (lifted : Lifted) (atoms : List GroundAtom) (parts : StripsParts) → first_refusal domain problem ≡ None → lifted ≡ lifted_of domain problem
-    → AreKept lifted (is_reached lifted) atoms → parts ≡ strips_by domain problem (is_reached lifted) atoms → parts ≡ reached_strips domain problem
+    → AreKept lifted (is_reached lifted) atoms → parts ≡ strips_by domain problem Reachable (is_reached lifted) atoms → parts ≡ reached_strips domain problem
 reached_parts domain problem lifted atoms parts none same are is =
     let task : Lifted = lifted_of domain problem in
     let these : AreKept task (is_reached task) atoms = subst (λ (l : Lifted). AreKept l (is_reached l) atoms) same are in
-    is ∙ (ap (λ (l : Lifted). strips_by domain problem (is_reached l) atoms) same ∙ ap (strips_by domain problem (is_reached task)) (kept_are_ground_atoms domain problem none atoms these))
+    is ∙ (ap (λ (l : Lifted). strips_by domain problem Reachable (is_reached l) atoms) same ∙ ap (strips_by domain problem Reachable (is_reached task)) (kept_are_ground_atoms domain problem none atoms these))
 
 -- ---- errors
 

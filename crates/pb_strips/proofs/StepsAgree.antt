@@ -25,6 +25,8 @@ use Rattle.pb_ground.specs.Keeping.{IsKeeping}
 use Rattle.pb_ground.specs.Statics.{keep_all}
 use Rattle.pb_ground.specs.Steps.{Facts, all_grounded, is_in, bits_after}
 use Rattle.pb_ground.proofs.Callers.{all_atoms, all_atoms_are_a_case, kept_among, numbers_alike}
+use Rattle.pb_task.specs.declared.grounding.Grounding.{Grounding}
+use Rattle.pb_task.specs.declared.grounding.Grounding.TheVariants as groundings
 use Rattle.pb_task.specs.declared.parts.GroundAction.{GroundAction}
 use Rattle.pb_task.specs.declared.parts.StripsParts.{StripsParts}
 use Rattle.pb_task.specs.Strips.{has_atom, holds_after, is_within, name_in, name_of, state_after, strips_space, Acts}
@@ -62,13 +64,13 @@ not_twice false e = e
 
 -- ---- the task of kept atoms
 
-module _ (domain : Domain) (problem : Problem) (kept : Facts) (atoms : List GroundAtom) (none : first_refusal domain problem ≡ None) (keeping : IsKeeping (lifted_of domain problem) kept)
+module _ (domain : Domain) (problem : Problem) (grounding : Grounding) (kept : Facts) (atoms : List GroundAtom) (none : first_refusal domain problem ≡ None) (keeping : IsKeeping (lifted_of domain problem) kept)
     (among : AreKeptOnes (lifted_of domain problem) kept atoms) where
   abbrev lifted : Lifted
   lifted = lifted_of domain problem
 
   abbrev task : StripsParts
-  task = strips_by domain problem kept atoms
+  task = strips_by domain problem grounding kept atoms
 
   abbrev facts : ℕ → State
   facts = facts_by domain problem atoms
@@ -228,8 +230,8 @@ module _ (domain : Domain) (problem : Problem) (kept : Facts) (atoms : List Grou
 -- ---- the cases
 
 pub kept_steps : KeptStepsAreByNames
-kept_steps domain problem kept none keeping =
-    let lifted : Lifted = lifted_of domain problem in steps_are_by_names domain problem kept (kept_atoms lifted kept) none keeping (kept_among lifted kept)
+kept_steps domain problem grounding kept none keeping =
+    let lifted : Lifted = lifted_of domain problem in steps_are_by_names domain problem grounding kept (kept_atoms lifted kept) none keeping (kept_among lifted kept)
 
 -- all ground atoms are kept if all are
 all_among : (lifted : Lifted) → AreKeptOnes lifted (keep_all lifted) (ground_atoms lifted)
@@ -238,7 +240,7 @@ all_among lifted atom = sym (ap (λ atoms. is_in atom atoms) (all_atoms lifted))
 pub all_steps : (domain : Domain) (problem : Problem) → first_fault domain problem ≡ None → StepsAreByNames domain problem (strips_of domain problem) (facts_of_state domain problem)
 all_steps domain problem none =
     let lifted : Lifted = lifted_of domain problem in
-    steps_are_by_names domain problem (keep_all lifted) (ground_atoms lifted) (accepted domain problem none) (all_atoms_are_a_case lifted).0 (all_among lifted)
+    steps_are_by_names domain problem groundings.All (keep_all lifted) (ground_atoms lifted) (accepted domain problem none) (all_atoms_are_a_case lifted).0 (all_among lifted)
 
 pub packed_steps_are_steps : PackedStepsAreSteps
 packed_steps_are_steps domain problem from action to cost none step = (all_steps domain problem none).to_names from action to cost step
@@ -253,4 +255,4 @@ pub goals_agree : GoalsAgree
 goals_agree domain problem state none small = (all_steps domain problem none).goals state small
 
 pub all_are_kept : AllAreKept
-all_are_kept domain problem = let lifted : Lifted = lifted_of domain problem in ap (strips_by domain problem (keep_all lifted)) (all_atoms lifted)
+all_are_kept domain problem = let lifted : Lifted = lifted_of domain problem in ap (strips_by domain problem groundings.All (keep_all lifted)) (all_atoms lifted)

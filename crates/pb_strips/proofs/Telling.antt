@@ -27,6 +27,8 @@ use Rattle.pb_ground.specs.Actions.{kept_actions}
 use Rattle.pb_ground.specs.Statics.{keep_all}
 use Rattle.pb_ground.specs.Steps.{Facts}
 use Rattle.pb_ground.specs.Members.{is_fitting, is_instance}
+use Rattle.pb_task.specs.declared.grounding.Grounding.{Grounding}
+use Rattle.pb_task.specs.declared.grounding.Grounding.TheVariants as groundings
 use Rattle.pb_task.specs.declared.parts.StripsParts.{StripsParts}
 use Rattle.pb_task.specs.Strips.{name_of, name_in}
 use Rattle.pb_strips.specs.Names.{action_word, action_bytes}
@@ -115,7 +117,7 @@ fitting_below lifted (kind ∷ kinds) (i ∷ given) h =
 schemas_agree : (domain : Domain) (problem : Problem) → length (lifted_of domain problem).actions ≡ length (map action_word domain.actions)
 schemas_agree domain problem = length-map domain.actions _ ∙ sym (length-map domain.actions action_word)
 
-module _ (domain : Domain) (problem : Problem) (kept : Facts) (atoms : List GroundAtom) (known : first_refusal domain problem ≡ None) (words : DomainHasWords domain)
+module _ (domain : Domain) (problem : Problem) (grounding : Grounding) (kept : Facts) (atoms : List GroundAtom) (known : first_refusal domain problem ≡ None) (words : DomainHasWords domain)
     (others : ProblemHasWords problem) where
   abbrev pub lifted : Lifted
   lifted = lifted_of domain problem
@@ -124,7 +126,7 @@ module _ (domain : Domain) (problem : Problem) (kept : Facts) (atoms : List Grou
   actions = kept_actions lifted kept atoms
 
   abbrev pub task : StripsParts
-  task = strips_by domain problem kept atoms
+  task = strips_by domain problem grounding kept atoms
 
   abbrev pub bytes_of : instance.ActionInstance → List ℕ
   bytes_of a = action_bytes domain (a.schema, named domain problem a.objects)
@@ -202,7 +204,7 @@ module _ (domain : Domain) (problem : Problem) (kept : Facts) (atoms : List Grou
 pub names_tell_actions : NamesTellActions
 names_tell_actions domain problem accepted words others =
     let lifted : Lifted = lifted_of domain problem in
-    tells domain problem (keep_all lifted) (ground_atoms lifted) (none_refused (first_refusal domain problem) lifted accepted) words others
+    tells domain problem groundings.All (keep_all lifted) (ground_atoms lifted) (none_refused (first_refusal domain problem) lifted accepted) words others
 
 pub kept_names_tell_actions : KeptNamesTellActions
-kept_names_tell_actions domain problem kept known words others = tells domain problem kept (kept_atoms (lifted_of domain problem) kept) known words others
+kept_names_tell_actions domain problem grounding kept known words others = tells domain problem grounding kept (kept_atoms (lifted_of domain problem) kept) known words others

@@ -17,11 +17,13 @@ use Rattle.pb_ground.specs.Atoms.{is_fluent, atom_of, number_in, ground_atoms, k
 use Rattle.pb_ground.specs.Keeping.{IsKeeping}
 use Rattle.pb_ground.specs.Statics.{is_initial, keep_all}
 use Rattle.pb_ground.specs.Steps.{Facts}
+use Rattle.pb_task.specs.declared.grounding.Grounding.{Grounding}
+use Rattle.pb_task.specs.declared.grounding.Grounding.TheVariants.{All}
 use Rattle.pb_task.specs.declared.parts.StripsParts.{StripsParts}
 use Rattle.pb_task.specs.Strips.{has_atom, strips_space, name_in}
-use Rattle.pb_strips.specs.Grounding.{strips_of, kept_strips}
+use Rattle.pb_strips.specs.Grounding.{strips_of, kept_strips, strips_with}
 use Rattle.pb_strips.specs.Names.{action_text}
-use Rattle.pb_strips.specs.Refusals.{first_fault}
+use Rattle.pb_strips.specs.Refusals.{first_fault, fault_with}
 
 -- ---- the state by names that a packed state represents
 
@@ -152,24 +154,33 @@ pub record PlansAreByNames (domain : Domain) (problem : Problem) (task : StripsP
       (record { actions = numbers; cost = plan_cost domain problem actions })
       × (map (name_in task.actions) numbers ≡ map (action_text domain) actions)
 
--- If nothing is refused, the steps of the task of kept atoms are those by names, whatever is kept
--- that no step leaves.
+-- If nothing is refused, the steps of the task of kept atoms are those by names. Any closed set may
+-- be kept that has a static atom if and only if it holds at first.
 abbrev pub KeptStepsAreByNames : Type 0
 KeptStepsAreByNames =
-    (domain : Domain) (problem : Problem) (kept : Facts) → first_refusal domain problem ≡ None
-    → IsKeeping (lifted_of domain problem) kept
-    → StepsAreByNames domain problem (kept_strips domain problem kept)
+    (domain : Domain) (problem : Problem) (grounding : Grounding) (kept : Facts)
+    → first_refusal domain problem ≡ None → IsKeeping (lifted_of domain problem) kept
+    → StepsAreByNames domain problem (kept_strips domain problem grounding kept)
     (kept_facts domain problem kept)
 
 -- And so are its plans.
 abbrev pub KeptPlansAreByNames : Type 0
 KeptPlansAreByNames =
-    (domain : Domain) (problem : Problem) (kept : Facts) → first_refusal domain problem ≡ None
-    → IsKeeping (lifted_of domain problem) kept
-    → PlansAreByNames domain problem (kept_strips domain problem kept)
+    (domain : Domain) (problem : Problem) (grounding : Grounding) (kept : Facts)
+    → first_refusal domain problem ≡ None → IsKeeping (lifted_of domain problem) kept
+    → PlansAreByNames domain problem (kept_strips domain problem grounding kept)
 
 -- If all atoms are kept, this is the task in which all ground atoms have numbers.
 abbrev pub AllAreKept : Type 0
 AllAreKept =
     (domain : Domain) (problem : Problem)
-    → kept_strips domain problem (keep_all (lifted_of domain problem)) ≡ strips_of domain problem
+    → kept_strips domain problem All (keep_all (lifted_of domain problem)) ≡ strips_of domain problem
+
+-- ---- the same of each grounding
+
+-- If nothing is at fault, the plans of the task are those by names.
+abbrev pub GroundedPlansAreByNames : Type 0
+GroundedPlansAreByNames =
+    (grounding : Grounding) (domain : Domain) (problem : Problem)
+    → fault_with grounding domain problem ≡ None
+    → PlansAreByNames domain problem (strips_with grounding domain problem)

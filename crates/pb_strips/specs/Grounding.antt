@@ -12,6 +12,8 @@ use Rattle.pb_ground.specs.Actions.{numbers_of, kept_actions, kept_never}
 use Rattle.pb_ground.specs.Statics.{keep_all}
 use Rattle.pb_ground.specs.Steps.{Facts}
 use Rattle.pb_reach.specs.Rounds.{is_reached}
+use Rattle.pb_task.specs.declared.grounding.Grounding.{Grounding}
+use Rattle.pb_task.specs.declared.grounding.Grounding.TheVariants.{All, Reachable}
 use Rattle.pb_task.specs.declared.parts.GroundAction.{GroundAction}
 use Rattle.pb_task.specs.declared.parts.StripsParts.{StripsParts}
 use Rattle.pb_task.specs.Strips.{set_of}
@@ -33,10 +35,11 @@ packed_action domain problem count action = record {
   cost = action.cost;
 }
 
--- The task over these ground atoms. Its actions are the instances whose preconditions are kept.
--- There is no goal state if an atom of the goal isn't kept.
-abbrev pub strips_by : Domain → Problem → (kept : Facts) → (atoms : List GroundAtom) → StripsParts
-strips_by domain problem kept atoms =
+-- The task over these ground atoms, which are those of this grounding. Its actions are the instances
+-- whose preconditions are kept. There is no goal state if an atom of the goal isn't kept.
+abbrev pub strips_by : Domain → Problem → Grounding → (kept : Facts) → (atoms : List GroundAtom)
+    → StripsParts
+strips_by domain problem grounding kept atoms =
     let lifted = lifted_of domain problem in
     record {
       atoms = length atoms;
@@ -44,19 +47,26 @@ strips_by domain problem kept atoms =
       start = numbered_set (length atoms) (numbers_of atoms [] lifted.init);
       goal = numbered_set (length atoms) (numbers_of atoms [] lifted.goal);
       never = kept_never lifted kept;
+      grounding = grounding;
     }
 
 -- the task in which the kept ground atoms have numbers, and no others
-abbrev pub kept_strips : Domain → Problem → (kept : Facts) → StripsParts
-kept_strips domain problem kept =
-    strips_by domain problem kept (kept_atoms (lifted_of domain problem) kept)
+abbrev pub kept_strips : Domain → Problem → Grounding → (kept : Facts) → StripsParts
+kept_strips domain problem grounding kept =
+    strips_by domain problem grounding kept (kept_atoms (lifted_of domain problem) kept)
 
 -- the task in which what is reached has numbers, and nothing else
 abbrev pub reached_strips : Domain → Problem → StripsParts
-reached_strips domain problem = kept_strips domain problem (is_reached (lifted_of domain problem))
+reached_strips domain problem =
+    kept_strips domain problem Reachable (is_reached (lifted_of domain problem))
 
 -- the task in which all ground atoms have numbers
 abbrev pub strips_of : Domain → Problem → StripsParts
 strips_of domain problem =
-    strips_by domain problem (keep_all (lifted_of domain problem)) (ground_atoms (lifted_of domain
-    problem))
+    strips_by domain problem All (keep_all (lifted_of domain problem)) (ground_atoms (lifted_of
+    domain problem))
+
+-- the task of this grounding
+abbrev pub strips_with : Grounding → Domain → Problem → StripsParts
+strips_with All domain problem = strips_of domain problem
+strips_with Reachable domain problem = reached_strips domain problem

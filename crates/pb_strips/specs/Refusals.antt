@@ -1,5 +1,5 @@
 -- Why a domain and a problem are no task: the first cause in order.
-use Rattle.std.specs.Prelude.{◌≡◌, ◌≤◌, nat_lt, if◌then◌else◌, length, Option, Some, None}
+use Rattle.std.specs.Prelude.{◌≡◌, ◌≤◌, nat_lt, if◌then◌else◌, length, Option, Some, None, option_map}
 use Rattle.pb_packed.specs.Sizes.{most_atoms}
 use Rattle.pb_pddl.specs.declared.tree.Domain.{Domain}
 use Rattle.pb_pddl.specs.declared.tree.Problem.{Problem}
@@ -11,9 +11,12 @@ use Rattle.pb_ground.specs.Atoms.{ground_atoms}
 use Rattle.pb_ground.specs.Actions.{ground_actions}
 use Rattle.pb_ground.specs.Errors.{told}
 use Rattle.pb_reach.specs.declared.error.ReachError.TheVariants as reaching
-use Rattle.pb_reach.specs.Limits.{IsFirst}
+use Rattle.pb_reach.specs.Limits.{IsFirst, IsWithin, reach_refusal}
+use Rattle.pb_task.specs.declared.grounding.Grounding.{Grounding}
+use Rattle.pb_task.specs.declared.grounding.Grounding.TheVariants.{All, Reachable}
 use Rattle.pb_strips.specs.declared.error.StripsError.{StripsError}
 use Rattle.pb_strips.specs.declared.error.StripsError.TheVariants as errors
+use Rattle.pb_strips.specs.Packing.{of_reach}
 
 -- more ground atoms than a task may have, or else more than 65,536 ground actions
 abbrev pub too_many : Lifted → Option StripsError
@@ -58,3 +61,28 @@ TellsReached domain problem errors.TooManyActions =
     (first_refusal domain problem ≡ None)
     × IsFirst (lifted_of domain problem) reaching.TooManyActions
 TellsReached domain problem errors.Memory = Unit {0}
+
+-- that first cause, if there is one
+abbrev pub or_reach_refusal : Option TypingRefusal → Lifted → Option StripsError
+or_reach_refusal (Some refusal) lifted = Some (errors.Refused refusal)
+or_reach_refusal None lifted = option_map of_reach (reach_refusal lifted)
+
+-- ---- the same by the grounding
+
+-- the first cause why there is no task of this grounding
+abbrev pub fault_with : Grounding → Domain → Problem → Option StripsError
+fault_with All domain problem = first_fault domain problem
+fault_with Reachable domain problem =
+    or_reach_refusal (first_refusal domain problem) (lifted_of domain problem)
+
+-- the ground atoms and actions of this grounding are within the limits, and so are those of each
+-- round
+abbrev pub IsWithinLimitsWith : Grounding → Domain → Problem → Type 0
+IsWithinLimitsWith All domain problem = IsWithinLimits domain problem
+IsWithinLimitsWith Reachable domain problem = IsWithin (lifted_of domain problem)
+
+-- Where all ground atoms and actions are a task, those that are reached are one.
+abbrev pub ReachedIsAccepted : Type 0
+ReachedIsAccepted =
+    (domain : Domain) (problem : Problem) → first_fault domain problem ≡ None
+    → fault_with Reachable domain problem ≡ None

@@ -7,7 +7,10 @@ use pb_lifted::{LiftedError, TypingRefusal};
 use pb_reach::ReachError;
 use std::alloc::{AllocError, AllocFailed};
 
-/// Why a domain and a problem are no task, the first cause in the order of these variants.
+/// Why a domain and a problem are no task: the first cause. If all ground atoms have numbers, the
+/// causes come in the order of these variants. If only what is reached has numbers, `Refused` comes
+/// first too, and then it goes round by round: too many actions of a round, or else too many atoms
+/// after it.
 #[derive(Clone, Copy)]
 pub enum StripsError {
     /// A name or a cost is at fault, or there are too many objects.

@@ -14,7 +14,7 @@ use crate::parts::parts_of;
 use pb_ground::{Atoms, ground_actions, ground_atoms, is_never};
 use pb_lifted::{Lifted, resolve};
 use pb_pddl::{Domain, Problem};
-use pb_task::Task;
+use pb_task::{Grounding, Task};
 use std::alloc::Global;
 
 // The task of a lifted task and its ground atoms.
@@ -36,7 +36,16 @@ fn task_by(
     let actions = ground_actions(alloc, lifted, atoms)?;
     let never = is_never(alloc, lifted)?;
     let actions = actions.as_slice();
-    let parts = parts_of(alloc, domain, problem, lifted, atoms, actions, never)?;
+    let parts = parts_of(
+        alloc,
+        domain,
+        problem,
+        Grounding::All,
+        lifted,
+        atoms,
+        actions,
+        never,
+    )?;
     Ok(Task::of_strips(parts))
 }
 

@@ -9,11 +9,13 @@ mod names;
 mod parts;
 mod reaching;
 mod sets;
+mod task;
 
 pub use error::StripsError;
 pub use grounding::ground;
 pub use laws::{
-    kept_atoms_are_enough, names_are_printed, names_tell_actions, plans_are_lifted,
-    steps_are_lifted, texts_keep_names,
+    groundings_are_by_names, kept_atoms_are_enough, names_are_printed, names_tell_actions,
+    plans_are_lifted, reached_is_accepted, steps_are_lifted, texts_keep_names,
 };
 pub use reaching::ground_reached;
+pub use task::ground_with;

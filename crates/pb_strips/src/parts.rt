@@ -11,7 +11,7 @@ use crate::sets::set_of;
 use pb_ground::{ActionInstance, Atoms, goal, start};
 use pb_lifted::Lifted;
 use pb_pddl::{Domain, Problem};
-use pb_task::{Actions, StripsParts};
+use pb_task::{Actions, Grounding, StripsParts};
 use std::alloc::{AllocError, Global};
 
 /// A ground action with its name and its sets.
@@ -61,12 +61,13 @@ fn packed_actions(
     Ok(all)
 }
 
-/// The task of a domain and a problem, from its atoms and actions, and whether it has no goal state:
-/// whichever atoms these are the task for.
+/// The task of a domain and a problem, from its grounding, its atoms and actions, and whether it has
+/// no goal state: whichever atoms these are the task for.
 pub(crate) fn parts_of(
     alloc: Global,
     domain: &Domain,
     problem: &Problem,
+    grounding: Grounding,
     lifted: &Lifted,
     atoms: &Atoms,
     actions: &[ActionInstance],
@@ -78,7 +79,7 @@ pub(crate) fn parts_of(
     ensures { IfOk result (λ parts. (kept : Facts)
         → actions.now ≡ kept_actions lifted.now kept atoms.now
         → never ≡ kept_never lifted.now kept
-        → parts ≡ strips_by domain.now problem.now kept atoms.now) }
+        → parts ≡ strips_by domain.now problem.now grounding kept atoms.now) }
 {
     let first = start(alloc, lifted, atoms)?;
     let wanted = goal(alloc, lifted, atoms)?;
@@ -89,5 +90,6 @@ pub(crate) fn parts_of(
         start: set_of(first.as_slice()),
         goal: set_of(wanted.as_slice()),
         never,
+        grounding,
     })
 }

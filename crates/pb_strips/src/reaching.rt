@@ -17,7 +17,7 @@ use crate::parts::parts_of;
 use pb_lifted::{Lifted, resolve};
 use pb_pddl::{Domain, Problem};
 use pb_reach::{Reached, reach};
-use pb_task::Task;
+use pb_task::{Grounding, Task};
 use std::alloc::{AllocError, Global};
 
 // The task of a lifted task and what it reaches.
@@ -44,6 +44,7 @@ fn task_by(
         alloc,
         domain,
         problem,
+        Grounding::Reachable,
         lifted,
         atoms,
         actions,

@@ -2,6 +2,7 @@
 -- 1, which is the goal. The images are 1 (the start) and 2 (the goal).
 use Rattle.std.specs.Prelude.{◌≡◌, ℕ, false, List, [], ◌∷◌, None, Some}
 use Rattle.pb_model.specs.declared.row.Estimate.TheVariants.{Cost, Dead}
+use Rattle.pb_task.specs.declared.grounding.Grounding.TheVariants as groundings
 use Rattle.pb_task.specs.declared.parts.StripsParts.{StripsParts}
 use Rattle.pb_tables.specs.declared.fault.TablesFault.TheVariants.{Line, Unpaid}
 use Rattle.pb_tables.specs.Tables.{TableValue, TablesValue}
@@ -16,6 +17,7 @@ example = record {
   start = 1;
   goal = 2;
   never = false;
+  grounding = groundings.All;
 }
 
 -- a table of both atoms that lists these two images, with the values of one after the other

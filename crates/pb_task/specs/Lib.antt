@@ -8,6 +8,7 @@ pub mod Actions
 pub mod Strips
 pub mod Parts
 pub mod Kinds
+pub mod Groundings
 pub mod Widths
 pub mod Faults
 pub mod Laws

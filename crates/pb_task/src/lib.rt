@@ -8,6 +8,7 @@ mod actions;
 mod atom_sets;
 mod atoms;
 mod grid;
+mod grounding;
 mod kind;
 mod laws;
 mod parts;
@@ -21,6 +22,7 @@ mod tiles;
 pub use actions::Actions;
 pub use atoms::next_atom;
 pub use grid::{are_connected, cell_beside};
+pub use grounding::Grounding;
 pub use kind::Kind;
 pub use laws::{
     boards_are_packed, degrees_are_bounded, faults_are_unique, faults_keep_from_plans,

@@ -1,6 +1,7 @@
 ghost use Rattle.std.specs.Prelude.{◌≡◌, slice_get, string_bytes};
 
 use crate::actions::Actions;
+use crate::grounding::Grounding;
 use pb_packed::Packed;
 use std::marker::Model;
 
@@ -197,6 +198,8 @@ pub struct StripsParts {
     pub goal: Packed,
     /// Whether the goal also asks for a fact that never holds, so that no state is a goal state.
     pub never: bool,
+    /// Which ground atoms and actions these are.
+    pub grounding: Grounding,
 }
 
 /// What a task of each kind is made of.

@@ -5,10 +5,12 @@ ghost use Rattle.pb_task.specs.Tiles.{IsTiles};
 ghost use Rattle.pb_task.specs.Strips.{IsStrips};
 ghost use Rattle.pb_packed.specs.Sizes.{state_bits, most_digits};
 ghost use Rattle.pb_task.specs.Kinds.{kind_of};
+ghost use Rattle.pb_task.specs.Groundings.{grounding_of};
 ghost use Rattle.pb_task.specs.Widths.{digits_for, width_of};
 ghost use Rattle.pb_task.specs.Parts.{space_of, IsTask, action_name, max_degree_of};
 ghost use Rattle.pb_task.specs.declared.parts.TaskParts.TheVariants.{Grid, Tiles, Strips};
 
+use crate::grounding::Grounding;
 use crate::kind::Kind;
 use crate::parts::{GridParts, StripsParts, TaskParts, TilesParts};
 use crate::{grid, strips, tiles};
@@ -107,6 +109,17 @@ impl Task {
             TaskParts::Grid(_) => Kind::Grid,
             TaskParts::Tiles(_) => Kind::Tiles,
             TaskParts::Strips(_) => Kind::Strips,
+        }
+    }
+
+    /// Which ground atoms and actions of a STRIPS task have numbers. On a grid and for sliding tiles
+    /// nothing is left out.
+    pub fn grounding(&self) -> Grounding
+        ensures { result ≡ grounding_of self.now }
+    {
+        match &self.parts {
+            TaskParts::Grid(_) | TaskParts::Tiles(_) => Grounding::All,
+            TaskParts::Strips(parts) => parts.grounding,
         }
     }
 

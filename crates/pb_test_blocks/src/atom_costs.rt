@@ -4,7 +4,7 @@ ghost use Rattle.pb_task.specs.Strips.{IsGroundAction};
 use crate::distances::estimates;
 use pb_model::Estimate;
 use pb_packed::Packed;
-use pb_task::{ActionName, Actions, GroundAction, StripsParts, Task};
+use pb_task::{ActionName, Actions, GroundAction, Grounding, StripsParts, Task};
 use std::alloc::Global;
 use std::process::Abort;
 
@@ -51,6 +51,7 @@ fn in_chain<R: Abort>(
         start: set(1),
         goal: set(goal % 16),
         never,
+        grounding: Grounding::All,
     });
     estimates(rt, alloc, task, &set(state), &set(8))
 }
@@ -73,6 +74,7 @@ fn in_join<R: Abort>(
         start: set(1),
         goal: set(goal % 16),
         never: false,
+        grounding: Grounding::All,
     });
     estimates(rt, alloc, task, &set(state), &set(6))
 }
@@ -110,6 +112,7 @@ fn from_last<R: Abort>(
         start: only(255),
         goal: only(atom),
         never: false,
+        grounding: Grounding::All,
     });
     estimates(rt, alloc, task, &only(holds), &only(255))
 }

@@ -3,7 +3,7 @@ ghost use Rattle.pb_task.specs.Strips.{IsGroundAction};
 
 use pb_abstract::TrackedAtoms;
 use pb_packed::Packed;
-use pb_task::{ActionName, Actions, GroundAction, StripsParts, Task};
+use pb_task::{ActionName, Actions, GroundAction, Grounding, StripsParts, Task};
 use std::alloc::{AllocError, Global};
 use std::test::Fail;
 
@@ -54,6 +54,7 @@ pub fn six_atoms(alloc: Global) -> Result<Task, AllocError> {
         start: set(0b000011),
         goal: set(0b100000),
         never: false,
+        grounding: Grounding::All,
     }))
 }
 
@@ -71,6 +72,7 @@ pub fn added_alone(alloc: Global, count: u32) -> Result<Task, AllocError>
         start: set(0),
         goal: set(0),
         never: false,
+        grounding: Grounding::All,
     }))
 }
 
@@ -82,6 +84,7 @@ pub fn unchanged(alloc: Global) -> Task {
         start: set(0),
         goal: set(0b111),
         never: false,
+        grounding: Grounding::All,
     })
 }
 

@@ -2,4 +2,6 @@
 #![tactic(auto)]
 
 #[cfg(test)]
+mod solve_words;
+#[cfg(test)]
 mod words;

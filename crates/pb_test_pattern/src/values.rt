@@ -4,7 +4,7 @@ ghost use Rattle.pb_task.specs.Strips.{IsGroundAction};
 use pb_model::Estimate;
 use pb_packed::Packed;
 use pb_pattern::Table;
-use pb_task::{ActionName, Actions, GroundAction, StripsParts, Task};
+use pb_task::{ActionName, Actions, GroundAction, Grounding, StripsParts, Task};
 use pb_test_examples::{near_board, open_square, other_ring};
 use std::alloc::Global;
 use std::process::Abort;
@@ -65,6 +65,7 @@ pub fn spent_once<R: Abort>(rt: &R, alloc: Global) -> Task {
         start: set(4),
         goal: set(3),
         never: false,
+        grounding: Grounding::All,
     })
 }
 

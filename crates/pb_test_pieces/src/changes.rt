@@ -49,6 +49,7 @@ fn code_of_fault(fault: CertificateFault) -> (u32, u64, u128) {
         CertificateFault::Missing { line, action } => (15, line, u128::from(action)),
         CertificateFault::TooDear { line, action } => (16, line, u128::from(action)),
         CertificateFault::Low { line } => (17, line, 0),
+        CertificateFault::Grounding => (18, 0, 0),
     }
 }
 

@@ -6,16 +6,21 @@ use pb_grid::{GridError, read_grid};
 use pb_outside::Memory;
 use pb_packed::Packed;
 use pb_report::Report;
-use pb_strips::{StripsError, ground};
-use pb_task::{Task, TaskParts};
+use pb_strips::{StripsError, ground_with};
+use pb_task::{Grounding, Task, TaskParts};
 use pb_tiles::{TilesError, read_tiles};
 use std::alloc::Global;
 
-fn strips_of(alloc: Global, domain: &[u8], problem: &[u8]) -> Result<Option<Task>, Memory> {
+fn strips_of(
+    alloc: Global,
+    grounding: Grounding,
+    domain: &[u8],
+    problem: &[u8],
+) -> Result<Option<Task>, Memory> {
     let Some((domain, problem)) = trees_of(alloc, domain, problem)? else {
         return Ok(None);
     };
-    match ground(alloc, &domain, &problem) {
+    match ground_with(alloc, grounding, &domain, &problem) {
         Ok(task) => Ok(Some(task)),
         Err(StripsError::Memory) => Err(Memory),
         Err(_) => Ok(None),
@@ -49,7 +54,8 @@ pub(crate) fn task_of(
         "grid" => grid_of(alloc, first, second, false),
         "swamp" => grid_of(alloc, first, second, true),
         "tiles" => tiles_of(alloc, first),
-        _ => strips_of(alloc, first, second),
+        "reachable" => strips_of(alloc, Grounding::Reachable, first, second),
+        _ => strips_of(alloc, Grounding::All, first, second),
     }
 }
 

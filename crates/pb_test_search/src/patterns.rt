@@ -6,7 +6,7 @@ use crate::samples::{ONE_WORKER, Sample, search_sample};
 use pb_machine::{End, Settings};
 use pb_outside::OpenGate;
 use pb_packed::Packed;
-use pb_task::{ActionName, Actions, GroundAction, StripsParts, Task};
+use pb_task::{ActionName, Actions, GroundAction, Grounding, StripsParts, Task};
 use std::alloc::{AllocError, Global};
 use std::test::Fail;
 
@@ -45,6 +45,7 @@ fn spending(alloc: Global, again: bool) -> Result<Task, AllocError> {
         start: set(4),
         goal: set(3),
         never: false,
+        grounding: Grounding::All,
     }))
 }
 

@@ -7,7 +7,7 @@ use pb_lists::{Bundle, Store};
 use pb_model::{Estimate, Status};
 use pb_outside::{Failed, MemShelf, Memory};
 use pb_packed::Packed;
-use pb_task::{Kind, Task};
+use pb_task::{Grounding, Kind, Task};
 use pb_test_examples::two_cells;
 use std::alloc::{AllocError, Global};
 use std::test::Fail;
@@ -85,6 +85,7 @@ fn version_1() -> Spelling
         version: Version::One,
         width: 64,
         stated: Stated {
+            grounding: Grounding::All,
             choice: Choice::Plain,
         },
     }
@@ -99,6 +100,7 @@ fn version_2() -> Spelling
         version: Version::Two,
         width: 6,
         stated: Stated {
+            grounding: Grounding::All,
             choice: Choice::Plain,
         },
     }

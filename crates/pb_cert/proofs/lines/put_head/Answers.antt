@@ -21,7 +21,7 @@ pub returns-else-at-widths : goal.returns-else-at-widths
 returns-else-at-widths c =
     let widths : c.from-widths.result ≡ length (width_text c.args.spelling.now.version c.args.spelling.now.width) =
     c.from-widths.ensures ∙ c.width_lines.ensures.lines c.args.spelling.now.width in
-    let within : c.args.at - 2 - c.from-widths.result < length (stated_text c.args.spelling.now.stated) =
+    let within : c.args.at - 2 - c.from-widths.result < length (stated_text c.args.spelling.now.version c.args.spelling.now.stated) =
     omega (arith, c.requires.within, head_counted c.args.spelling.now, widths, c.if-at-widths.false) in
     stated_put c.args.out.now c.put_stated.new.out c.args.spelling.now c.args.at c.from-widths.result widths (omega (arith, c.if-at-widths.false))
     (c.put_stated.ensures within)

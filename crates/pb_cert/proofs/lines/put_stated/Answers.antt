@@ -1,9 +1,11 @@
-use Rattle.pb_cert.proofs.LineTexts.{no_pattern_put, pattern_put}
+use Rattle.pb_estimate.specs.declared.spelling.Version.TheVariants.{Three, Four}
+use Rattle.pb_cert.proofs.LineTexts.{one_put}
 use Rattle.pb_cert.proofs.lines.put_stated.Goals as goal
 
-pub returns-in-Plain : goal.returns-in-Plain
-returns-in-Plain c = no_pattern_put c.args.out.now c.args.out.now c.args.stated.now.choice c.args._at c.in-Plain.is
+pub returns-in-Three : goal.returns-in-Three
+returns-in-Three c = λ within.
+    one_put c.args.out.now c.put_choice.new.out c.args.version c.args.stated.now c.args.at Three c.in-Three.is c.put_choice.ensures within
 
-pub returns-in-Pattern : goal.returns-in-Pattern
-returns-in-Pattern c = λ within.
-    pattern_put c.args.out.now c.put_numbered.new.out c.args.stated.now.choice c.in-Pattern.number c.args._at c.in-Pattern.is within c.put_numbered.ensures.line c.put_numbered.ensures.short
+pub returns-in-Four : goal.returns-in-Four
+returns-in-Four c = λ within.
+    one_put c.args.out.now c.put_stated_4.new.out c.args.version c.args.stated.now c.args.at Four c.in-Four.is c.put_stated_4.ensures within

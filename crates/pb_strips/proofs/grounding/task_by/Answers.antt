@@ -7,6 +7,7 @@ use Rattle.pb_ground.specs.declared.atoms.GroundAtom.{GroundAtom}
 use Rattle.pb_ground.specs.Atoms.{ground_atoms}
 use Rattle.pb_ground.specs.Actions.{ground_actions}
 use Rattle.pb_ground.specs.Statics.{keep_all}
+use Rattle.pb_task.specs.declared.grounding.Grounding.TheVariants as groundings
 use Rattle.pb_task.specs.declared.parts.StripsParts.{StripsParts}
 use Rattle.pb_task.specs.declared.parts.TaskParts.TheVariants.{Strips}
 use Rattle.pb_task.specs.Strips.{IsStrips}
@@ -41,7 +42,7 @@ of_strips-requires c =
     (sym
     (all_parts c.args.domain.now c.args.problem.now lifted c.args.atoms.now c.in_ok-parts.parts c.requires.lifted c.requires.atoms
     (c.in_ok-parts.ensures (keep_all lifted) (c.as_slice-actions.ensures ∙ c.in_ok-actions.ensures.actions) c.in_ok-never.ensures)))
-    (is_strips c.args.domain.now c.args.problem.now (keep_all task) (ground_atoms task) c.requires.resolved (few_atoms lifted task c.requires.lifted c.requires.few)
+    (is_strips c.args.domain.now c.args.problem.now groundings.All (keep_all task) (ground_atoms task) c.requires.resolved (few_atoms lifted task c.requires.lifted c.requires.few)
     (few_actions lifted task c.args.atoms.now c.requires.lifted c.requires.atoms c.in_ok-actions.ensures.few))
 
 pub returns-clause-accepted : goal.returns-clause-accepted

@@ -22,7 +22,7 @@ set_of-requires-2 c =
 
 pub returns : goal.returns
 returns c = λ kept actions_are never_is.
-    parts_are c.args.domain.now c.args.problem.now c.args.lifted.now kept c.args.atoms.now c.as_slice.result.now c.args.actions.now c.in_ok-actions.actions c.as_slice-2.result.now
+    parts_are c.args.domain.now c.args.problem.now c.args.grounding c.args.lifted.now kept c.args.atoms.now c.as_slice.result.now c.args.actions.now c.in_ok-actions.actions c.as_slice-2.result.now
     c.as_slice-3.result.now c.set_of.result c.set_of-2.result c.args.never c.requires.lifted c.requires.few actions_are c.as_slice.ensures
     c.in_ok-actions.ensures (c.as_slice-2.ensures ∙ c.in_ok-first.ensures) c.set_of.ensures (c.as_slice-3.ensures ∙ c.in_ok-wanted.ensures) c.set_of-2.ensures
     never_is

@@ -5,6 +5,7 @@ use Rattle.pb_lifted.specs.Lifted.{lifted_of}
 use Rattle.pb_ground.specs.declared.actions.ActionInstance.{ActionInstance}
 use Rattle.pb_ground.specs.Actions.{kept_actions}
 use Rattle.pb_reach.specs.Rounds.{is_reached}
+use Rattle.pb_task.specs.declared.grounding.Grounding.TheVariants.{Reachable}
 use Rattle.pb_task.specs.declared.parts.StripsParts.{StripsParts}
 use Rattle.pb_task.specs.declared.parts.TaskParts.TheVariants.{Strips}
 use Rattle.pb_task.specs.Strips.{IsStrips}
@@ -29,7 +30,7 @@ of_strips-requires c =
     subst (λ (l : Lifted). length (kept_actions l (is_reached lifted) atoms) ≤ 65536) c.requires.lifted
     (subst (λ (all : List ActionInstance). length all ≤ 65536) c.requires.actions c.requires.few_actions) in
     subst IsStrips (sym (c.in_ok-parts.ensures (is_reached lifted) (c.as_slice-actions.ensures ∙ c.requires.actions) c.requires.never))
-    (is_strips c.args.domain.now c.args.problem.now (is_reached lifted) atoms c.requires.resolved c.requires.few few)
+    (is_strips c.args.domain.now c.args.problem.now Reachable (is_reached lifted) atoms c.requires.resolved c.requires.few few)
 
 pub returns : goal.returns
 returns c =
