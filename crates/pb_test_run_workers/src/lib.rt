@@ -6,6 +6,8 @@ mod corridor;
 #[cfg(test)]
 mod held;
 #[cfg(test)]
+mod kept;
+#[cfg(test)]
 mod leased;
 #[cfg(test)]
 mod unread;
