@@ -1,9 +1,9 @@
 #!/usr/bin/env python3
 """Judges a journal of pbnf for its task, and answers as `pbnf journal` does.
 
-    pbnf_journal.py journal grid JOURNAL MAP SCENARIO [--row K]
-    pbnf_journal.py journal tiles JOURNAL BOARD [--row K]
-    pbnf_journal.py journal strips JOURNAL DOMAIN PROBLEM [--row K]
+    pbnf_journal.py journal grid JOURNAL MAP SCENARIO [--row K] [--reachable]
+    pbnf_journal.py journal tiles JOURNAL BOARD [--row K] [--reachable]
+    pbnf_journal.py journal strips JOURNAL DOMAIN PROBLEM [--row K] [--reachable]
 
 Written from docs/FORMATS.md and from the rules of blocks in crates/pb_abstract/README.md, and not
 from the proved program. It needs nothing but Python 3, and takes tasks from pbnf_check.py.
