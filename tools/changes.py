@@ -10,7 +10,7 @@ WORDS_OF_FORMATS = [word.encode() for word in (
     ":action :parameters :precondition :effect :init :goal :objects :types :predicates "
     ":constants :requirements :strips :typing :functions :metric total-cost number minimize "
     "maximize increase decrease object either 0 1 2 3 4 6 7 12 13 15 16 64 256 257 00 01 -1 +1 "
-    "width pattern "
+    "width pattern grounding all reachable estimate "
     "1048576 1048577 9223372036854775807 9223372036854775808 4294967296 1000 1001 999999999 "
     "1000000000").split()]
 
@@ -87,7 +87,7 @@ def change_lines(random, text):
 def change_certificate(random, text):
     """One drawn change of a certificate, of which most keep it spelled as one."""
     ways = [change_text, change_text, drop_row, drop_row, add_row, change_g, change_g, turn_row,
-            turn_row, change_plan, change_weight, change_width, change_pattern]
+            turn_row, change_plan, change_weight, change_width, change_pattern, change_grounding]
     return random.choice(ways)(random, text)
 
 
@@ -108,13 +108,26 @@ def change_width(random, text):
 
 
 def change_pattern(random, text):
-    """The certificate with another pattern number, or in version 2 without one."""
+    """The certificate with another pattern number, or without one."""
     pattern = versions.pattern_of(text)
     if pattern and random.random() < 0.1:
-        return text.replace(b"\npattern %d\n" % pattern, b"\npattern 0\n", 1)
+        return text.replace(b"pattern %d\n" % pattern, b"pattern 0\n", 1)
     less = [pattern - 1, pattern - 1, 0] if pattern else []
     numbers = [1, 2, 3, 4, 5, 6, 8, 11, 12, 12, 13, 2**32, 2**62, *less]
     return versions.with_pattern(text, random.choice(numbers))
+
+
+def change_grounding(random, text):
+    """The certificate in version 4 with another grounding, now and then as one of STRIPS; or one of
+    version 4 in another version."""
+    found = versions.digits_of(text)
+    if found and found[0] == 4 and random.random() < 0.3:
+        return versions.as_version(text, random.choice([2, 3]), found[1]) or text
+    kinds = [b"\nkind grid\n", b"\nkind tiles\n"] * (random.random() < 0.6)
+    for kind in kinds:
+        text = text.replace(kind, b"\nkind strips\n", 1)
+    return versions.with_grounding(text, random.choice(["all", "all", "reachable", "reachable",
+                                                        "some"]))
 
 
 def rows_of(text):
@@ -192,8 +205,8 @@ def change_plan(random, text):
 
 
 def weight_of(text):
-    """The place of a certificate's weight among its lines: behind the width and the pattern number,
-    if these are stated."""
+    """The place of a certificate's weight among its lines: behind the width and what is stated of
+    grounding and estimate, which is a line more in each version."""
     found = versions.digits_of(text)
     return found[0] + 1 if found else 2
 

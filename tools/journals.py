@@ -28,7 +28,8 @@ def load_judge():
 def drawn_journal(random, task):
     """The text of a finished legal history over the task's blocks, and how many events it has."""
     judge = load_judge()
-    space = judge.pbnf_check.KINDS[task.kind][0](task.row, *task.texts.values())
+    space = judge.pbnf_check.KINDS[task.kind][0](task.row, *task.texts.values(),
+                                                 reachable=task.reachable)
     settings = {"blocks": random.choice([16, 16, 64, 256, 1000]),
                 "workers": random.choice([1, 2, 3, 4, 64]),
                 "budget": random.choice([1, 5, 40, 1000, 2**40]),

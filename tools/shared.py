@@ -47,36 +47,52 @@ DELIVERY_DOMAIN = """(define (domain delivery) (:types truck box - movable movab
 
 @dataclasses.dataclass
 class Task:
-    """The texts of a task's files by their names, its scenario's row, and if swamp costs 2. A wide
-    task has over 256 ground atoms."""
+    """The texts of a task's files by their names, its scenario's row, if swamp costs 2, and if only
+    what is reached has numbers. A wide task may have over 256 ground atoms."""
 
     kind: str
     texts: dict
     row: int = 0
     swamp: bool = False
     is_wide: bool = False
+    reachable: bool = False
 
     def budget(self, usual):
         """So many expansions, and fewer of a wide task, of which each takes long."""
         return str(min(usual, 50) if self.is_wide else usual)
 
     def words(self):
-        """The words that name its files, its row, and that swamp costs 2."""
+        """The words that name its files and its row, and that say which task they spell."""
         return [*self.words_of_journal(), *["--swamp"] * self.swamp]
+
+    def flags(self):
+        """The names of the flags among these words."""
+        return ["reachable"] * self.reachable + ["swamp"] * self.swamp
 
     def words_of_journal(self):
         """The same for `journal`, which no cost concerns."""
-        return [*FILE_NAMES[self.kind], *["--row", str(self.row)] * bool(self.row)]
+        return [*FILE_NAMES[self.kind], *["--row", str(self.row)] * bool(self.row),
+                *["--reachable"] * self.reachable]
+
+    def turned(self, drawn):
+        """In one of eight cases the task by the other grounding."""
+        return dataclasses.replace(self, reachable=self.reachable != (drawn.random() < 0.125))
 
     def has_too_many_atoms(self):
-        """Whether it is refused as it is: of the made tasks only wide ones may be."""
+        """Whether it is refused as it is: of the made tasks only wide ones may be, and those with
+        more objects."""
         checker = load_checker()
         try:
-            if self.is_wide:
-                checker.KINDS[self.kind][0](self.row, *self.texts.values())
+            if self.is_wide or self.reachable:
+                self.read()
         except checker.Refused:
             return True
         return False
+
+    def read(self):
+        """The task as the second checker reads it."""
+        kind = load_checker().KINDS[self.kind][0]
+        return kind(self.row, *self.texts.values(), **dict.fromkeys(self.flags(), True))
 
     def write(self, folder):
         for name, text in self.texts.items():
@@ -183,8 +199,19 @@ def in_folder(folder):
 # Made tasks
 
 def make_task(random, kind, size=1):
-    """A task of this kind, of which the numbers are drawn; a greater size makes greater tasks."""
-    return {"grid": make_grid, "tiles": make_board, "strips": make_strips}[kind](random, size)
+    """A task of this kind, of which the numbers are drawn; a greater size makes greater tasks. In
+    half of the STRIPS tasks only what is reached has numbers; for others that changes nothing."""
+    task = {"grid": make_grid, "tiles": make_board, "strips": make_strips}[kind](random, size)
+    task.reachable = random.random() < (0.5 if kind == "strips" else 0.1)
+    if kind == "strips" and task.reachable and random.random() < 0.3:
+        task.texts["problem"] = add_objects(random, task.texts["problem"])
+    return task
+
+
+def add_objects(random, problem):
+    """The problem with some objects more, of which no fact says anything."""
+    more = " ".join(f"s{number}" for number in range(random.choice([1, 5, 10, 30, 100])))
+    return problem.replace(b"(:objects ", f"(:objects {more} ".encode(), 1)
 
 
 def make_grid(random, size):

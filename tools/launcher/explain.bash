@@ -107,11 +107,11 @@ explain_form() {
 # The refusal is had by a second run: it comes before any search, and nothing is saved. A pipe can't
 # be read twice.
 explain_refusal() {
-  local name refusal
+  local name refusal flag
   local -a options=()
   for name in ${judged:+"$judged"} ${inputs[@]+"${inputs[@]}"}; do [ -f "$name" ] || return; done
   refusal=$(${with_launcher[@]+"${with_launcher[@]}"} "$program" "$@" 2>/dev/null) && return
-  [ -z "${value_of[--swamp]-}" ] || options+=(--swamp)
+  for flag in --swamp --reachable; do [ -z "${value_of[$flag]-}" ] || options+=("$flag"); done
   [ -z "$judged" ] || options+=(--judged "$judged")
   python3 "$root/tools/explain-refusal" ${options[@]+"${options[@]}"} \
     "${refusal%%$'\n'*}" "$kind" "${value_of[--row]:-0}" "${inputs[@]}" >&2 2>/dev/null

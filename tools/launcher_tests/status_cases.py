@@ -147,6 +147,39 @@ def other_costs(place):
         3, "refused Cost 2 3\n", "was the certificate made without --swamp?")
 
 
+def other_grounding(place):
+    """A certificate that was made with --reachable, or without, is recognized, and the flag is
+    shown for a problem that is too large."""
+    files = [place.example("blocks.pddl"), place.example("two-blocks.pddl")]
+    cert = place.file("reached.cert", "")
+    place.run("solve", "strips", *files, "--reachable", "--cert", cert).wants(0)
+    place.run("check", "strips", cert, *files, "--reachable").wants(0, "accepted cost 2 bound 2\n")
+    place.run("check", "strips", cert, *files).wants(
+        3, "refused Grounding\n", [":4: ", "grounding reachable", "made with --reachable"])
+    text = open(cert).read()
+    for change, out, err in (
+        (("kind strips", "kind grid"), "refused Syntax 2\n", [":2: ", "for STRIPS alone"]),
+        (("grounding reachable", "grounding x"), "refused Syntax 4\n", [":4: ", "`grounding all`"]),
+        (("estimate plain", "estimate"), "refused Syntax 5\n", [":5: ", "the fifth line is"]),
+        (("estimate plain", "estimate pattern 13"), "refused Pattern\n", [":5: ", "is 1 to 12"]),
+        (("weight 1 1", "weight 0 1"), "refused Weight\n", [":6: ", "weight 0 1"]),
+        (("cost 2", "cost 3"), "refused Cost 3 2\n", [":10: ", "cost 3"]),
+    ):
+        other = place.file("other.cert", text.replace(*change))
+        place.run("check", "strips", other, *files, "--reachable").wants(3, out, err)
+    place.run("solve", "strips", *files, "--cert", cert).wants(0)
+    place.run("check", "strips", cert, *files, "--reachable").wants(
+        3, "refused Grounding\n", [":1: ", "made without --reachable"])
+    domain = place.file("pairs.pddl", "(define (domain d) (:predicates (p ?x ?y) (q)) (:action a "
+                        ":parameters (?x ?y) :precondition (q) :effect (p ?x ?y)))")
+    names = " ".join(f"o{number}" for number in range(40))
+    problem = place.file("forty.pddl", "(define (problem e) (:domain d) (:objects " + names
+                         + ") (:goal (p o1 o2)))")
+    place.run("solve", "strips", domain, problem).wants(
+        65, "input TooManyAtoms 1600\n", ["1600 ground atoms", "with --reachable only"])
+    place.run("solve", "strips", domain, problem, "--reachable").wants(1, "none\n")
+
+
 def refused_journal(place):
     """The same of a journal."""
     board = place.example("four-moves.tiles")
@@ -225,5 +258,5 @@ def ended_by_a_signal(place):
 
 
 CASES = [words_refused, input_refused, order_of_files, packed_input, refused_certificate,
-         other_row, other_costs, refused_journal, stopped, no_memory, files_failed,
+         other_row, other_costs, other_grounding, refused_journal, stopped, no_memory, files_failed,
          dash_is_a_name, output_failed, ended_by_a_signal]

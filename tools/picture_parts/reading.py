@@ -327,21 +327,42 @@ def read_claim(name):
 
 def _read_certificate_head(lines):
     """The kind, the digits of a state, the weight, the plan and its cost."""
-    version = re.fullmatch(rb"pbnf-certificate ([123])\n", lines.next())
+    version = re.fullmatch(rb"pbnf-certificate ([1234])\n", lines.next())
     if version is None:
-        lines.refuse("expected `pbnf-certificate` and 1, 2 or 3")
-    kind = re.fullmatch(rb"kind (grid|tiles|strips)\n", lines.next())
+        lines.refuse("expected `pbnf-certificate` and 1, 2, 3 or 4")
+    is_fourth = version.group(1) == b"4"
+    kind = re.fullmatch(rb"kind (strips)\n" if is_fourth else rb"kind (grid|tiles|strips)\n",
+                        lines.next())
     if kind is None:
-        lines.refuse("expected `kind` and grid, tiles or strips")
+        lines.refuse("expected `kind` and " + ("strips" if is_fourth else "grid, tiles or strips"))
     digits = 64 if version.group(1) == b"1" else lines.words([b"width"], 1)[0]
     if not 1 <= digits <= 256:
         lines.refuse("the width isn't 1 to 256")
-    if version.group(1) == b"3" and not 1 <= lines.words([b"pattern"], 1)[0] <= 12:
-        lines.refuse("the pattern number isn't 1 to 12")
+    if version.group(1) == b"3":
+        _refuse_pattern(lines, lines.words([b"pattern"], 1)[0])
+    if is_fourth:
+        _read_stated(lines)
     weight = lines.words([b"weight"], 2)
     if not 1 <= weight[1] <= weight[0] <= 1000:
         lines.refuse("the weight isn't 1 to 1000")
     return kind.group(1).decode(), digits, weight, *_read_certificate_plan(lines)
+
+
+def _read_stated(lines):
+    """The lines of version 4 that say grounding and estimate."""
+    if re.fullmatch(rb"grounding (all|reachable)\n", lines.next()) is None:
+        lines.refuse("expected `grounding` and all or reachable")
+    form = rb"estimate (?:plain|pattern (" + NUMBER.pattern + rb"))\n"
+    estimate = re.fullmatch(form, lines.next())
+    if estimate is None:
+        lines.refuse("expected `estimate plain`, or `estimate pattern` and a number")
+    if estimate.group(1):
+        _refuse_pattern(lines, lines.number(estimate.group(1)))
+
+
+def _refuse_pattern(lines, number):
+    if not 1 <= number <= 12:
+        lines.refuse("the pattern number isn't 1 to 12")
 
 
 def _read_certificate(lines, take):

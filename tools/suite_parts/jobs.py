@@ -101,7 +101,8 @@ def job_of(task: Task, column: Column, settings: Settings, folder: str,
     return {
         "key": key, "name": f"{plain(task.name)}.{plain(column.name)}.{key[:8]}",
         "task": task.name, "domain": task.domain, "kind": task.kind, "note": task.note,
-        "row": task.row, "swamp": "--swamp" in column.options, "column": column.name,
+        "row": task.row, "swamp": "--swamp" in column.options,
+        "reachable": "--reachable" in column.options, "column": column.name,
         "reader": column.reader, "folder": folder, "inputs": inputs, "words": words,
         "command": [program["path"], *words], "program": {
             name: program[name] for name in ("sha256", "version")},

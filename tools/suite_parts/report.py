@@ -18,9 +18,9 @@ from .results import Results
 from .tables import grouped, in_order, is_solved, rows_by_domain, rows_by_task, task_key
 from .work import Record
 
-COLUMNS = ("domain", "task", "kind", "row", "swamp", "column", "answer", "cost", "bound", "steps",
-           "certified", "expansions", "rows", "wall_s", "cpu_s", "mib", "note", "status",
-           "certificate", "certificate_bytes", "certificate_sha256", "check_proved",
+COLUMNS = ("domain", "task", "kind", "row", "swamp", "reachable", "column", "answer", "cost",
+           "bound", "steps", "certified", "expansions", "rows", "wall_s", "cpu_s", "mib", "note",
+           "status", "certificate", "certificate_bytes", "certificate_sha256", "check_proved",
            "check_proved_s", "check_second", "check_second_s", "said", "key")
 # What Downward Lab calls the ends of runs.
 ERRORS = {"plan": "success", "none": "search-unsolvable", "stopped": "search-out-of-budget",

@@ -1,7 +1,7 @@
 #!/usr/bin/env python3
 """A stand-in for the built program in the tests of tools/suite: `solve` by a plain A* over the tasks
 of the second checker, with certificate and journal, and `check` by that checker. It knows
-`--pattern`, and with `--falling` it claims the same plan at each weight.
+`--pattern` and `--reachable`, and with `--falling` it claims the same plan at each weight.
 
 Some lots make it behave badly on purpose: 2001 never ends, 2002 takes memory without end, 2003 ends
 by a signal, 2004 saves a certificate with another cost, 2005 never ends after a claim. The file
@@ -35,6 +35,7 @@ def options_of(words):
                           ("den", 1), ("blocks", 256), ("pattern", 0), ("falling", 0)):
         parser.add_argument(f"--{name}", type=int, default=default)
     parser.add_argument("--swamp", action="store_true")
+    parser.add_argument("--reachable", action="store_true")
     parser.add_argument("--plain", action="store_true")
     parser.add_argument("--engine")
     parser.add_argument("--cert")
@@ -80,10 +81,15 @@ def plan_to(state, parents):
 
 
 def certificate_of(task, options, weight, plan, cost, rows, closed):
-    pattern = options.pattern
-    lines = [f"pbnf-certificate {3 if pattern else 2}", f"kind {task.kind}",
-             f"width {task.digits}", *[f"pattern {pattern}"] * (pattern > 0),
-             "weight %d %d" % weight]
+    pattern, lines = options.pattern, [f"kind {task.kind}", f"width {task.digits}"]
+    if task.grounding == "all":
+        lines.insert(0, f"pbnf-certificate {3 if pattern else 2}")
+        lines += [f"pattern {pattern}"] * (pattern > 0)
+    else:
+        lines.insert(0, "pbnf-certificate 4")
+        lines += ["grounding reachable", f"estimate pattern {pattern}" if pattern else
+                  "estimate plain"]
+    lines.append("weight %d %d" % weight)
     lines += ["none"] if plan is None else [f"plan {len(plan)}", *map(str, plan), f"cost {cost}"]
     lines.append(f"rows {len(rows)}")
     lines += [f"{state:0{task.digits}x} {g} {'closed' if state in closed else 'cut'}"
@@ -94,7 +100,8 @@ def certificate_of(task, options, weight, plan, cost, rows, closed):
 def solve(options):
     texts = [pathlib.Path(name).read_bytes() for name in options.files]
     try:
-        task = pbnf_check.KINDS[options.kind][0](options.row, *texts, swamp=options.swamp)
+        task = pbnf_check.KINDS[options.kind][0](options.row, *texts, swamp=options.swamp,
+                                                 reachable=options.reachable)
     except pbnf_check.Refused as refused:
         print("input", *refused.args)
         return 65

@@ -61,7 +61,8 @@ def job_of_record(folder: pathlib.Path, name: str, record: Record, checkers: Che
         if not (folder / path).resolve().is_relative_to(folder):
             raise Faulty(f"{name} names {path}, which is outside {folder}")
     return {"name": name, "folder": str(folder), "kind": record["kind"], "row": record["row"],
-            "swamp": record["swamp"], "inputs": record["inputs"], "places": 1, "key": name,
+            "swamp": record["swamp"], "reachable": record.get("reachable", False),
+            "inputs": record["inputs"], "places": 1, "key": name,
             "certificate": record["certificate"], "certified": True, "checkers": list(checkers),
             "certificate_sha256": record["certificate_sha256"],
             "needs": needs_of("checker", checkers),

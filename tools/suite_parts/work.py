@@ -105,7 +105,8 @@ def run_and_check(job: Job, scratch: str) -> Record:
     ended, journal = run_program(job, files)
     answer = read_answer(job["reader"], ended, files["plan"])
     record = {name: job[name] for name in ("key", "task", "domain", "column", "kind", "inputs",
-                                           "words", "note", "program", "limits", "row", "swamp")}
+                                           "words", "note", "program", "limits", "row", "swamp",
+                                           "reachable")}
     record |= {"status": ended.status, "wall_s": ended.wall_seconds, "cpu_s": ended.cpu_seconds,
                "mib": ended.mib, "host": socket.gethostname(), **answer,
                "report": ended.output if job["is_pbnf"] else ended.output[-4096:],
@@ -204,7 +205,7 @@ def how_of(job: Job, checker: typing.Dict[str, typing.Any], scratch: str) -> typ
 def task_words_of(job: Job) -> typing.List[str]:
     """The options that say which task the files spell."""
     row = ["--row", str(job["row"])] if job["kind"] == "grid" else []
-    return row + ["--swamp"] * job["swamp"]
+    return row + ["--swamp"] * job["swamp"] + ["--reachable"] * job["reachable"]
 
 
 def keep_certificate(job: Job, record: Record, certificate: str) -> None:

@@ -72,6 +72,22 @@ class Folders(Case):
         self.assertTrue(record["report"].startswith("plan 38 38\n"))
         self.assertTrue(record["report"].endswith("bound 38\n"))
 
+    def test_a_column_by_reachability(self) -> None:
+        folder = EXAMPLES / "pddl" / "keys"
+        self.assertEqual(self.run_suite(folder, "--column", "all=", "--column",
+                                        "some=--reachable --pattern 2").returncode, 0)
+        heads = {}
+        for place in (self.out / "runs").glob("*.json"):
+            record = json.loads(place.read_text())
+            text = gzip.decompress((self.out / record["certificate"]).read_bytes())
+            heads[record["column"], record["reachable"]] = text.split(b"weight ")[0]
+            self.assertTrue(record["certified"])
+        self.assertEqual(heads, {
+            ("all", False): b"pbnf-certificate 2\nkind strips\nwidth 3\n",
+            ("some", True): b"pbnf-certificate 4\nkind strips\nwidth 2\ngrounding reachable\n"
+                            b"estimate pattern 2\n"})
+        self.assertEqual(self.call("verify", self.out).returncode, 0)
+
     def test_places_must_be_enough(self) -> None:
         run = self.run_suite(BOARD, "--column", "four=--workers 4", "--processes", 2)
         self.assertEqual(run.returncode, 64)
