@@ -1,0 +1,5 @@
+(define (domain visit) (:types cell)
+(:predicates (beside ?a - cell ?b - cell) (robot-at ?c - cell) (visited ?c - cell))
+(:action move :parameters (?a - cell ?b - cell)
+ :precondition (and (robot-at ?a) (beside ?a ?b))
+ :effect (and (not (robot-at ?a)) (robot-at ?b) (visited ?b))))
