@@ -27,13 +27,14 @@ class Run:
         self.bound = None
         self.expanded = None
 
-    def add(self, plain, words, folder):
-        """One run; what it prints, without the line of `measure`."""
+    def add(self, plain, words, folder, statuses=(0, 1)):
+        """One run, which ends with one of these statuses; what it prints, without the line of
+        `measure`."""
         run = subprocess.run([plain, "measure", *words], cwd=folder, capture_output=True,
                              text=True, check=True)
         text, _, last = run.stdout.rstrip("\n").rpartition("\n")
         processor, wall, memory, status = map(int, last.split(" "))
-        if status not in (0, 1):
+        if status not in statuses:
             sys.exit(f"{' '.join(map(str, words))}: status {status}: {text} {run.stderr}")
         self.processor = min(self.processor, processor / 1000)
         self.wall = min(self.wall, wall / 1000)
