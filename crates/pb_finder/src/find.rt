@@ -1,5 +1,5 @@
 //! The search for tables.
-ghost use Rattle.std.specs.Prelude.{All, IfOk, IfSome, IsTrue};
+ghost use Rattle.std.specs.Prelude.{◌<◌, ◌^◌, All, IfOk, IfSome, IsTrue, length};
 ghost use Rattle.pb_task.specs.Strips.{IsStrips};
 ghost use Rattle.pb_tables.specs.Suits.{suit};
 ghost use Rattle.pb_tables.specs.Tables.{AreTables, IsTable};
@@ -119,7 +119,8 @@ fn images_of(
 
 // The tables and traps of these lists, if there is a sum and they are few enough.
 fn tables_if_lawful(sums: usize, tables: Vec<Table>, traps: Vec<Trap>) -> Option<Tables>
-    requires { All (IsTable sums) tables.items }
+    requires tables { All (IsTable sums) tables.items }
+    requires traps { All (λ trap. length trap.listed < 2 ^ 63) traps.items }
     ensures { IfSome result AreTables }
 {
     let is_few = tables.len() <= MOST_TABLES && traps.len() <= MOST_TABLES;

@@ -14,6 +14,9 @@ use std::alloc::{AllocError, Global};
 // The greatest value of a table.
 const MOST_VALUE: u64 = 1 << 40;
 
+// A list has fewer images than this.
+const MOST_LISTED: usize = 1 << 63;
+
 /// How many tables there are at most, and how many traps.
 pub const MOST_TABLES: usize = 4096;
 
@@ -130,7 +133,8 @@ fn are_small(values: &[u64]) -> bool
     values.iter().all(|value| *value <= MOST_VALUE)
 }
 
-// A table, if it has a value for each image and sum and all are small enough.
+// A table, if it has a value for each image and sum, all are small enough and it lists few enough
+// images.
 fn table_if_lawful(
     sums: usize,
     tracked: Packed,
@@ -140,7 +144,7 @@ fn table_if_lawful(
     ensures { IfSome result (λ table. IsTable sums table) }
 {
     let count = listed.len().checked_mul(sums)?;
-    if values.len() == count && are_small(&values) {
+    if listed.len() < MOST_LISTED && values.len() == count && are_small(&values) {
         Some(Table::of(tracked, listed, values))
     } else {
         None
@@ -174,19 +178,29 @@ fn trapped_of(alloc: Global, listed: &[Listed], alone: &[u64]) -> Result<ImageLi
     Ok(trapped)
 }
 
+// A trap, if it lists an image and few enough.
+fn trap_if_lawful(tracked: Packed, listed: ImageList) -> Option<Trap>
+    ensures { IfSome result (λ trap. length trap.listed < 2 ^ 63) }
+{
+    if 1 <= listed.len() && listed.len() < MOST_LISTED {
+        Some(Trap::of(tracked, listed))
+    } else {
+        None
+    }
+}
+
 /// The trap of a pattern: its images from which no goal is reached. None if there are none.
 pub fn trap_of(
     alloc: Global,
     variables: &Variables,
     images: &Images,
     alone: &[u64],
-) -> Result<Option<Trap>, AllocError> {
+) -> Result<Option<Trap>, AllocError>
+    ensures { IfOk result (λ found. IfSome found (λ trap. length trap.listed < 2 ^ 63)) }
+{
     let listed = listed_of(alloc, variables, images)?;
     let trapped = trapped_of(alloc, &listed, alone)?;
-    if trapped.len() == 0 {
-        return Ok(None);
-    }
-    Ok(Some(Trap::of(tracked_of(variables, images), trapped)))
+    Ok(trap_if_lawful(tracked_of(variables, images), trapped))
 }
 
 // ---- all of them
@@ -256,19 +270,41 @@ pub fn tables_of(
     Ok(tables)
 }
 
+// Adds the trap of a pattern, if it has one.
+fn push_trap(
+    alloc: Global,
+    variables: &Variables,
+    images: &Images,
+    alone: &[u64],
+    traps: &mut Vec<Trap>,
+) -> Result<(), AllocError>
+    requires traps { All (λ trap. length trap.listed < 2 ^ 63) traps.old.items }
+    ensures traps { All (λ trap. length trap.listed < 2 ^ 63) traps.new.items }
+{
+    if let Some(trap) = trap_of(alloc, variables, images, alone)? {
+        traps.push(trap)?;
+    }
+    Ok(())
+}
+
 /// The traps of all patterns that have one.
 pub fn traps_of(
     alloc: Global,
     variables: &Variables,
     patterns: &[Images],
     alone: &Alone,
-) -> Result<Vec<Trap>, AllocError> {
+) -> Result<Vec<Trap>, AllocError>
+    ensures { IfOk result (λ traps. All (λ trap. length trap.listed < 2 ^ 63) traps.items) }
+{
     let mut traps = Vec::new(alloc);
     for number in 0..patterns.len().min(alone.values.len()) {
-        let found = trap_of(alloc, variables, &patterns[number], &alone.values[number])?;
-        if let Some(trap) = found {
-            traps.push(trap)?;
-        }
+        push_trap(
+            alloc,
+            variables,
+            &patterns[number],
+            &alone.values[number],
+            &mut traps,
+        )?;
     }
     Ok(traps)
 }

@@ -1,9 +1,9 @@
 -- How many lines state tables and traps.
-use Rattle.std.proofs.Common.{◌≡◌, ℕ, suc, ◌+◌, List, [], ◌∷◌, ◌++◌, length, map, take, drop, codes, Ok, subst, refl, sym, ap, ◌∙◌, arith, length-append}
+use Rattle.std.proofs.Common.{◌≡◌, ℕ, suc, ◌+◌, List, [], ◌∷◌, length, map, drop, codes, Ok, subst, refl, ap, ◌∙◌, arith, length-append}
 use Rattle.std.specs.List.{flat_map}
 use Rattle.std.proofs.lemmas.List.Concat.{flat_map-append}
 use Rattle.pb_tables.specs.Tables.{TrapValue, TableValue, TablesValue}
-use Rattle.pb_table_lines.specs.Lines.{image_lines, listing_lines, listings, table_listing, trap_listing, tables_lines}
+use Rattle.pb_table_lines.specs.Lines.{image_lines, listing_lines, table_listing, trap_listing, tables_lines}
 use Rattle.pb_table_lines.specs.Reading.{StatedCounts, line_at, counts_in, lists_at, tables_at, lines_of_lists, of_trap, trap_of}
 
 pub images_counted : (digits sums : ℕ) (listed values : List ℕ) → length (image_lines digits sums listed values) ≡ length listed

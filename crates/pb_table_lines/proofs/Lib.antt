@@ -1,3 +1,4 @@
+pub mod Callers
 mod Spelled
 mod States
 mod Sixteens
@@ -6,4 +7,9 @@ mod Counted
 mod Written
 mod Readable
 mod ReadBack
+mod Suiting
+mod Readers
+mod TableReaders
+mod Refused
+mod Numbered
 mod Examples

@@ -12,13 +12,13 @@ use Rattle.pb_model.specs.Texts as texts
 use Rattle.pb_print.proofs.Callers.{lines-append}
 use Rattle.pb_lines.specs.Words.{part, behind, number_of}
 use Rattle.pb_lines.proofs.Callers.{IsNumberWord, number_word_of, number_word_is, if_some, part_is, behind_is}
-use Rattle.pb_tables.specs.Tables.{TrapValue, TableValue, TablesValue, IsTable, AreTables}
+use Rattle.pb_tables.specs.Tables.{TrapValue, TableValue, TablesValue, IsTable}
 use Rattle.pb_table_lines.specs.Words.{hex_value, hex_after, state_of, word_of, behind_word}
-use Rattle.pb_table_lines.specs.Lines.{Listing, table_listing, trap_listing, listings, values_text, image_line, image_lines, list_line, listing_lines, counts_line, tables_lines, tables_text}
+use Rattle.pb_table_lines.specs.Lines.{table_listing, trap_listing, listings, values_text, image_line, image_lines, list_line, listing_lines, counts_line, tables_lines, tables_text}
 use Rattle.pb_table_lines.specs.Reading.{◌>>=◌, wanted, line_at, StatedCounts, counted, are_few, counts_in, list_in, value_in, values_in, image_in, StatedImages, images_at, list_at, lists_at, lines_of_lists, of_trap, trap_of, tables_at, tables_reading}
-use Rattle.pb_table_lines.specs.Spelling.{FitDigits, CanBeStated}
+use Rattle.pb_table_lines.specs.Spelling.{CanBeStated}
 use Rattle.pb_table_lines.specs.Laws.{TablesAreReadAsWritten}
-use Rattle.pb_table_lines.proofs.Spelled.{hex_value_after, IsStateWord}
+use Rattle.pb_table_lines.proofs.Spelled.{hex_value_after}
 use Rattle.pb_table_lines.proofs.States.{state_word_is}
 use Rattle.pb_table_lines.proofs.Loops.{images_of}
 use Rattle.pb_table_lines.proofs.Readable.{front_taken, front_dropped, line_then, IsSmall, HasDigits, listing_of, CanBeListed, Fit, TrapFit, trap_listings, tables_again, reading_again}
@@ -189,7 +189,7 @@ list_is digits word sums line text x e =
     let is : text ≡ texts.lines (listing_lines digits (listing_of word sums list)) ++ c.0.1 =
     line_is line text a.0 a.1 ∙ ap (λ (t : List ℕ). texts.line t ++ a.0.1) head_is ∙ ap (λ (t : List ℕ). texts.line head ++ t) i.are ∙ sym (append_assoc (texts.line head) lines c.0.1) in
     subst (λ (y : TableValue × List ℕ). (text ≡ texts.lines (listing_lines digits (listing_of word sums y.0)) ++ y.1) × CanBeListed digits sums y.0) (ok_is (list, c.0.1) x c.2)
-    (is, record { fit = record { tracked_small = h.1; few = subst (λ k. k < 2 ^ 63) (sym i.many) h.2; small = i.small }; table = record { long = i.long; small = i.all } })
+    (is, record { fit = record { tracked_small = h.1; few = subst (λ k. k < 2 ^ 63) (sym i.many) h.2; small = i.small }; table = record { listed_few = subst (λ k. k < 2 ^ 63) (sym i.many) h.2; long = i.long; small = i.all } })
 
 lists_are : (digits : ℕ) (word : List ℕ) (sums count line : ℕ) (text : List ℕ) (x : List TableValue × List ℕ) → lists_at digits (word ++ 32 ∷ []) sums count line text ≡ Ok x
     → (text ≡ texts.lines (flat_map (listing_lines digits) (map (listing_of word sums) x.0)) ++ x.1) × (length x.0 ≡ count) × All (CanBeListed digits sums) x.0
@@ -302,6 +302,7 @@ tables_are digits line text x e =
           tables_few = subst (λ k. k ≤ 4096) (sym t.1) few.tables_few;
           traps_few = subst (λ k. k ≤ 4096) (sym many) few.traps_few;
           each = tables_lawful digits counts.sums tables t.2;
+          traps_listed_few = λ k other within. (traps_fit digits d.0.0 p.2 k other within).few;
         };
         tables_fit = tables_fit digits counts.sums tables t.2;
         traps_fit = traps_fit digits d.0.0 p.2;

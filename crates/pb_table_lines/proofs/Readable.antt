@@ -1,5 +1,5 @@
 -- What is written is read.
-use Rattle.std.proofs.Common.{◌≡◌, ℕ, zero, suc, ◌+◌, ◌-◌, ◌*◌, ◌^◌, ◌<◌, ◌≤◌, Bool, true, false, not, cond, eqb, ltb, leb, ◌&&◌, Option, None, Some, List, [], ◌∷◌, ◌++◌, All, length, map, take, drop, codes, Result, Ok, Err, refl, sym, ap, ◌∙◌, subst, arith, append_assoc}
+use Rattle.std.proofs.Common.{◌≡◌, ℕ, suc, ◌+◌, ◌-◌, ◌*◌, ◌^◌, ◌<◌, ◌≤◌, true, false, not, cond, eqb, ltb, leb, ◌&&◌, None, Some, List, [], ◌∷◌, ◌++◌, All, length, map, take, drop, codes, Result, Ok, Err, refl, sym, ap, ◌∙◌, arith, append_assoc}
 use Rattle.std.specs.Fmt.{decimal}
 use Rattle.std.specs.List.{list_all, flat_map}
 use Rattle.std.proofs.lemmas.List.{take-append-drop, length-take-le, length-drop, length-map, nil_from_length, append-nil}
@@ -13,7 +13,7 @@ use Rattle.pb_model.specs.Texts as texts
 use Rattle.pb_print.proofs.Callers.{lines-append}
 use Rattle.pb_lines.specs.Words.{part, behind, number_of, place_of, has_none}
 use Rattle.pb_lines.proofs.Callers.{number_again, number_none, none_both, part_again, behind_again}
-use Rattle.pb_tables.specs.Tables.{TrapValue, TableValue, TablesValue, IsTable, AreTables}
+use Rattle.pb_tables.specs.Tables.{TrapValue, TableValue, TablesValue, IsTable}
 use Rattle.pb_table_lines.specs.Words.{hex_value, hex_after, state_of, word_of, behind_word}
 use Rattle.pb_table_lines.specs.Lines.{Listing, table_listing, trap_listing, listings, values_text, image_line, image_lines, list_line, listing_lines, counts_line, tables_lines, tables_text}
 use Rattle.pb_table_lines.specs.Reading.{◌>>=◌, wanted, line_at, StatedCounts, counted, are_few, counts_in, list_in, value_in, values_in, image_in, StatedImages, images_at, list_at, lists_at, lines_of_lists, of_trap, trap_of, tables_at, tables_reading}
@@ -119,7 +119,7 @@ values_none (value ∷ values) small =
 
 -- ---- images
 
-image_again : (digits line image : ℕ) (values : List ℕ) → image < 16 ^ digits → All IsSmall values → image_in digits (length values) line (image_line digits image values) ≡ Ok (image, values)
+pub image_again : (digits line image : ℕ) (values : List ℕ) → image < 16 ^ digits → All IsSmall values → image_in digits (length values) line (image_line digits image values) ≡ Ok (image, values)
 unfolding image_in
 image_again digits line image values small all =
     let word : List ℕ = hex_digits digits image in
@@ -130,7 +130,7 @@ image_again digits line image values small all =
     ∙ ap (λ (w : List ℕ). values_in (length values) line w >>= λ vs. fine (image, vs)) back
     ∙ ap (λ r. r >>= λ vs. fine (image, vs)) (values_again line values all)
 
-image_none : (digits image : ℕ) (values : List ℕ) → image < 16 ^ digits → All IsSmall values → has_none 10 (image_line digits image values) ≡ true
+pub image_none : (digits image : ℕ) (values : List ℕ) → image < 16 ^ digits → All IsSmall values → has_none 10 (image_line digits image values) ≡ true
 image_none digits image values small all = none_both 10 (hex_digits digits image) (values_text values) (state_none 10 digits image (omega arith) small) (values_none values all)
 
 abbrev pub HasDigits : (digits : ℕ) → ℕ → Type 0
@@ -171,7 +171,7 @@ pub record CanBeListed (digits sums : ℕ) (list : TableValue) : Type 0 where
   pub fit : FitDigits digits list.tracked list.listed
   pub table : IsTable sums list
 
-list_line_again : (digits : ℕ) (word : List ℕ) (line tracked count : ℕ) → tracked < 16 ^ digits → count < 2 ^ 63 → list_in digits (word ++ 32 ∷ []) line (list_line digits word tracked count) ≡ Ok (tracked, count)
+pub list_line_again : (digits : ℕ) (word : List ℕ) (line tracked count : ℕ) → tracked < 16 ^ digits → count < 2 ^ 63 → list_in digits (word ++ 32 ∷ []) line (list_line digits word tracked count) ≡ Ok (tracked, count)
 unfolding list_in
 list_line_again digits word line tracked count small few =
     let said : List ℕ = hex_digits digits tracked ++ 32 ∷ decimal count in
@@ -182,7 +182,7 @@ list_line_again digits word line tracked count small few =
     ∙ ap (λ o. wanted line o >>= λ s. wanted line (number_of (decimal count)) >>= λ n. fine (s, n)) (state_again digits tracked small)
     ∙ ap (λ o. wanted line o >>= λ n. fine (tracked, n)) (number_again count few)
 
-list_line_none : (digits : ℕ) (word : List ℕ) (tracked count : ℕ) → has_none 10 word ≡ true → tracked < 16 ^ digits → count < 2 ^ 63 → has_none 10 (list_line digits word tracked count) ≡ true
+pub list_line_none : (digits : ℕ) (word : List ℕ) (tracked count : ℕ) → has_none 10 word ≡ true → tracked < 16 ^ digits → count < 2 ^ 63 → has_none 10 (list_line digits word tracked count) ≡ true
 list_line_none digits word tracked count none small few =
     none_both 10 word (32 ∷ (hex_digits digits tracked ++ 32 ∷ decimal count)) none
     (none_both 10 (hex_digits digits tracked) (32 ∷ decimal count) (state_none 10 digits tracked (omega arith) small) (number_none 10 count (omega arith) few))
@@ -217,7 +217,7 @@ lists_again digits word sums line (list ∷ lists) rest none can =
 
 -- ---- all of them
 
-counts_again : (line sums tables traps : ℕ) → are_few (counted sums tables traps) ≡ true → sums ≤ 64 → tables ≤ 4096 → traps ≤ 4096 → counts_in line (counts_line sums tables traps) ≡ Ok (counted sums tables traps)
+pub counts_again : (line sums tables traps : ℕ) → are_few (counted sums tables traps) ≡ true → sums ≤ 64 → tables ≤ 4096 → traps ≤ 4096 → counts_in line (counts_line sums tables traps) ≡ Ok (counted sums tables traps)
 unfolding counts_in
 counts_again line sums tables traps few sums_few tables_few traps_few =
     let third : List ℕ = decimal tables ++ 32 ∷ decimal traps in
@@ -229,7 +229,7 @@ counts_again line sums tables traps few sums_few tables_few traps_few =
     ∙ ap (λ o. wanted line o >>= λ c. cond (are_few (counted sums tables c)) (fine (counted sums tables c)) (Err line)) (number_again traps (omega (arith, traps_few)))
     ∙ ap (λ t. cond t (fine (counted sums tables traps)) (Err line)) few
 
-counts_none : (sums tables traps : ℕ) → sums ≤ 64 → tables ≤ 4096 → traps ≤ 4096 → has_none 10 (counts_line sums tables traps) ≡ true
+pub counts_none : (sums tables traps : ℕ) → sums ≤ 64 → tables ≤ 4096 → traps ≤ 4096 → has_none 10 (counts_line sums tables traps) ≡ true
 counts_none sums tables traps sums_few tables_few traps_few =
     none_both 10 (codes "estimate tables ") (decimal sums ++ 32 ∷ (decimal tables ++ 32 ∷ decimal traps)) refl
     (none_both 10 (decimal sums) (32 ∷ (decimal tables ++ 32 ∷ decimal traps)) (number_none 10 sums (omega arith) (omega (arith, sums_few)))
@@ -261,7 +261,7 @@ traps_can : (digits : ℕ) (traps : List TrapValue) → All (TrapFit digits) tra
 traps_can digits [] fit = All-nil (CanBeListed digits 0)
 traps_can digits (trap ∷ traps) fit =
     All-cons (CanBeListed digits 0) (of_trap trap) (map of_trap traps)
-    (record { fit = All-head (TrapFit digits) trap traps fit; table = record { long = none (length trap.listed); small = All-nil IsSmall } })
+    (record { fit = All-head (TrapFit digits) trap traps fit; table = record { listed_few = (All-head (TrapFit digits) trap traps fit).few; long = none (length trap.listed); small = All-nil IsSmall } })
     (traps_can digits traps (All-tail (TrapFit digits) trap traps fit))
   where
     none : (n : ℕ) → 0 ≡ n * 0

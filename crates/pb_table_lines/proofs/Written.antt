@@ -1,5 +1,5 @@
 -- The lines of tables by their numbers.
-use Rattle.std.proofs.Common.{◌≡◌, ℕ, zero, suc, ◌+◌, ◌-◌, ◌*◌, ◌<◌, ◌≤◌, Some, List, [], ◌∷◌, ◌++◌, length, map, take, drop, get_or, slice_get, refl, sym, ap, ◌∙◌, subst, arith, length-append, below_more}
+use Rattle.std.proofs.Common.{◌≡◌, ℕ, zero, suc, ◌+◌, ◌-◌, ◌*◌, ◌<◌, ◌≤◌, Some, List, [], ◌∷◌, ◌++◌, length, take, drop, get_or, slice_get, refl, sym, ap, ◌∙◌, subst, arith, length-append, below_more}
 use Rattle.std.specs.List.{flat_map}
 use Rattle.std.proofs.lemmas.List.{drop-drop, get_or_append_left, get_or_push}
 use Rattle.pb_model.specs.Texts.{line}
@@ -50,7 +50,7 @@ some_list (first ∷ all) at some within = omega arith
 
 -- ---- a line that was put
 
-image_get : (digits sums : ℕ) (listed values : List ℕ) (place : ℕ) → place < length listed → slice_get (image_lines digits sums listed values) place ≡ Some (image_line digits (get_or listed place 0) (take sums (drop (place * sums) values)))
+pub image_get : (digits sums : ℕ) (listed values : List ℕ) (place : ℕ) → place < length listed → slice_get (image_lines digits sums listed values) place ≡ Some (image_line digits (get_or listed place 0) (take sums (drop (place * sums) values)))
 image_get digits sums [] values place within = absurd (omega (arith, within))
 image_get digits sums (image ∷ listed) values zero within = ap (λ k. Some (image_line digits image (take sums (drop k values)))) (none sums)
   where

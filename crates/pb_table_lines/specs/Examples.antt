@@ -1,5 +1,5 @@
 -- Worked rows. The tables and the task of one action are those of `pb_tables`.
-use Rattle.std.specs.Prelude.{◌≡◌, ℕ, ◌+◌, List, [], ◌∷◌, ◌++◌, Option, Some, Ok, Err, codes}
+use Rattle.std.specs.Prelude.{◌≡◌, ℕ, List, [], ◌∷◌, ◌++◌, Option, Some, Ok, Err, codes}
 use Rattle.pb_model.specs.Texts.{line, lines}
 use Rattle.pb_tables.specs.Tables.{TablesValue}
 use Rattle.pb_tables.specs.Suits.{tables_fault}

@@ -1,6 +1,6 @@
 -- Which tables lines of so many digits can state.
 use Rattle.std.specs.Prelude.{ℕ, ◌^◌, ◌<◌, List, length, All}
-use Rattle.pb_tables.specs.Tables.{TrapValue, TableValue, TablesValue, AreTables}
+use Rattle.pb_tables.specs.Tables.{TablesValue, AreTables}
 
 -- the tracked atoms and the images have so many digits, and the count of the images can be stated
 pub record FitDigits (digits tracked : ℕ) (listed : List ℕ) : Type 0 where

@@ -97,6 +97,7 @@ pub fn images_at<'a>(
         (images_at digits sums count line text.now) }
     ensures many { IfOk result (λ x. length x.0.values ≡ length x.0.listed * sums) }
     ensures small { IfOk result (λ x. All (λ value. value ≤ 2 ^ 40) x.0.values) }
+    ensures few { IfOk result (λ x. length x.0.listed ≤ count) }
     ensures shorter { IfOk result (λ x. length x.1.now + length x.0.listed ≤ length text.now) }
     ensures words { AreWords (length words.old) words.new }
 {

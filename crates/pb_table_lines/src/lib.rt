@@ -16,9 +16,11 @@ mod words;
 
 pub use fault::LinesError;
 pub use laws::{
-    examples_are_found, examples_are_read, examples_are_written, tables_are_read_as_written,
+    cut_tables_are_refused, examples_are_found, examples_are_read, examples_are_written,
+    lines_have_their_numbers, refused_lines_are_first, suiting_tables_can_be_stated,
+    tables_are_read_as_written,
 };
-pub use listing::line_number;
+pub use listing::{line_count, line_number};
 pub use lists::LinePlace;
 pub use tables::{read_tables, tables_at};
 pub use text::TablesText;

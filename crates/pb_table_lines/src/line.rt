@@ -130,6 +130,7 @@ pub fn list_in(
     requires words { AreWords (length words.old) words.old }
     ensures gives { Gives (λ x. (x.tracked, x.count)) result
         (list_in digits word.now line text.now) }
+    ensures few { IfOk result (λ x. x.count < 2 ^ 63) }
     ensures words { AreWords (length words.old) words.new }
 {
     let said = behind_in(line, text, word)?;

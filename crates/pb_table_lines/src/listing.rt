@@ -1,7 +1,7 @@
 //! Tables and traps in one order, as their lines state them.
-ghost use Rattle.std.specs.Prelude.{◌≡◌, ◌≤◌, ◌+◌, ◌*◌, ◌<◌, ◌^◌, length};
+ghost use Rattle.std.specs.Prelude.{◌≡◌, ℕ, ◌≤◌, ◌+◌, ◌*◌, ◌<◌, ◌^◌, length};
 ghost use Rattle.pb_tables.specs.Tables.{IsTable};
-ghost use Rattle.pb_table_lines.specs.Lines.{listings, listing_at, table_listing, trap_listing, lines_before, line_number};
+ghost use Rattle.pb_table_lines.specs.Lines.{listings, listing_at, table_listing, trap_listing, tables_lines, lines_before, line_number};
 
 use pb_packed::Packed;
 use pb_tables::{ImageList, Table, Tables, Trap};
@@ -84,13 +84,22 @@ pub fn listing_at(tables: &Tables, list: usize) -> Listing<'_>
 // How many lines come before those of a table or trap.
 fn lines_before(tables: &Tables, list: usize) -> u128
     requires { list ≤ length (listings tables.now) }
-    ensures { result ≡ lines_before tables.now list }
+    ensures lines { result ≡ lines_before tables.now list }
+    ensures few { result ≤ 1 + list * 2 ^ 64 }
 {
     let mut lines = 1u128;
     for number in 0..list {
         lines += 1 + listing_at(tables, number).listed.len() as u128;
     }
     lines
+}
+
+/// How many lines state tables, at any number of digits.
+pub fn line_count(tables: &Tables) -> u128
+    ensures lines { (digits : ℕ) → result ≡ length (tables_lines digits tables.now) }
+    ensures few { result < 2 ^ 80 }
+{
+    lines_before(tables, count(tables))
 }
 
 /// The number of a line of a table or trap, among all lines from 1 on. The tables are numbered from

@@ -113,6 +113,7 @@ fn trap_at<'a>(
     requires lines { line + length text.now < 2 ^ 64 }
     ensures gives { Gives (λ x. (of_trap x.0, x.1.now)) result
         (list_at digits (codes "trap ") 0 line text.now) }
+    ensures few { IfOk result (λ x. length x.0.listed < 2 ^ 63) }
     ensures shorter { IfOk result (λ x. length x.1.now + 1 + length x.0.listed ≤ length text.now) }
     ensures words { AreWords (length words.old) words.new }
 {
@@ -174,6 +175,7 @@ pub fn traps_at<'a>(
         (lists_at digits (codes "trap ") 0 count place.entry.line place.entry.text.now) }
     ensures line { IfOk result (λ x. x.1.line
         ≡ place.entry.line + lines_of_lists (map of_trap x.0.items)) }
+    ensures few { IfOk result (λ x. All (λ trap. length trap.listed < 2 ^ 63) x.0.items) }
     ensures many { IfOk result (λ x. length x.0.items ≡ count) }
     ensures shorter { IfOk result (λ x. x.1.line + length x.1.text.now
         ≤ place.entry.line + length place.entry.text.now) }

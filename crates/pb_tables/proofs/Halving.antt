@@ -1,6 +1,6 @@
 -- What halving finds in a list that rises is the first place of the image.
-use Rattle.std.proofs.Common.{◌≡◌, ℕ, zero, suc, ◌+◌, ◌-◌, ◌<◌, ◌≤◌, ◌==◌, List, length, get_or, slice_index, Option, None, Some, inl, inr, sym, subst, ap, arith}
-use Rattle.std.proofs.lemmas.Bool.{cases_lt, cases_eq, eq-eqb, ne_eqb}
+use Rattle.std.proofs.Common.{◌≡◌, ℕ, zero, suc, ◌+◌, ◌-◌, ◌<◌, ◌==◌, List, length, slice_index, Option, None, Some, inl, inr, sym, subst, arith}
+use Rattle.std.proofs.lemmas.Bool.{cases_eq, eq-eqb, ne_eqb}
 use Rattle.pb_tables.specs.Below.{some_if}
 use Rattle.pb_tables.specs.Images.{place_in}
 use Rattle.pb_tables.specs.Order.{AreRising}

@@ -1,15 +1,17 @@
 -- What is known of lists that are written as they should be.
-use Rattle.std.proofs.Common.{◌≡◌, ℕ, suc, ◌+◌, ◌-◌, ◌^◌, ◌<◌, Bool, true, false, not, ◌||◌, ◌==◌, nat_lt, List, length, Option, None, Some, slice_index, refl, subst, arith, if◌then◌else◌, inl, inr}
+use Rattle.std.proofs.Common.{◌≡◌, ℕ, suc, ◌+◌, ◌-◌, ◌^◌, ◌<◌, Bool, true, false, not, IsTrue, ◌||◌, ◌==◌, nat_lt, List, All, length, Option, None, Some, slice_index, refl, subst, ◌∙◌, arith, if◌then◌else◌, inl, inr}
 use Rattle.std.proofs.lemmas.Bool.{and_parts, or_cases, eqb-true, ltb-true, not-false}
+use Rattle.std.proofs.lemmas.List.{get_or_default}
 use Rattle.pb_task.specs.declared.parts.StripsParts.{StripsParts}
 use Rattle.pb_task.specs.Strips.{is_atom_set}
 use Rattle.pb_tables.specs.Below.{first_below, some_if}
 use Rattle.pb_tables.specs.Images.{both}
 use Rattle.pb_tables.specs.Tables.{TablesValue, table_at, trap_at}
 use Rattle.pb_tables.specs.Order.{IsWritten, AreWritten, AreTrapsWritten}
-use Rattle.pb_tables.specs.Suits.{line_of, is_ordered, order_fault, first_order_fault}
+use Rattle.pb_tables.specs.Suits.{line_of, is_ordered, order_fault, first_order_fault, suit}
+use Rattle.pb_tables.proofs.AtomSets.{both_small}
 use Rattle.pb_tables.proofs.Searches.{else_none, first_none, if_none}
-use Rattle.pb_tables.proofs.Admissible.{line_none}
+use Rattle.pb_tables.proofs.Admissible.{line_none, faultless}
 
 tested : (test : Bool) (found : Option ℕ) → (if test then found else Some 0) ≡ None → (test ≡ true) × (found ≡ None)
 tested true found e = (refl, e)
@@ -58,3 +60,13 @@ tables_written strips tables e =
             (first_none (length tables.traps) (λ list. line_of (length tables.tables + list) (order_fault strips.atoms (trap_at tables.traps list).tracked (trap_at tables.traps list).listed)) parts.1 number less));
       },
     )
+
+-- the images are sets of atoms of the task
+pub images_small : (count tracked : ℕ) (listed : List ℕ) → IsWritten count tracked listed → All (λ image. image < 2 ^ count) listed
+images_small count tracked listed is = λ place d less.
+    subst (λ k. k < 2 ^ count) (is.tracked_alone place less ∙ get_or_default listed place 0 d less) (both_small count (slice_index listed place) tracked)
+
+-- the lists of tables and traps that suit a task are written as they should be
+pub suiting_written : (strips : StripsParts) (tables : TablesValue) → IsTrue (suit strips tables)
+    → AreWritten strips.atoms tables.tables × AreTrapsWritten strips.atoms tables.traps
+suiting_written strips tables suits = tables_written strips tables (faultless strips tables suits).order

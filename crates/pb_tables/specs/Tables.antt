@@ -1,6 +1,6 @@
 -- Tables of values and traps, as a certificate can state them. Nothing is said of how they were
 -- found.
-use Rattle.std.specs.Prelude.{◌≡◌, ℕ, ◌+◌, ◌-◌, ◌*◌, ◌^◌, ◌≤◌, List, [], length, All, Option, None, Some, slice_index, slice_index_or, if◌then◌else◌}
+use Rattle.std.specs.Prelude.{◌≡◌, ℕ, ◌+◌, ◌-◌, ◌*◌, ◌^◌, ◌<◌, ◌≤◌, List, [], length, All, Option, None, Some, slice_index, slice_index_or, if◌then◌else◌}
 use Rattle.pb_task.specs.declared.parts.GroundAction.{GroundAction}
 use Rattle.pb_tables.specs.Below.{greatest_below, sum_below}
 use Rattle.pb_tables.specs.Images.{may_act, image_after, place_in}
@@ -23,18 +23,21 @@ pub record TablesValue : Type 0 where
   pub tables : List TableValue
   pub traps : List TrapValue
 
--- a value for each image and sum, and none above 2^40
+-- fewer than 2^63 images, and a value for each image and sum, none above 2^40
 pub record IsTable (sums : ℕ) (table : TableValue) : Type 0 where
+  pub listed_few : length table.listed < 2 ^ 63
   pub long : length table.values ≡ length table.listed * sums
   pub small : All (λ value. value ≤ 2 ^ 40) table.values
 
--- There are 1 to 64 sums, and at most 4,096 tables and 4,096 traps.
+-- There are 1 to 64 sums, and at most 4,096 tables and 4,096 traps. Each lists fewer than 2^63
+-- images.
 pub record AreTables (tables : TablesValue) : Type 0 where
   pub some : 1 ≤ tables.sums
   pub few : tables.sums ≤ 64
   pub tables_few : length tables.tables ≤ 4096
   pub traps_few : length tables.traps ≤ 4096
   pub each : All (IsTable tables.sums) tables.tables
+  pub traps_listed_few : All (λ trap. length trap.listed < 2 ^ 63) tables.traps
 
 -- the table of a number, and one that lists nothing if there are fewer
 abbrev pub table_at : List TableValue → (number : ℕ) → TableValue

@@ -1,4 +1,3 @@
-use Rattle.std.proofs.Common.{refl}
 use Rattle.pb_table_lines.proofs.Loops.{values_more}
 use Rattle.pb_table_lines.proofs.images.+add_values.Goals as goal
 

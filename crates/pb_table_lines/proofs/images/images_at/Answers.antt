@@ -1,9 +1,9 @@
-use Rattle.std.proofs.Common.{◌≡◌, ◌+◌, ◌*◌, ◌∷◌, [], ◌++◌, ℕ, List, length, Ok, refl, sym, ap, ◌∙◌, subst, arith, length-append}
+use Rattle.std.proofs.Common.{◌≡◌, ◌+◌, ◌∷◌, [], ◌++◌, length, sym, ap, ◌∙◌, subst, arith, length-append}
 use Rattle.std.proofs.lemmas.Result.{err_from_is_err_and}
 use Rattle.pb_packed.specs.Words.{AreWords}
 use Rattle.pb_table_lines.specs.Reading.{StatedImages, images_at}
 use Rattle.pb_table_lines.proofs.Sixteens.{words_long}
-use Rattle.pb_table_lines.proofs.Loops.{images_of, with_images, image_read, line_fails, image_fails, images_done, images_again, more_values}
+use Rattle.pb_table_lines.proofs.Loops.{images_of, image_read, line_fails, image_fails, images_done, images_again, more_values}
 use Rattle.pb_table_lines.proofs.images.images_at.Goals as goal
 
 pub returns-in_err-first-clause-gives : goal.returns-in_err-first-clause-gives

@@ -1,4 +1,4 @@
-use Rattle.std.proofs.Common.{◌≡◌, ◌+◌, length, ap, sym, ◌∙◌, arith}
+use Rattle.std.proofs.Common.{◌≡◌, length, ap, arith}
 use Rattle.pb_table_lines.specs.Lines.{Listing, listings, listing_at}
 use Rattle.pb_table_lines.proofs.Written.{before_next}
 use Rattle.pb_table_lines.proofs.listing.lines_before.Goals as goal

@@ -1,6 +1,7 @@
-use Rattle.std.proofs.Common.{◌≡◌, ◌+◌, ◌-◌, ◌∷◌, [], ◌++◌, ℕ, List, length, map, codes, sym, ap, ◌∙◌, subst, arith, length-append}
+use Rattle.std.proofs.Common.{◌≡◌, ◌+◌, ◌-◌, ◌<◌, ◌^◌, All, ◌∷◌, [], ◌++◌, List, length, map, codes, sym, ap, ◌∙◌, subst, arith, length-append}
 use Rattle.std.proofs.lemmas.Result.{err_from_is_err_and}
 use Rattle.std.proofs.lemmas.List.{map-append}
+use Rattle.std.proofs.lemmas.List.Elements.{All-push}
 use Rattle.pb_packed.specs.Words.{AreWords}
 use Rattle.pb_tables.specs.Tables.{TrapValue, TableValue}
 use Rattle.pb_table_lines.specs.Reading.{lists_at, lines_of_lists, of_trap}
@@ -30,6 +31,7 @@ loop-number-preserved c =
       so_far = next_list c.args.digits (codes "trap ") 0 (c.args.count - (c.loop-number.number + 1)) c.loop-number.line (c.loop-number.line + (1 + c.len.result)) c.in_ok-trap.after.now front (map of_trap c.push.new.self.items) list (lists_at c.args.digits (codes "trap ") 0 c.args.count c.args.place.line c.args.place.text.now) (omega (arith, listed)) lists
           (list_read c.args.digits (codes "trap ") 0 c.args.count c.loop-number.number c.loop-number.line c.loop-number.rest.now front (lists_at c.args.digits (codes "trap ") 0 c.args.count c.args.place.line c.args.place.text.now) list c.in_ok-trap.after.now c.loop-number-test.true c.in_ok-trap.ensures.gives inv.so_far);
       line_is = omega (arith, inv.line_is, listed, lines);
+      few = subst (λ (ts : List TrapValue). All (λ (t : TrapValue). length t.listed < 2 ^ 63) ts) (sym items) (All-push (λ (t : TrapValue). length t.listed < 2 ^ 63) traps trap inv.few c.in_ok-trap.ensures.few);
       many = ap length items ∙ (let one = length-append traps (trap ∷ []) in omega (arith, one, inv.many));
       shorter = omega (arith, inv.shorter, listed, c.in_ok-trap.ensures.shorter);
       long = long ∙ inv.long;

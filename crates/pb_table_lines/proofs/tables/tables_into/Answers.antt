@@ -1,7 +1,6 @@
-use Rattle.std.proofs.Common.{◌≡◌, ◌+◌, ℕ, List, [], ◌∷◌, map, length, codes, Ok, refl, sym, ap, ◌∙◌, subst, arith}
-use Rattle.pb_tables.specs.Tables.{TrapValue, TableValue, TablesValue}
-use Rattle.pb_table_lines.specs.Lines.{tables_lines}
-use Rattle.pb_table_lines.specs.Reading.{StatedCounts, counted, line_at, counts_in, lists_at, tables_at, lines_of_lists, of_trap}
+use Rattle.std.proofs.Common.{◌≡◌, map, Ok, sym, ap, ◌∙◌, arith}
+use Rattle.pb_tables.specs.Tables.{TablesValue}
+use Rattle.pb_table_lines.specs.Reading.{counted, lines_of_lists, of_trap}
 use Rattle.pb_table_lines.proofs.Counted.{lines_counted, all_read}
 use Rattle.pb_table_lines.proofs.tables.tables_into.Goals as goal
 

@@ -1,5 +1,5 @@
-use Rattle.std.proofs.Common.{◌≡◌, ℕ, ◌+◌, ◌<◌, ◌∷◌, [], ◌++◌, List, length, get_or, ap, sym, ◌∙◌, subst, arith, length-append}
-use Rattle.pb_table_lines.specs.Lines.{Listing, listings, listing_at, lines_before}
+use Rattle.std.proofs.Common.{◌≡◌, ◌∷◌, [], ◌++◌, length, ap, ◌∙◌, arith, length-append}
+use Rattle.pb_table_lines.specs.Lines.{Listing, listings, listing_at}
 use Rattle.pb_table_lines.proofs.Written.{before_next, each_more}
 use Rattle.pb_table_lines.proofs.text.starts_of.Goals as goal
 

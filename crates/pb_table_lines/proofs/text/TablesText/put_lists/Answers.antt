@@ -1,4 +1,4 @@
-use Rattle.std.proofs.Common.{◌≡◌, ◌+◌, ◌-◌, ◌<◌, ◌≤◌, ℕ, List, length, get_or, sym, ap, subst, arith}
+use Rattle.std.proofs.Common.{◌-◌, ◌<◌, ◌≤◌, ℕ, List, length, get_or, sym, subst, arith}
 use Rattle.pb_print.specs.Saved.{PutsLine}
 use Rattle.pb_tables.specs.Tables.{TablesValue}
 use Rattle.pb_table_lines.specs.Lines.{Listing, listings, listing_at, listing_lines, tables_lines}

@@ -1,6 +1,5 @@
-use Rattle.std.proofs.Common.{◌≡◌, ◌<◌, ◌-◌, ◌^◌, ℕ, List, length, get_or, sym, ap, subst, ◌∙◌, arith}
+use Rattle.std.proofs.Common.{◌<◌, ◌^◌, ℕ, List, length, sym, ap, subst, ◌∙◌}
 use Rattle.pb_tables.specs.Tables.{TablesValue}
-use Rattle.pb_table_lines.specs.Lines.{tables_lines, listings, lines_before}
 use Rattle.pb_table_lines.specs.Stated.{StatedTables, AreStarts, stated_lines}
 use Rattle.pb_table_lines.proofs.Written.{last_start, all_counted}
 use Rattle.pb_table_lines.proofs.text.TablesTextNumberedLines.count.Goals as goal

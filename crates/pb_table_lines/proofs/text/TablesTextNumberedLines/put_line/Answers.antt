@@ -1,4 +1,4 @@
-use Rattle.std.proofs.Common.{◌≡◌, length, subst, sym, ap}
+use Rattle.std.proofs.Common.{length, subst, ap}
 use Rattle.pb_print.specs.Saved.{PutsLine}
 use Rattle.pb_tables.specs.Tables.{TablesValue}
 use Rattle.pb_table_lines.specs.Stated.{StatedTables, stated_lines}
