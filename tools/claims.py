@@ -8,7 +8,7 @@ import re
 import shared
 
 CLAIM = re.compile(rb"weight (\d+) (\d+)\n(plan (\d+) \d+\n(?:[ -~]+\n)*?bound (\d+)\n)")
-ENDS = {0: rb"", 1: rb"none\n", 2: rb"stopped budget \d+\n"}
+ENDS = {0: rb"", 1: rb"none\n", 2: rb"stopped (?:budget \d+|grounding)\n"}
 SECOND_MOST = 2**22  # bytes of a certificate that the second checker judges too
 
 
@@ -70,11 +70,13 @@ def fault_of_claims(claims, falling):
 
 def fault_of_end(claims, rest, status):
     """What is wrong with how a report ends, or None. With 0 the last bound is the cost, with 1
-    nothing was claimed, and with 2 it isn't known yet what is cheapest."""
+    nothing was claimed, and with 2 it isn't known yet what is cheapest. Grounding stops before any
+    claim."""
     if status not in ENDS or not re.fullmatch(ENDS[status], rest):
         return f"status {status}, and {rest[:80]!r} behind {len(claims)} claims"
     is_cheapest = bool(claims) and claims[-1].bound == claims[-1].cost
-    if is_cheapest != (status == 0) or status == 1 and claims:
+    is_first = status == 1 or rest == shared.GROUNDING_STOP
+    if is_cheapest != (status == 0) or is_first and claims:
         return f"status {status} after {len(claims)} claims, the last {claims[-1:]}"
     return None
 

@@ -126,6 +126,14 @@ class Run:
     seconds: float
 
 
+GROUNDING_STOP = b"stopped grounding\n"
+
+
+def is_grounding_stop(run):
+    """Whether grounding stopped. Then nothing is claimed, and nobody need say the same."""
+    return run.status == 2 and run.output == GROUNDING_STOP
+
+
 def run_program(words, folder, seconds, memory=None):
     """Runs a program in a folder, for so many seconds at most and with so many bytes of memory."""
     set_limit = functools.partial(limit_memory, memory) if memory is not None else None

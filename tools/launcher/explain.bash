@@ -36,18 +36,33 @@ with_commas() {
 
 # Milliseconds and MiB. Of a run that was too short to be looked at no memory is known.
 explain_stop() {
-  local budget=${value_of[--budget]:-${default_of[--budget]//,/}} counted took
-  budget=${budget#+}
-  with_commas $((10#$budget))
+  local took again='run it again with a greater --budget: it starts anew'
   printf -v took '%d.%d s' $(($1 / 1000)) $(($1 % 1000 / 100))
   if [ "$2" -ge 1024 ]; then took+=" and $(($2 / 1024)).$(($2 % 1024 * 10 / 1024)) GiB of memory"
   elif [ "$2" -gt 0 ]; then took+=" and $2 MiB of memory"; fi
-  [ "$counted" = 1 ] && counted+=' expansion' || counted+=' expansions'
-  took="$counted took $took. "
-  if [ -n "$steps" ]; then took+='The claims that were printed stand, and nothing else is known'
-  else took+='Nothing is known of plans'; fi
-  [ "$command_word" = make ] || took+='; run it again with a greater --budget: it starts anew'
-  say "$took"
+  if [[ $command_word = check || $command_word = journal ]]; then
+    say "grounding took $took and stopped; nothing was judged ($hard_to_ground)"
+    return
+  fi
+  # (2^30 looks take more than a second, and the program's report isn't seen here)
+  if [ "$command_word $kind" = 'solve strips' ] && [ "$1" -ge 1000 ]; then
+    say "it took $took. $(what_is_known). If the line above is \`stopped budget\`, $again." \
+      "If it is \`stopped grounding\`, see $hard_to_ground"
+    return
+  fi
+  [ "$command_word" = make ] && again='' || again="; $again"
+  say "$(count_budget) took $took. $(what_is_known)$again"
+}
+hard_to_ground="docs/PDDL.md, Where grounding stops"
+count_budget() {
+  local budget=${value_of[--budget]:-${default_of[--budget]//,/}} counted
+  budget=${budget#+}
+  with_commas $((10#$budget))
+  [ "$counted" = 1 ] && echo '1 expansion' || echo "$counted expansions"
+}
+what_is_known() {
+  if [ -n "$steps" ]; then echo 'The claims that were printed stand, and nothing else is known'
+  else echo 'Nothing is known of plans'; fi
 }
 
 # Says if a saved file is too long to be judged.

@@ -63,8 +63,8 @@ KIND is grid (maps and scenarios of MovingAI, with moves to four sides), tiles, 
 strips (PDDL).
 
 The status says what came out: 0 a plan, or accepted; 1 no plan exists; 2 stopped at
-the budget; 3 refused; 64 faulty words; 65 faulty input; 70 not built; 71 out of
-memory; 73 a file failed; 74 the output failed.
+the budget, or in grounding; 3 refused; 64 faulty words; 65 faulty input; 70 not
+built; 71 out of memory; 73 a file failed; 74 the output failed.
 
 README.md has an example a kind, and docs/FORMATS.md all formats.
 TEXT

@@ -206,6 +206,23 @@ def stopped(place):
     run.wants(2, "stopped budget 1000000\n", ["1,000,000 expansions took ", "MiB of memory"])
 
 
+def stopped_in_grounding(place):
+    """At 2 of a judging command grounding stopped. After a second of a search of PDDL it may have."""
+    files = [place.example("blocks.pddl"), place.example("two-blocks.pddl")]
+    judged = place.file("judged", "")
+    with place.stand_in("#!/bin/sh\necho stopped grounding\nsleep 1.1\nexit 2\n"):
+        for command in ("check", "journal"):
+            run = place.run(command, "strips", judged, *files).wants(2, "stopped grounding\n")
+            run.wants(2, None, ["grounding took 1.", "nothing was judged", "docs/PDDL.md"])
+        run = place.run("solve", "strips", *files).wants(2, "stopped grounding\n")
+        run.wants(2, None, ["it took 1.", "`stopped budget`", "`stopped grounding`", "--budget"])
+        place.run("solve", "tiles", judged).wants(2, None, "16,777,216 expansions took 1.")
+    with place.stand_in("#!/bin/sh\necho stopped budget 3\nexit 2\n"):
+        run = place.run("solve", "strips", *files, "--budget", "3").wants(
+            2, None, "3 expansions took 0.")
+        run.lacks("grounding")
+
+
 def no_memory(place):
     """At 71 it is said that nothing was printed."""
     def limit():
@@ -258,5 +275,5 @@ def ended_by_a_signal(place):
 
 
 CASES = [words_refused, input_refused, order_of_files, packed_input, refused_certificate,
-         other_row, other_costs, other_grounding, refused_journal, stopped, no_memory, files_failed,
-         dash_is_a_name, output_failed, ended_by_a_signal]
+         other_row, other_costs, other_grounding, refused_journal, stopped, stopped_in_grounding,
+         no_memory, files_failed, dash_is_a_name, output_failed, ended_by_a_signal]

@@ -49,17 +49,20 @@ class Map:
 class Report:
     """What `solve` printed: the plan's cost and steps, or that there is none, or a stop. With
     falling weights it is the last claim, and all are in `claims`, perhaps with a stop after them.
-    The first step stands on the line `first`."""
+    The first step stands on the line `first`. `is_ungrounded` says that grounding stopped."""
 
     def __init__(self, cost=None, steps=None, bound=None, budget=None):
         self.cost = cost
         self.steps = steps
         self.bound = bound
         self.budget = budget
+        self.is_ungrounded = False
         self.first = 2
         self.claims = []
 
     def headline(self):
+        if self.is_ungrounded:
+            return "grounding stopped; nothing is claimed"
         stop = f"stopped after {self.budget} expansions; " if self.budget is not None else ""
         if self.steps is not None:
             steps = "1 step" if len(self.steps) == 1 else f"{len(self.steps)} steps"
@@ -216,6 +219,7 @@ def read_report(name, is_step):
     if not claims and lines and lines[0].startswith("plan "):
         report, at = _read_plan(name, lines, 0, is_step)
     elif not claims or at < len(lines):
+        report.is_ungrounded = lines[at:at + 1] == ["stopped grounding"] and not claims
         report.budget, at = _read_stop(name, lines, at, bool(claims)), at + 1
     if at < len(lines):
         raise Refused(name, f"line {at + 1}", "a line below the report")
@@ -261,10 +265,11 @@ def _read_plan(name, lines, at, is_step):
 
 
 def _read_stop(name, lines, at, has_claims):
-    """The budget of a stop; or nothing, if no plan exists, which no claims come before."""
+    """The budget of a stop; or nothing, if no plan exists or grounding stopped, which no claims
+    come before."""
     line = lines[at] if at < len(lines) else ""
     stop = re.fullmatch(r"stopped budget ([1-9][0-9]*)", line)
-    if stop is None and (line != "none" or has_claims):
+    if stop is None and (line not in ("none", "stopped grounding") or has_claims):
         raise Refused(name, f"line {at + 1}", "not the report of `solve`")
     return int(stop[1]) if stop else None
 

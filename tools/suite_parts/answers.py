@@ -3,7 +3,8 @@
 
 The answer is `plan`, `none`, `stopped`, `refused` (the input or the command line), `memory`,
 `time`, `signal` or `failed`. With falling weights it is `plan` as soon as there is a claim, however
-the run ended; `claim` is the number of the last one.
+the run ended; `claim` is the number of the last one. `said` tells a stop of grounding from one at
+the budget.
 """
 
 from __future__ import annotations

@@ -15,7 +15,8 @@ import typing
 
 from . import packages
 from .results import Results
-from .tables import grouped, in_order, is_solved, rows_by_domain, rows_by_task, task_key
+from .tables import (grouped, in_order, is_solved, is_ungrounded, rows_by_domain, rows_by_task,
+                     task_key)
 from .work import Record
 
 COLUMNS = ("domain", "task", "kind", "row", "swamp", "reachable", "column", "answer", "cost",
@@ -33,6 +34,10 @@ table { border-collapse: collapse; margin: 1rem 0; font-variant-numeric: tabular
 th, td { padding: .2rem .7rem; border-bottom: 1px solid #ddd; text-align: right }
 th:nth-child(-n+2), td:nth-child(-n+2) { text-align: left }
 img { max-width: 100% } .scroll { max-height: 40rem; overflow: auto }"""
+
+
+def error_of(record: Record) -> str:
+    return "translate-out-of-budget" if is_ungrounded(record) else ERRORS[record["answer"]]
 
 
 def write_report(results: Results) -> typing.List[pathlib.Path]:
@@ -62,7 +67,7 @@ def properties_of(records: typing.Sequence[Record]) -> str:
         identity = [record["column"], record["domain"], problem]
         properties = {
             "id": identity, "algorithm": record["column"], "domain": record["domain"],
-            "problem": problem, "run_dir": "runs", "error": ERRORS[record["answer"]],
+            "problem": problem, "run_dir": "runs", "error": error_of(record),
             "coverage": int(record["answer"] == "plan"),
             "unsolvable": int(record["answer"] == "none"),
             "planner_exit_code": record["status"], "node": record["host"],

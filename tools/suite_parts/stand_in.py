@@ -4,9 +4,9 @@ of the second checker, with certificate and journal, and `check` by that checker
 `--pattern` and `--reachable`, and with `--falling` it claims the same plan at each weight.
 
 Some lots make it behave badly on purpose: 2001 never ends, 2002 takes memory without end, 2003 ends
-by a signal, 2004 saves a certificate with another cost, 2005 never ends after a claim. The file
-that STAND_IN_LOG names gets a line for each search that ended, and STAND_IN_PAUSE is how many
-seconds a search takes.
+by a signal, 2004 saves a certificate with another cost, 2005 never ends after a claim, 2006 stops
+in grounding. The file that STAND_IN_LOG names gets a line for each search that ended, and
+STAND_IN_PAUSE is how many seconds a search takes.
 """
 
 import argparse
@@ -23,7 +23,7 @@ sys.path.insert(0, str(pathlib.Path(__file__).resolve().parent.parent.parent / "
 import pbnf_check  # noqa: E402
 
 STEPS = ("up", "down", "left", "right")
-ENDLESS, GREEDY, KILLED, WRONG, LATE = 2001, 2002, 2003, 2004, 2005
+ENDLESS, GREEDY, KILLED, WRONG, LATE, UNGROUNDED = range(2001, 2007)
 
 
 def options_of(words):
@@ -106,6 +106,9 @@ def solve(options):
         print("input", *refused.args)
         return 65
     misbehave(options.lot)
+    if options.lot == UNGROUNDED:
+        print("stopped grounding")
+        return 2
     found = search(task, options.budget, pbnf_check.estimate_by(task, options.pattern))
     if found is None:
         print(f"stopped budget {options.budget}")

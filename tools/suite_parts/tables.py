@@ -25,7 +25,14 @@ def claim(record: Record) -> str:
         if bound is None:
             return f"at most {cost}"
         return str(cost) if bound == cost else f"{bound} to {cost}"
+    if is_ungrounded(record):
+        return "grounding"
     return "none" if record["answer"] == "none" else REASONS.get(record["answer"], "failed")
+
+
+def is_ungrounded(record: Record) -> bool:
+    """Whether grounding stopped, and not the search at its budget."""
+    return record["answer"] == "stopped" and record.get("said") == "stopped grounding"
 
 
 def not_certified(records: typing.Sequence[Record]) -> typing.List[str]:

@@ -160,6 +160,6 @@ module _ (parts : TaskParts) (lawful : IsTask parts) (names : NamesTell parts) (
       solves.6
 
 -- where a task is given only with telling names, what is returned has them
-pub given_names : (result : Result TaskParts NoTask) (given : Result TaskParts (List ℕ)) → GivesTask result given → ((task : TaskParts) → given ≡ Ok task → NamesTell task) → IfOk result NamesTell
-given_names (Ok task) given is tell = tell task is
-given_names (Err error) given is tell = tt
+pub given_names : (cause : Type 0) (result : Result TaskParts NoTask) (given : Result TaskParts (List ℕ)) → GivesTask cause result given → ((task : TaskParts) → given ≡ Ok task → NamesTell task) → IfOk result NamesTell
+given_names cause (Ok task) given is tell = tell task is
+given_names cause (Err error) given is tell = tt

@@ -19,11 +19,13 @@ use Rattle.pb_answer.specs.declared.answer.CertificateText.{CertificateText}
 use Rattle.pb_answer.specs.declared.answer.CertificateText.TheVariants.{Found, Accepted}
 use Rattle.pb_answer.specs.declared.answer.SavedJournal.{SavedJournal}
 
--- the status, the report, and what is to be saved before it is printed
+-- the status, the report, what is to be saved before it is printed, and how many looks grounding had
+-- taken when this was said
 pub record Said : Type 0 where
   pub status : ℕ
   pub report : List ℕ
   pub outputs : List Output
+  pub looks : ℕ
 
 abbrev pub certificate_text : CertificateText → List ℕ
 certificate_text (Found certificate) = text_of certificate
@@ -43,6 +45,7 @@ said_of answer = record {
   status = number_of answer.status;
   report = answer.report;
   outputs = certificates_of answer.certificate ++ journals_of answer.journal;
+  looks = answer.looks;
 }
 
 -- the report is this text

@@ -13,6 +13,7 @@ pub mod Claims
 pub mod Ended
 pub mod Journals
 pub mod Answer
+pub mod Stops
 pub mod Parts
 pub mod Falling
 pub mod FallingRuns

@@ -59,6 +59,7 @@ pub fn judge<'a, R: Threads + Sync, G: Gate>(
                 report,
                 certificate: rewrite(task, &command, certificate),
                 journal: None,
+                looks: 0,
             })
         }
         Err(CheckError::Fault(fault)) => {
@@ -68,6 +69,7 @@ pub fn judge<'a, R: Threads + Sync, G: Gate>(
                 report,
                 certificate: None,
                 journal: None,
+                looks: 0,
             })
         }
         Err(CheckError::Memory) => Err(AllocError),

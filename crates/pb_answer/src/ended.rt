@@ -36,6 +36,7 @@ pub fn report_stop<'a>(
         report: Report::of_stop(alloc, solve.settings.budget)?,
         certificate: None,
         journal,
+        looks: 0,
     })
 }
 
@@ -92,6 +93,7 @@ fn report_plan<'a, S: Store>(
         report,
         certificate,
         journal,
+        looks: 0,
     })
 }
 
@@ -118,6 +120,7 @@ fn report_none<'a, S: Store>(
         report,
         certificate,
         journal,
+        looks: 0,
     })
 }
 

@@ -244,6 +244,7 @@ impl<'a> FallingSearch<'a> {
             report,
             certificate,
             journal: None,
+            looks: 0,
         })
     }
 
@@ -263,6 +264,7 @@ impl<'a> FallingSearch<'a> {
             report,
             certificate,
             journal: None,
+            looks: 0,
         })
     }
 
@@ -275,6 +277,6 @@ impl<'a> FallingSearch<'a> {
     {
         claims_hold();
         let report = Report::of_stop(alloc, self.solve.settings.budget)?;
-        Ok(Answer::without_files(Status::Stopped, report))
+        Ok(Answer::without_files(Status::Stopped, report, 0))
     }
 }

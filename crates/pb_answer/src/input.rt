@@ -7,7 +7,9 @@ ghost use Rattle.pb_lifted.specs.declared.refusal.File.TheVariants.{Domain, Prob
 ghost use Rattle.pb_answer.specs.Loaded.{grid_task, grid_told, tiles_task, tiles_told, refused_with, strips_told, problem_told, strips_task, input_task, too_long};
 ghost use Rattle.pb_report.specs.Texts.{file_number, syntax_text, strips_text};
 ghost use Rattle.pb_answer.specs.Named.{NamesTell};
-ghost use Rattle.pb_answer.specs.Tasks.{GivesTask, IsRefusal};
+ghost use Rattle.pb_strips.specs.Looks.{IsSpent};
+ghost use Rattle.pb_answer.specs.Stops.{ProblemMayStop, StripsMayStop, InputMayStop};
+ghost use Rattle.pb_answer.specs.Tasks.{GivesTask, IsNoTask};
 
 use crate::texts::Texts;
 use pb_command::{Input, InputOptions};
@@ -15,7 +17,7 @@ use pb_grid::{GridError, read_grid};
 use pb_lifted::File;
 use pb_pddl::{Domain, SyntaxError};
 use pb_report::Report;
-use pb_strips::{StripsError, ground_with};
+use pb_strips::{Looks, StripsError, ground_with};
 use pb_syntax::{read_domain, read_problem};
 use pb_task::{Grounding, Task};
 use pb_tiles::{TilesError, read_tiles};
@@ -26,6 +28,8 @@ use std::alloc::{AllocError, Global};
 pub enum NoTask {
     /// The texts are refused with this report.
     Refused(Report),
+    /// Grounding was stopped: no look is left, and nothing is refused that comes before.
+    Stopped,
     /// Memory ran out.
     Memory,
 }
@@ -43,7 +47,7 @@ impl From<AllocError> for NoTask {
 
 // The refusal if a file was too long.
 fn refuse_long_text(alloc: Global) -> NoTask
-    ensures { IsRefusal result (Err too_long) }
+    ensures { IsNoTask ⊥ result (Err too_long) }
 {
     match Report::of_line(alloc, b"input TooLong") {
         Ok(report) => NoTask::Refused(report),
@@ -53,7 +57,7 @@ fn refuse_long_text(alloc: Global) -> NoTask
 
 // The refusal of a map and a scenario.
 fn refuse_grid(alloc: Global, error: GridError) -> NoTask
-    ensures { IsRefusal result (grid_told (Err error)) }
+    ensures { IsNoTask ⊥ result (grid_told (Err error)) }
 {
     match Report::of_grid_error(alloc, &error) {
         Ok(report) => NoTask::Refused(report),
@@ -68,7 +72,7 @@ fn grid(
     scenario: Option<&[u8]>,
     options: InputOptions,
 ) -> Result<Task, NoTask>
-    ensures { GivesTask result (grid_task (option_map (λ t. t.now) map.entry)
+    ensures { GivesTask ⊥ result (grid_task (option_map (λ t. t.now) map.entry)
         (option_map (λ t. t.now) scenario.entry) options) }
 {
     match (map, scenario) {
@@ -85,7 +89,7 @@ fn grid(
 
 // The refusal of a board.
 fn refuse_tiles(alloc: Global, error: TilesError) -> NoTask
-    ensures { IsRefusal result (tiles_told (Err error)) }
+    ensures { IsNoTask ⊥ result (tiles_told (Err error)) }
 {
     match Report::of_tiles_error(alloc, &error) {
         Ok(report) => NoTask::Refused(report),
@@ -95,7 +99,7 @@ fn refuse_tiles(alloc: Global, error: TilesError) -> NoTask
 
 // The task of a board.
 fn tiles(alloc: Global, text: Option<&[u8]>) -> Result<Task, NoTask>
-    ensures { GivesTask result (tiles_task (option_map (λ t. t.now) text.entry)) }
+    ensures { GivesTask ⊥ result (tiles_task (option_map (λ t. t.now) text.entry)) }
 {
     match text {
         Some(text) => match read_tiles(alloc, text) {
@@ -109,7 +113,7 @@ fn tiles(alloc: Global, text: Option<&[u8]>) -> Result<Task, NoTask>
 
 // The refusal of the text of a domain or a problem.
 fn refuse_text(alloc: Global, file: File, error: SyntaxError) -> NoTask
-    ensures { IsRefusal result (refused_with (syntax_text (file_number file) error)) }
+    ensures { IsNoTask ⊥ result (refused_with (syntax_text (file_number file) error)) }
 {
     match Report::of_syntax_error(alloc, file, &error) {
         Ok(report) => NoTask::Refused(report),
@@ -119,7 +123,7 @@ fn refuse_text(alloc: Global, file: File, error: SyntaxError) -> NoTask
 
 // The refusal of a domain and a problem that are no task.
 fn refuse_strips(alloc: Global, error: StripsError) -> NoTask
-    ensures { IsRefusal result (refused_with (strips_text error)) }
+    ensures { IsNoTask ⊥ result (refused_with (strips_text error)) }
 {
     match Report::of_strips_error(alloc, &error) {
         Ok(report) => NoTask::Refused(report),
@@ -133,15 +137,20 @@ fn strips_of(
     grounding: Grounding,
     domain: &Domain,
     text: &[u8],
+    looks: &mut Looks,
 ) -> Result<Task, NoTask>
     requires { DomainHasWords domain.now }
-    ensures task { GivesTask result
+    ensures task { GivesTask
+        (IsSpent looks.new × ProblemMayStop grounding domain.now text.now) result
         (problem_told grounding domain.now (problem_reading text.now)) }
     ensures names { IfOk result NamesTell }
+    ensures since { looks.new.since ≡ looks.old.since }
+    ensures rising { looks.old.taken ≤ looks.new.taken }
 {
     match read_problem(alloc, text) {
-        Ok(problem) => match ground_with(alloc, grounding, domain, &problem) {
+        Ok(problem) => match ground_with(alloc, grounding, domain, &problem, looks) {
             Ok(task) => Ok(task),
+            Err(StripsError::Stopped) => Err(NoTask::Stopped),
             Err(StripsError::Memory) => Err(NoTask::Memory),
             Err(error) => Err(refuse_strips(alloc, error)),
         },
@@ -156,13 +165,17 @@ fn read_strips(
     grounding: Grounding,
     domain: &[u8],
     problem: &[u8],
+    looks: &mut Looks,
 ) -> Result<Task, NoTask>
-    ensures task { GivesTask result
+    ensures task { GivesTask
+        (IsSpent looks.new × StripsMayStop grounding (Some domain.now) (Some problem.now)) result
         (strips_task grounding (Some domain.now) (Some problem.now)) }
     ensures names { IfOk result NamesTell }
+    ensures since { looks.new.since ≡ looks.old.since }
+    ensures rising { looks.old.taken ≤ looks.new.taken }
 {
     match read_domain(alloc, domain) {
-        Ok(domain) => strips_of(alloc, grounding, &domain, problem),
+        Ok(domain) => strips_of(alloc, grounding, &domain, problem, looks),
         Err(SyntaxError::Memory) => Err(NoTask::Memory),
         Err(error) => Err(refuse_text(alloc, File::Domain, error)),
     }
@@ -174,36 +187,49 @@ fn strips(
     grounding: Grounding,
     domain: Option<&[u8]>,
     problem: Option<&[u8]>,
+    looks: &mut Looks,
 ) -> Result<Task, NoTask>
-    ensures task { GivesTask result (strips_task grounding (option_map (λ t. t.now) domain.entry)
+    ensures task { GivesTask
+        (IsSpent looks.new × StripsMayStop grounding (option_map (λ t. t.now) domain.entry)
+        (option_map (λ t. t.now) problem.entry)) result
+        (strips_task grounding (option_map (λ t. t.now) domain.entry)
         (option_map (λ t. t.now) problem.entry)) }
     ensures names { IfOk result NamesTell }
+    ensures since { looks.new.since ≡ looks.old.since }
+    ensures rising { looks.old.taken ≤ looks.new.taken }
 {
     match (domain, problem) {
-        (Some(domain), Some(problem)) => read_strips(alloc, grounding, domain, problem),
+        (Some(domain), Some(problem)) => read_strips(alloc, grounding, domain, problem, looks),
         _ => Err(refuse_long_text(alloc)),
     }
 }
 
 /// The task that the texts from a place on spell, read as the words ask. The row of the scenario and
-/// `swamp` are looked at for a grid alone, and the grounding for STRIPS alone.
+/// `swamp` are looked at for a grid alone, and the grounding for STRIPS alone, as are the looks that
+/// are left.
 pub fn input_task(
     alloc: Global,
     input: &Input<'_>,
     options: InputOptions,
     texts: &Texts,
     first: usize,
+    looks: &mut Looks,
 ) -> Result<Task, NoTask>
     requires { first ≤ 1 }
-    ensures task { GivesTask result (input_task (input_meant input.now) options first texts.now) }
+    ensures task { GivesTask
+        (IsSpent looks.new × InputMayStop (input_meant input.now) options first texts.now) result
+        (input_task (input_meant input.now) options first texts.now) }
     ensures names { IfOk result NamesTell }
+    ensures since { looks.new.since ≡ looks.old.since }
+    ensures rising { looks.old.taken ≤ looks.new.taken }
 {
     match input {
         Input::Grid(_) => grid(alloc, texts.get(first), texts.get(first + 1), options),
         Input::Tiles(_) => tiles(alloc, texts.get(first)),
         Input::Strips(_) => {
             let grounding = options.grounding;
-            strips(alloc, grounding, texts.get(first), texts.get(first + 1))
+            let problem = texts.get(first + 1);
+            strips(alloc, grounding, texts.get(first), problem, looks)
         }
     }
 }

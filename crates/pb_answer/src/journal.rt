@@ -21,10 +21,12 @@ pub fn judge_journal<'a>(alloc: Global, task: &Task, text: &[u8]) -> Result<Answ
         Ok(events) => Ok(Answer::without_files(
             Status::Success,
             Report::of_journal(alloc, events)?,
+            0,
         )),
         Err(JournalError::At { line, why }) => Ok(Answer::without_files(
             Status::Rejected,
             Report::of_journal_fault(alloc, line, why)?,
+            0,
         )),
         Err(JournalError::Memory) => Err(AllocError),
     }

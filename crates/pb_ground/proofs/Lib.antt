@@ -2,6 +2,7 @@ pub mod Callers
 mod Agreeing
 mod Finding
 mod Gathering
+mod Halting
 mod Indexing
 mod Keeping
 mod Membership

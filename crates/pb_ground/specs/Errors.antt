@@ -16,4 +16,5 @@ abbrev pub TellsAtoms : Lifted → GroundError → Type 0
 TellsAtoms lifted (errors.TooManyAtoms n) =
     (most_atoms < length (ground_atoms lifted)) × (n ≡ told (length (ground_atoms lifted)))
 TellsAtoms lifted errors.TooManyActions = ⊥
+TellsAtoms lifted errors.Stopped = ⊥
 TellsAtoms lifted errors.Memory = Unit {0}

@@ -5,6 +5,7 @@ pub mod Atoms
 pub mod Statics
 pub mod Steps
 pub mod Errors
+pub mod Looks
 pub mod Members
 pub mod Keeping
 pub mod Pruning

@@ -1,15 +1,17 @@
 ghost use Rattle.std.specs.Prelude.{◌≡◌, ◌≤◌, ◌++◌, map, length, IfOk, OnOk, IfErr};
 ghost use Rattle.pb_ground.specs.Actions.{action_of, actions_from, actions_of, ground_actions, TellsActions};
+ghost use Rattle.pb_ground.specs.Looks.{TellsHalt, TellsStop};
 ghost use Rattle.pb_ground.specs.Pruning.{AreStatics};
 ghost use Rattle.pb_ground.specs.Search.{TellsFull};
 
 use crate::atoms::Atoms;
 use crate::error::GroundError;
 use crate::instances::instances;
+use crate::looks::Looks;
 use crate::numbers::numbers_of;
 use crate::search::{Search, copy_of};
-use crate::statics::Statics;
-use pb_lifted::{Lifted, Schema};
+use crate::statics::{Statics, static_numbers};
+use pb_lifted::{Lifted, LiftedAtom, Schema};
 use pb_pddl::Listed;
 use std::alloc::{AllocError, Global};
 
@@ -84,6 +86,7 @@ fn add_actions(
     i: usize,
     schema: &Schema,
     actions: &mut Listed<ActionInstance>,
+    looks: &mut Looks,
 ) -> Result<(), GroundError>
     requires statics { AreStatics statics.now lifted.now }
     requires few { length actions.old ≤ 65536 }
@@ -92,16 +95,33 @@ fn add_actions(
     ensures few { OnOk result (length actions.new ≤ 65536) }
     ensures full { IfErr result (TellsFull 65536 (actions.old ++ actions_of lifted.now atoms.now i
         schema.now)) }
+    ensures stopped { IfErr result (TellsStop looks.new) }
+    ensures since { looks.new.since ≡ looks.old.since }
+    ensures rising { looks.old.taken ≤ looks.new.taken }
 {
+    let numbers = static_numbers(alloc, statics, schema.pre.as_slice())?;
     let search = Search {
         statics,
         lifted,
         atoms: schema.pre.as_slice(),
+        tested: numbers.as_slice(),
         kinds: schema.params.as_slice(),
         limit: LIMIT - actions.as_slice().len(),
     };
-    let rows = instances(alloc, &search)?;
+    let rows = instances(alloc, &search, looks)?;
     add_rows(alloc, atoms, i, schema, rows.as_slice(), actions)?;
+    Ok(())
+}
+
+/// Takes a look for each of some rows.
+fn look_at_all(rows: &[LiftedAtom], looks: &mut Looks) -> Result<(), GroundError>
+    ensures halted { IfErr result (TellsHalt looks.new) }
+    ensures since { looks.new.since ≡ looks.old.since }
+    ensures rising { looks.old.taken ≤ looks.new.taken }
+{
+    for _row in rows {
+        looks.take()?;
+    }
     Ok(())
 }
 
@@ -109,23 +129,28 @@ fn add_actions(
 /// static predicates hold at first in the task. The schemas needn't be the task's own. They are in
 /// the order of the schemas, and then of their lists of objects, the first object most significant.
 /// Their atoms have the numbers that they have in `atoms`, and others are left out.
-/// `TooManyActions`: there are more than 65,536.
+/// `TooManyActions`: there are more than 65,536. `Stopped`: no look is left.
 pub fn actions_in(
     alloc: Global,
     task: &Lifted,
     schemas: &[Schema],
     atoms: &Atoms,
+    looks: &mut Looks,
 ) -> Result<Listed<ActionInstance>, GroundError>
     ensures few { OnOk result (length (actions_from task.now atoms.now 0 schemas.now) ≤ 65536) }
     ensures actions { IfOk result (λ actions. actions
         ≡ actions_from task.now atoms.now 0 schemas.now) }
     ensures refused { IfErr result (TellsFull 65536
         (actions_from task.now atoms.now 0 schemas.now)) }
+    ensures stopped { IfErr result (TellsStop looks.new) }
+    ensures since { looks.new.since ≡ looks.old.since }
+    ensures rising { looks.old.taken ≤ looks.new.taken }
 {
+    look_at_all(task.init.as_slice(), looks)?;
     let statics = Statics::of(alloc, task)?;
     let mut actions = Listed::new(alloc);
     for (i, schema) in schemas.iter().enumerate() {
-        add_actions(alloc, &statics, task, atoms, i, schema, &mut actions)?;
+        add_actions(alloc, &statics, task, atoms, i, schema, &mut actions, looks)?;
     }
     Ok(actions)
 }
@@ -134,15 +159,19 @@ pub fn actions_in(
 /// whose static preconditions hold at first. They are in the order of the schemas in the text, and
 /// then of their lists of objects, the first object most significant. Their atoms have the numbers
 /// that they have in `atoms`, which must be those of the task. `TooManyActions`: there are more
-/// than 65,536.
+/// than 65,536. `Stopped`: no look is left.
 pub fn ground_actions(
     alloc: Global,
     lifted: &Lifted,
     atoms: &Atoms,
+    looks: &mut Looks,
 ) -> Result<Listed<ActionInstance>, GroundError>
     ensures few { OnOk result (length (ground_actions lifted.now atoms.now) ≤ 65536) }
     ensures actions { IfOk result (λ actions. actions ≡ ground_actions lifted.now atoms.now) }
     ensures refused { IfErr result (TellsActions lifted.now atoms.now) }
+    ensures stopped { IfErr result (TellsStop looks.new) }
+    ensures since { looks.new.since ≡ looks.old.since }
+    ensures rising { looks.old.taken ≤ looks.new.taken }
 {
-    actions_in(alloc, lifted, lifted.actions.as_slice(), atoms)
+    actions_in(alloc, lifted, lifted.actions.as_slice(), atoms, looks)
 }

@@ -10,6 +10,8 @@ pub enum GroundError {
     TooManyAtoms { n: u64 },
     /// There are more than 65,536 ground actions.
     TooManyActions,
+    /// No look is left. It says nothing of the task.
+    Stopped,
     /// Memory ran out.
     Memory,
 }

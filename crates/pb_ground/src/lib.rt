@@ -11,6 +11,7 @@ mod instances;
 mod join;
 mod known;
 mod laws;
+mod looks;
 mod numbers;
 mod plan;
 mod search;
@@ -23,4 +24,5 @@ pub use laws::{
     all_atoms_are_a_case, atoms_are_all, instances_are_all, kept_atoms_are_all, kept_atoms_suffice,
     kept_steps_correspond, statics_are_kept, steps_correspond, worked_rows,
 };
+pub use looks::{Looks, MOST_LOOKS};
 pub use numbers::{goal, is_missing, is_never, start};

@@ -1,5 +1,5 @@
 -- Made texts are read as the made task, and never refused.
-use Rattle.std.proofs.Common.{◌≡◌, ◌≢◌, ℕ, false, List, Option, None, Result, Ok, Err, refl, sym, ap, subst, ◌∙◌, arith}
+use Rattle.std.proofs.Common.{◌≡◌, ◌≢◌, ℕ, true, false, List, Option, Some, None, is_some, Result, Ok, Err, refl, sym, ap, subst, ◌∙◌, arith}
 use Rattle.pb_task.specs.declared.parts.TaskParts.{TaskParts}
 use Rattle.pb_task.specs.declared.parts.TaskParts.TheVariants as parts
 use Rattle.pb_task.specs.declared.parts.GridParts.{GridParts}
@@ -19,7 +19,9 @@ use Rattle.pb_pddl.specs.declared.error.SyntaxError.TheVariants as syntax_errors
 use Rattle.pb_pddl.specs.Readings.{domain_reading, problem_reading}
 use Rattle.pb_strips.specs.declared.error.StripsError.{StripsError}
 use Rattle.pb_strips.specs.declared.error.StripsError.TheVariants as strips_errors
-use Rattle.pb_strips.specs.Refusals.{first_fault, Tells}
+use Rattle.pb_strips.specs.Looks.{LooksValue}
+use Rattle.pb_strips.specs.Refusals.{first_fault, Tells, TellsStop}
+use Rattle.pb_task.specs.declared.grounding.Grounding.TheVariants.{All}
 use Rattle.pb_task.specs.declared.kind.Kind.TheVariants.{Grid, Tiles, Strips}
 use Rattle.pb_make.specs.Boards.{tiles_text}
 use Rattle.pb_make.specs.Domain.{domain_text}
@@ -108,18 +110,24 @@ one_domain a b e = cc
 one_problem : (a b : Problem) → ◌≡◌ {A = Result Problem SyntaxError} (Ok a) (Ok b) → a ≡ b
 one_problem a b e = cc
 
--- no fault is told but memory
-told_none : (error : StripsError) → Tells None error → error ≡ strips_errors.Memory
-told_none (strips_errors.Refused refusal) e = absurd cc
-told_none (strips_errors.TooManyAtoms n) e = absurd cc
-told_none strips_errors.TooManyActions e = absurd cc
-told_none strips_errors.Memory e = refl
+no_stop : (since : Option ℕ) → since ≡ None → is_some since ≡ true → ⊥
+no_stop None none some = absurd cc
+no_stop (Some n) none some = absurd cc
+
+-- no fault is told but memory, if looks have no limit
+told_none : (domain : Domain) (problem : Problem) (looks : LooksValue) (error : StripsError) → looks.since ≡ None → Tells None error → TellsStop All domain problem looks error
+    → error ≡ strips_errors.Memory
+told_none domain problem looks (strips_errors.Refused refusal) none e stop = absurd cc
+told_none domain problem looks (strips_errors.TooManyAtoms n) none e stop = absurd cc
+told_none domain problem looks strips_errors.TooManyActions none e stop = absurd cc
+told_none domain problem looks strips_errors.Stopped none e stop = absurd (no_stop looks.since none stop.0.0)
+told_none domain problem looks strips_errors.Memory none e stop = refl
 
 pub blocks_are_memory : (seed blocks : ℕ) → IsSize Strips blocks → (domain : Domain) (problem : Problem) → domain_reading domain_text ≡ Ok domain → problem_reading (problem_text seed blocks) ≡ Ok problem
-    → (error : StripsError) → Tells (first_fault domain problem) error → error ≡ strips_errors.Memory
-blocks_are_memory seed blocks size domain problem read_domain read_problem error told =
+    → (looks : LooksValue) (error : StripsError) → looks.since ≡ None → Tells (first_fault domain problem) error → TellsStop All domain problem looks error → error ≡ strips_errors.Memory
+blocks_are_memory seed blocks size domain problem read_domain read_problem looks error endless told stop =
     let law = made_problems_are_tasks seed blocks size.0 size.1 in
     let same_domain = one_domain law.0 domain (sym law.2 ∙ read_domain) in
     let same_problem = one_problem law.1 problem (sym law.3 ∙ read_problem) in
     let none : first_fault domain problem ≡ None = ap (λ (d : Domain). first_fault d problem) (sym same_domain) ∙ (ap (λ (p : Problem). first_fault law.0 p) (sym same_problem) ∙ law.4) in
-    told_none error (subst (λ (fault : Option StripsError). Tells fault error) none told)
+    told_none domain problem looks error endless (subst (λ (fault : Option StripsError). Tells fault error) none told) stop

@@ -8,7 +8,7 @@ ghost use Rattle.pb_made.specs.Made.{IsMadeTask, IsSize};
 
 use pb_grid::{GridError, read_grid};
 use pb_make::{blocks_domain, make_map, make_problem, make_scen, make_tiles};
-use pb_strips::{StripsError, ground};
+use pb_strips::{Looks, StripsError, ground};
 use pb_syntax::{Domain, Problem, SyntaxError, read_domain, read_problem};
 use pb_task::{Kind, Task};
 use pb_tiles::{TilesError, read_tiles};
@@ -85,7 +85,8 @@ fn made_blocks(alloc: Global, seed: u32, blocks: u32) -> Result<Task, AllocError
 {
     let domain = blocks_tree(alloc)?;
     let problem = problem_tree(alloc, seed, blocks)?;
-    match ground(alloc, &domain, &problem) {
+    let mut looks = Looks::endless();
+    match ground(alloc, &domain, &problem, &mut looks) {
         Ok(task) => Ok(task),
         Err(error) => Err(strips_memory(&error)),
     }

@@ -215,9 +215,15 @@ refusal_text (Named cause place) =
     with_numbers (spaced (codes "input") (cause_word cause)) (file_number place.file) place.at
 refusal_text (TooManyObjects count) = with_number (codes "input TooManyObjects") count
 
--- why a domain and a problem are no task; out of memory has no text
+-- grounding was stopped: no look at a row was left
+abbrev pub stopped_grounding_report : List ℕ
+stopped_grounding_report = line (codes "stopped grounding")
+
+-- what is printed of a domain and a problem that give no task: why they are refused, or that
+-- grounding was stopped; out of memory has no text
 abbrev pub strips_text : StripsError → Option (List ℕ)
 strips_text (strips.Refused refusal) = Some (refusal_text refusal)
 strips_text (strips.TooManyAtoms count) = Some (with_number (codes "input TooManyAtoms") count)
 strips_text strips.TooManyActions = Some (line (codes "input TooManyActions"))
+strips_text strips.Stopped = Some stopped_grounding_report
 strips_text strips.Memory = None

@@ -3,7 +3,7 @@ ghost use Rattle.std.specs.Fmt.{decimal};
 ghost use Rattle.pb_model.specs.Texts.{line, spaced, none_report, stopped_report};
 ghost use Rattle.pb_task.specs.Parts.{space_of};
 ghost use Rattle.pb_lifted.specs.declared.refusal.TypingRefusal.TheVariants.{Named};
-ghost use Rattle.pb_report.specs.Texts.{AreActions, plan_text, claim_text, verdict_text, made_text, fault_text, input_text, tiles_text, file_number, syntax_text, refusal_text, strips_text, journal_report, journal_fault_text};
+ghost use Rattle.pb_report.specs.Texts.{AreActions, plan_text, claim_text, verdict_text, made_text, fault_text, input_text, tiles_text, file_number, syntax_text, refusal_text, strips_text, stopped_grounding_report, journal_report, journal_fault_text};
 
 use crate::pieces::{
     push_steps, push_with_number, push_with_numbers, push_with_numbers_and_word, push_with_wide,
@@ -68,6 +68,13 @@ impl Report {
         ensures { IfOk result (λ report. report ≡ stopped_report budget) }
     {
         Report::with_number(alloc, b"stopped budget ", budget)
+    }
+
+    /// That grounding was stopped, since no look at a row was left.
+    pub fn of_grounding_stop(alloc: Global) -> Result<Report, AllocError>
+        ensures { IfOk result (λ report. report ≡ stopped_grounding_report) }
+    {
+        Report::of_line(alloc, b"stopped grounding")
     }
 
     /// A plan of the task with its cost, and the bound, which no plan costs less than. Both are in
@@ -284,8 +291,8 @@ impl Report {
     }
 
     /// That a domain and a problem are no task, and why. It has a cause with the number of the file
-    /// and the place of the name in it, or what there is too much of. If the error is itself out of
-    /// memory, so is the answer.
+    /// and the place of the name in it, or what there is too much of. For a stop it is the report of
+    /// `of_grounding_stop`. If the error is itself out of memory, so is the answer.
     pub fn of_strips_error(alloc: Global, error: &StripsError) -> Result<Report, AllocError>
         ensures { IfOk result (λ report. strips_text error.now ≡ Some report) }
     {
@@ -295,6 +302,7 @@ impl Report {
                 Report::with_number(alloc, b"input TooManyAtoms ", n)
             }
             StripsError::TooManyActions => Report::of_line(alloc, b"input TooManyActions"),
+            StripsError::Stopped => Report::of_grounding_stop(alloc),
             StripsError::Memory => Err(AllocError),
         }
     }

@@ -22,11 +22,12 @@ use Rattle.pb_answer.specs.Searches.{settings_of, choice_asked, weight_asked}
 use Rattle.pb_answer.specs.Claims.{IsCertificate, journal_outputs, journal_outputs_if_any, Certifies, Stops}
 use Rattle.pb_answer.specs.Journals.{IsJournalOf}
 use Rattle.pb_answer.specs.Answer.{Says, Saves}
+use Rattle.pb_answer.specs.Stops.{StopsGrounding, StopsBehind, StopsTexts}
 use Rattle.pb_answer.proofs.Callers.{SavesJournal, of_quiet, of_stopped, without_swamp}
 use Rattle.pb_run.specs.Outcome.{Outcome, IfSolve, IfCheck, IfJournal, IsAnswer, IsBroken}
 use Rattle.pb_run.specs.Headline.{CertificateHolds, StopHasCause}
 use Rattle.pb_run.specs.Commands.{IsOfVerdict, SolveHolds, CheckHolds, JournalHolds}
-use Rattle.pb_run.specs.Laws.{IsSavedFirst, IsSavedLast, SavedCertificatesAreAccepted, SavedJournalsAreAccepted, SavedJournalsAreShort, Keeps, AcceptsIt, CertificatesAreAcceptedByWords, JournalsAreAcceptedByWords}
+use Rattle.pb_run.specs.Laws.{IsSavedFirst, IsSavedLast, SavedCertificatesAreAccepted, SavedJournalsAreAccepted, SavedJournalsAreShort, Keeps, AcceptsUnlessStopped, AcceptsIt, CertificatesAreAcceptedByWords, JournalsAreAcceptedByWords}
 
 -- the texts behind another one spell the task that they spell alone
 input_behind : (input : InputNames) (options : InputOptions) (text : List ℕ) (texts : List (List ℕ))
@@ -43,10 +44,29 @@ pub none_of : (solve : SolveMeaning) (it : Outcome) → it.asked ≡ Read (Solve
 none_of solve it is holds =
     subst (λ (r : Reading). IfSolve r (λ s. it.said.status ≡ 1 → OfTexts s it.texts (λ task. Certifies (Saves it.said) s task None))) is holds.none
 
-stop_of : (solve : SolveMeaning) (it : Outcome) → it.asked ≡ Read (Solve solve) → StopHasCause it → it.said.status ≡ 2
+none_last : (first : List Output) (last : Output) → [] ≡ first ++ last ∷ [] → ⊥
+none_last [] last e = cc
+none_last (one ∷ first) last e = cc
+
+-- a journal is saved, so grounding wasn't stopped
+stop_of : (solve : SolveMeaning) (it : Outcome) (name text : List ℕ) → it.asked ≡ Read (Solve solve) → IsSavedLast it.said name text → StopHasCause it → it.said.status ≡ 2
     → OfTexts solve it.texts (Stops (Saves it.said) solve)
-stop_of solve it is holds two =
-    (subst (λ (r : Reading). IfSolve r (λ s. it.said.status ≡ 2 → Says it.said (stopped_report s.settings.budget) × OfTexts s it.texts (Stops (Saves it.said) s))) is holds two).1
+stop_of solve it name text is saved holds two = go
+    (subst (λ (r : Reading). IfSolve r (λ s. it.said.status ≡ 2 → (Says it.said (stopped_report s.settings.budget) × OfTexts s it.texts (Stops (Saves it.said) s))
+    ⊎ StopsGrounding s.input s.options 0 it.texts it.said)) is holds two)
+  where
+    go : (Says it.said (stopped_report solve.settings.budget) × OfTexts solve it.texts (Stops (Saves it.said) solve)) ⊎ StopsGrounding solve.input solve.options 0 it.texts it.said
+        → OfTexts solve it.texts (Stops (Saves it.said) solve)
+    go (inl stop) = stop.1
+    go (inr halted) = absurd (none_last saved.0 (output name text) (sym halted.outputs ∙ saved.1))
+
+-- ---- a verdict, or a stop
+
+pub verdict_or_stop : (input : InputNames) (options : InputOptions) (it : Outcome)
+    → ((it.said.status ≡ 0) ⊎ IsBroken it.said.status) ⊎ StopsBehind input options it.texts it.said → AcceptsUnlessStopped input options it
+verdict_or_stop input options it (inl (inl zero)) = inl zero
+verdict_or_stop input options it (inl (inr broken)) = inr (inr broken)
+verdict_or_stop input options it (inr stop) = inr (inl stop)
 
 -- ---- certificates
 
@@ -64,7 +84,7 @@ module _ (solve : SolveMeaning) (check : CheckMeaning) (ran checked_ran : Outcom
 
   -- the text of the certificate is accepted
   accepted : (parts : TaskParts) (plan : Option Plan) → solve_task solve ran.texts ≡ Ok parts → Certifies (Saves ran.said) solve parts plan
-      → (checked_ran.said.status ≡ 0) ⊎ IsBroken checked_ran.said.status
+      → AcceptsUnlessStopped check.input check.options checked_ran
   accepted parts plan is (left, searched, found, outputs, certificate, saves) =
       let mine = subst (λ (n : Option (List ℕ)). IsCertificate n parts (choice_asked solve) (weight_asked solve) left.guide
       left.store plan outputs) named certificate in
@@ -72,12 +92,13 @@ module _ (solve : SolveMeaning) (check : CheckMeaning) (ran checked_ran : Outcom
       let all : output name text ∷ saved.0 ≡ (output name mine.0 ∷ []) ++ journals =
       sym saved.1 ∙ saves ∙ ap (λ (os : List Output). os ++ journals) mine.2 in
       let same : text ≡ mine.0 = ap first_text all in
-      subst (λ v. IsOfVerdict v checked_ran.said.status)
+      verdict_or_stop check.input check.options checked_ran
+      (subst (λ v. IsOfVerdict v checked_ran.said.status ⊎ StopsBehind check.input check.options checked_ran.texts checked_ran.said)
       (ap (checked parts) same ∙ mine.1.accepted)
-      (decided.exact parts text (task_is parts is))
+      (decided.exact parts text (task_is parts is)))
 
   pub either : (ran.said.status ≡ 0) ⊎ (ran.said.status ≡ 1) → ran.asked ≡ Read (Solve solve) → SolveHolds solve ran → CertificateHolds ran
-      → (checked_ran.said.status ≡ 0) ⊎ IsBroken checked_ran.said.status
+      → AcceptsUnlessStopped check.input check.options checked_ran
   either (inl zero) is all certified = let found = all.one_plan zero in accepted found.0 (Some found.2.0) found.1 found.2.6
   either (inr one) is all certified = let found = none_of solve ran is certified one in accepted found.0 None found.1 found.2
 
@@ -108,16 +129,16 @@ same_last first others name text other e =
 saved_journal : WrittenJournalsAreAccepted → JournalTextsAreShort → (solve : SolveMeaning)
     → solve.engine ≡ Leases → (ran : Outcome) → (ran.said.status ≡ 0) ⊎ ((ran.said.status ≡ 1) ⊎ (ran.said.status ≡ 2))
     → ran.asked ≡ Read (Solve solve) → SolveHolds solve ran → CertificateHolds ran
-    → StopHasCause ran
+    → StopHasCause ran → (name text : List ℕ) → IsSavedLast ran.said name text
     → OfTexts solve ran.texts (SavesJournal (Saves ran.said) solve)
-saved_journal law lengths solve engine ran (inl zero) is all certified stop =
+saved_journal law lengths solve engine ran (inl zero) is all certified stop name text saved =
     let found = all.one_plan zero in
     (found.0, found.1, of_quiet law lengths solve engine found.0 (Saves ran.said) (Some found.2.0) found.2.6)
-saved_journal law lengths solve engine ran (inr (inl one)) is all certified stop =
+saved_journal law lengths solve engine ran (inr (inl one)) is all certified stop name text saved =
     let found = none_of solve ran is certified one in
     (found.0, found.1, of_quiet law lengths solve engine found.0 (Saves ran.said) None found.2)
-saved_journal law lengths solve engine ran (inr (inr two)) is all certified stop =
-    let found = stop_of solve ran is stop two in
+saved_journal law lengths solve engine ran (inr (inr two)) is all certified stop name text saved =
+    let found = stop_of solve ran name text is saved stop two in
     (found.0, found.1, of_stopped law lengths solve engine found.0 (Saves ran.said) found.2)
 
 -- the text that was saved last is that of the journal
@@ -137,7 +158,7 @@ text_is solve ran name text named saved parts mine =
 pub saved_journals_are_short : WrittenJournalsAreAccepted → JournalTextsAreShort
     → SavedJournalsAreShort
 saved_journals_are_short law lengths solve ran name text engine is named answered saved all certified stop =
-    let found = saved_journal law lengths solve engine ran answered is all certified stop in
+    let found = saved_journal law lengths solve engine ran answered is all certified stop name text saved in
     let mine = found.2 in
     let same = text_is solve ran name text named saved found.0 mine in (
       found.0,
@@ -166,7 +187,7 @@ module _ (law : WrittenJournalsAreAccepted) (lengths : JournalTextsAreShort) (ma
   -- the saved text is accepted, whatever was saved before it
   journal_accepted : (parts : TaskParts) → solve_task solve ran.texts ≡ Ok parts
       → SavesJournal (Saves ran.said) solve parts
-      → (judged_ran.said.status ≡ 0) ⊎ IsBroken judged_ran.said.status
+      → AcceptsUnlessStopped journal.input journal.options judged_ran
   journal_accepted parts is mine =
       let same = text_is solve ran name text named saved parts mine in
       let there = without_swamp marks blocks solve.input solve.options 0 ran.texts parts is in
@@ -177,9 +198,9 @@ module _ (law : WrittenJournalsAreAccepted) (lengths : JournalTextsAreShort) (ma
   pub any_journal : (ran.said.status ≡ 0) ⊎ ((ran.said.status ≡ 1) ⊎ (ran.said.status ≡ 2))
       → ran.asked ≡ Read (Solve solve) → SolveHolds solve ran → CertificateHolds ran
       → StopHasCause ran
-      → (judged_ran.said.status ≡ 0) ⊎ IsBroken judged_ran.said.status
+      → AcceptsUnlessStopped journal.input journal.options judged_ran
   any_journal answered is all certified stop =
-      let found = saved_journal law lengths solve engine ran answered is all certified stop in
+      let found = saved_journal law lengths solve engine ran answered is all certified stop name text saved in
       journal_accepted found.0 found.1 found.2
 
 pub saved_journals_are_accepted : WrittenJournalsAreAccepted → JournalTextsAreShort
@@ -195,22 +216,36 @@ pub options_agree : (row other : ℕ) (swamp another flag mine : Bool) → row �
     → ◌≡◌ {A = InputOptions} (record { row = row; swamp = swamp; grounding = grounding_by flag }) (record { row = other; swamp = another; grounding = grounding_by mine })
 options_agree row other swamp another flag mine rows swamps flags i = record { row = rows i; swamp = swamps i; grounding = grounding_by (flags i) }
 
--- where the shelf and the sink serve, the certificate or the journal is accepted or memory ran out
-served_is : (status : ℕ) → 71 < status → IsAnswer status ⊎ (status ≡ 71) → (status ≡ 0) ⊎ (status ≡ 71)
-served_is status past (inl (inl k)) = inl k
+-- where the shelf and the sink serve, there is an answer or memory ran out
+served_is : (status : ℕ) → 71 < status → IsAnswer status ⊎ (status ≡ 71) → ⊥
+served_is status past (inl (inl k)) = omega (arith, k, past)
 served_is status past (inl (inr (inl k))) = absurd (omega (arith, k, past))
 served_is status past (inl (inr (inr (inl k)))) = absurd (omega (arith, k, past))
 served_is status past (inl (inr (inr (inr (inl k))))) = absurd (omega (arith, k, past))
 served_is status past (inl (inr (inr (inr (inr (inl k)))))) = absurd (omega (arith, k, past))
 served_is status past (inl (inr (inr (inr (inr (inr k)))))) = absurd (omega (arith, k, past))
-served_is status past (inr k) = inr k
+served_is status past (inr k) = omega (arith, k, past)
 
 -- an answer that is none of the broken ones is that it is accepted
-pub accepts_it : (status : ℕ) → (status ≡ 0) ⊎ IsBroken status → AcceptsIt status
-accepts_it status (inl zero) = (inl zero, λ served. inl zero)
-accepts_it status (inr (inl memory)) = (inr (inl memory), λ served. inr memory)
-accepts_it status (inr (inr (inl shelf))) = (inr (inr (inl shelf)), served_is status (omega (arith, shelf)))
-accepts_it status (inr (inr (inr sink))) = (inr (inr (inr sink)), served_is status (omega (arith, sink)))
+accepts_it : (it : Outcome) → (it.said.status ≡ 0) ⊎ (StopsTexts it.asked it.texts it.said ⊎ IsBroken it.said.status) → AcceptsIt it
+accepts_it it (inl zero) = (inl zero, λ served. inl zero)
+accepts_it it (inr (inl stop)) = (inr (inl stop), λ served. inr (inl stop))
+accepts_it it (inr (inr (inl memory))) = (inr (inr (inl memory)), λ served. inr (inr memory))
+accepts_it it (inr (inr (inr (inl shelf)))) = (inr (inr (inr (inl shelf))), λ served. absurd (served_is it.said.status (omega (arith, shelf)) served))
+accepts_it it (inr (inr (inr (inr sink)))) = (inr (inr (inr (inr sink))), λ served. absurd (served_is it.said.status (omega (arith, sink)) served))
+
+-- the same of a call that checks or judges
+module _ (it : Outcome) (input : InputNames) (options : InputOptions) (same : StopsBehind input options it.texts it.said → StopsTexts it.asked it.texts it.said) where
+  accepts_by : AcceptsUnlessStopped input options it → AcceptsIt it
+  accepts_by (inl zero) = accepts_it it (inl zero)
+  accepts_by (inr (inl stop)) = accepts_it it (inr (inl (same stop)))
+  accepts_by (inr (inr broken)) = accepts_it it (inr (inr broken))
+
+pub check_accepts : (it : Outcome) (check : CheckMeaning) → it.asked ≡ Read (Check check) → AcceptsUnlessStopped check.input check.options it → AcceptsIt it
+check_accepts it check is = accepts_by it check.input check.options (subst (λ (r : Reading). StopsTexts r it.texts it.said) (sym is))
+
+pub journal_accepts : (it : Outcome) (journal : JournalMeaning) → it.asked ≡ Read (Journal journal) → AcceptsUnlessStopped journal.input journal.options it → AcceptsIt it
+journal_accepts it journal is = accepts_by it journal.input journal.options (subst (λ (r : Reading). StopsTexts r it.texts it.said) (sym is))
 
 -- what is kept of words is kept of what they ask for
 module _ (words others : List (List ℕ)) (solve : SolveMeaning) (solved other : Outcome)
@@ -227,9 +262,9 @@ module _ (words others : List (List ℕ)) (solve : SolveMeaning) (solved other :
       → check.options ≡ solve.options → solve.certificate ≡ Some name
       → (solved.said.status ≡ 0) ⊎ (solved.said.status ≡ 1)
       → IsSavedFirst solved.said name text → other.texts ≡ text ∷ solved.texts
-      → AcceptsIt other.said.status
+      → AcceptsIt other
   certificate_by_words check name text also same_input same_options named answered saved texts =
-      accepts_it other.said.status
+      check_accepts other check (kept_too.asked ∙ also)
       (saved_certificates_are_accepted solve check solved other name text asked_is same_input
       same_options named answered saved texts all_there kept.certified
       (subst (λ (r : Reading). IfCheck r (λ c. CheckHolds c other)) (kept_too.asked ∙ also)
@@ -241,9 +276,9 @@ module _ (words others : List (List ℕ)) (solve : SolveMeaning) (solved other :
       → journal.options ≡ record solve.options { swamp = false } → solve.journal ≡ Some name
       → (solved.said.status ≡ 0) ⊎ ((solved.said.status ≡ 1) ⊎ (solved.said.status ≡ 2))
       → IsSavedLast solved.said name text → other.texts ≡ text ∷ solved.texts
-      → AcceptsIt other.said.status
+      → AcceptsIt other
   journal_by_words law engine journal name text also same_input same_options named answered saved texts =
-      accepts_it other.said.status
+      journal_accepts other journal (kept_too.asked ∙ also)
       (law solve journal solved other name text engine asked_is same_input same_options named answered saved
       texts all_there kept.certified kept.stopped
       (subst (λ (r : Reading). IfJournal r (λ j. JournalHolds j other)) (kept_too.asked ∙ also)

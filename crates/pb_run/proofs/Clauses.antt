@@ -25,33 +25,33 @@ use Rattle.pb_run.proofs.Told as told
 use Rattle.pb_run.proofs.Doing as doing
 
 -- whatever is decided fits, so there is an answer, or memory ran out
-sure_if_it_fits : (reading : Reading) (n : ℕ) (files : Option Files) (can_load : List ℕ → Type 0) (can_hold : List ℕ → ℕ → Type 0) (can_take : ℕ → Type 0)
-    → AnswersWhatFits reading n files can_load can_hold can_take → CanServe reading files can_load can_hold can_take → IsAnswer n ⊎ (n ≡ 71)
-sure_if_it_fits reading n None can_load can_hold can_take fits can = absurd can
-sure_if_it_fits reading n (Some told_files) can_load can_hold can_take fits can = go (fits can.0)
+sure_if_it_fits : (reading : Reading) (n looks : ℕ) (files : Option Files) (can_load : List ℕ → Type 0) (can_hold : List ℕ → ℕ → Type 0) (can_take : ℕ → Type 0)
+    → AnswersWhatFits reading n looks files can_load can_hold can_take → CanServe reading files can_load can_hold can_take → IsAnswer n ⊎ (n ≡ 71)
+sure_if_it_fits reading n looks None can_load can_hold can_take fits can = absurd can
+sure_if_it_fits reading n looks (Some told_files) can_load can_hold can_take fits can = go (fits can.0)
   where
-    go : IsHandedOutIfItFits reading told_files n can_hold can_take → IsAnswer n ⊎ (n ≡ 71)
+    go : IsHandedOutIfItFits reading told_files n looks can_hold can_take → IsAnswer n ⊎ (n ≡ 71)
     go (inl is) = inr is
     go (inr (texts, loads, inl all)) =
-        inl (subst IsAnswer (sym (all.if_they_fit (can.1 texts loads all.parts (inl (all.said, all.answers, all.parts_are))))) (told.known texts all.said reading all.answers))
-    go (inr (texts, loads, inr first)) = absurd (first.do_not_fit (can.1 texts loads first.parts (inr first.parts_are)))
+        inl (subst IsAnswer (sym (all.if_they_fit (can.1 texts loads looks all.parts (inl (all.said, all.answers, all.parts_are, all.looks_is))))) (told.known texts all.said reading all.answers))
+    go (inr (texts, loads, inr first)) = absurd (first.do_not_fit (can.1 texts loads looks first.parts (inr first.parts_are)))
 
-module _ (words : List (List ℕ)) (n : ℕ) (files files' : Option Files) (shelf shelf' sink sink' : List Call)
-    (goes : Goes (reading_of_words words) n files files' shelf shelf' sink sink') (status : ℕ) (is : status ≡ n) where
+module _ (words : List (List ℕ)) (n looks : ℕ) (files files' : Option Files) (shelf shelf' sink sink' : List Call)
+    (goes : Goes (reading_of_words words) n looks files files' shelf shelf' sink sink') (status : ℕ) (is : status ≡ n) where
   abbrev asked : Reading
   asked = reading_of_words words
 
   abbrev it : Outcome
-  it = outcome words status shelf shelf' sink sink'
+  it = outcome words status looks shelf shelf' sink sink'
 
-  since : (P : ℕ → List Call → List Call → Type 0) → (GoesBy asked n files files' goes.0 goes.1 → P n goes.0 goes.1) → P status (calls_since shelf shelf') (calls_since sink sink')
-  since P f = doing.since asked n files files' shelf shelf' sink sink' goes P status is f
+  since : (P : ℕ → List Call → List Call → Type 0) → (GoesBy asked n looks files files' goes.0 goes.1 → P n goes.0 goes.1) → P status (calls_since shelf shelf') (calls_since sink sink')
+  since P f = doing.since asked n looks files files' shelf shelf' sink sink' goes P status is f
 
-  does : GoesBy asked n files files' goes.0 goes.1 → Does asked n goes.0 goes.1
-  does by = doing.does asked n goes.0 goes.1 files files' by
+  does : GoesBy asked n looks files files' goes.0 goes.1 → Does asked n looks goes.0 goes.1
+  does by = doing.does asked n looks goes.0 goes.1 files files' by
 
-  promised : (P : Outcome → Type 0) → ((m : ℕ) (own out : List Call) → Does asked m own out → P (outcome_by asked m own out)) → P it
-  promised P f = doing.promised asked n files files' shelf shelf' sink sink' goes P f status is
+  promised : (P : Outcome → Type 0) → ((m l : ℕ) (own out : List Call) → Does asked m l own out → P (outcome_by asked m l own out)) → P it
+  promised P f = doing.promised asked n looks files files' shelf shelf' sink sink' goes P f status is
 
   -- ---- promise by promise
 
@@ -110,33 +110,33 @@ module _ (words : List (List ℕ)) (n : ℕ) (files files' : Option Files) (shel
 
   -- ---- of every call
 
-  pub calls : CallsHold words status shelf shelf' sink sink'
+  pub calls : CallsHold words status looks shelf shelf' sink sink'
   calls = record {
-    in_order = doing.does_since asked n files files' shelf shelf' sink sink' goes status is;
-    shelf_fault = since (λ m own out. m ≡ 73 ↔ IsTrue (have_failed own)) (λ by. doing.shelf_fails asked n goes.0 goes.1 (does by));
-    sink_fault = since (λ m own out. m ≡ 74 ↔ IsTrue (have_failed out)) (λ by. doing.sink_fails asked n goes.0 goes.1 (does by));
-    answered = since (λ m own out. have_failed own ≡ false → have_failed out ≡ false → IsAnswered asked (loaded_texts own) m) (λ by. doing.done_is_answered asked n goes.0 goes.1 (does by));
-    named = since (λ m own out. doing.AreNamed asked m own out) (λ by. doing.outputs_are_named asked n goes.0 goes.1 (does by));
+    in_order = doing.does_since asked n looks files files' shelf shelf' sink sink' goes status is;
+    shelf_fault = since (λ m own out. m ≡ 73 ↔ IsTrue (have_failed own)) (λ by. doing.shelf_fails asked n looks goes.0 goes.1 (does by));
+    sink_fault = since (λ m own out. m ≡ 74 ↔ IsTrue (have_failed out)) (λ by. doing.sink_fails asked n looks goes.0 goes.1 (does by));
+    answered = since (λ m own out. have_failed own ≡ false → have_failed out ≡ false → IsAnswered asked (loaded_texts own) (outcome_by asked m looks own out).said) (λ by. doing.done_is_answered asked n looks goes.0 goes.1 (does by));
+    named = since (λ m own out. doing.AreNamed asked m looks own out) (λ by. doing.outputs_are_named asked n looks goes.0 goes.1 (does by));
   }
 
-  pub answered : (can_load : List ℕ → Type 0) (can_hold : List ℕ → ℕ → Type 0) (can_take : ℕ → Type 0) → AnswersWhatFits asked n files can_load can_hold can_take
-      → AnswersIfServed words status files can_load can_hold can_take
+  pub answered : (can_load : List ℕ → Type 0) (can_hold : List ℕ → ℕ → Type 0) (can_take : ℕ → Type 0) → AnswersWhatFits asked n looks files can_load can_hold can_take
+      → AnswersIfServed it files can_load can_hold can_take
   answered can_load can_hold can_take fits = record {
     served = λ can.
-        let sure = sure_if_it_fits asked n files can_load can_hold can_take fits can in
+        let sure = sure_if_it_fits asked n looks files can_load can_hold can_take fits can in
         record {
-          complete = subst (λ (m : ℕ). IsComplete asked files m) (sym is) (doing.complete asked n goes.0 goes.1 files files' goes.4 sure);
+          complete = since (λ m own out. IsComplete asked files (outcome_by asked m looks own out).said) (λ by. doing.complete asked n looks goes.0 goes.1 files files' by sure);
           answered = subst (λ (m : ℕ). IsAnswer m ⊎ (m ≡ 71)) (sym is) sure;
         };
-    fits = subst (λ (m : ℕ). AnswersWhatFits asked m files can_load can_hold can_take) (sym is) fits;
+    fits = subst (λ (m : ℕ). AnswersWhatFits asked m looks files can_load can_hold can_take) (sym is) fits;
   }
 
   module _ (faults faults' puts puts' : ℕ) (shelf_rose : n ≡ 73 → Rose faults faults') (sink_rose : n ≡ 74 → Rose puts puts')
       (shelf_later : faults ≤ faults') (sink_later : puts ≤ puts') where
     pub broken : BreaksOnlyBy it faults faults' puts puts'
     broken = record {
-      unsaved = λ one. since (λ m own out. m ≡ 71 → outputs_in own ≡ []) (λ by. doing.nothing_saved asked n goes.0 goes.1 one (does by));
-      silent = λ one. since (λ m own out. (m ≡ 71) ⊎ (m ≡ 73) → put_bytes out ≡ []) (λ by. doing.silent asked n goes.0 goes.1 one (does by));
+      unsaved = λ one. since (λ m own out. m ≡ 71 → outputs_in own ≡ []) (λ by. doing.nothing_saved asked n looks goes.0 goes.1 one (does by));
+      silent = λ one. since (λ m own out. (m ≡ 71) ⊎ (m ≡ 73) → put_bytes out ≡ []) (λ by. doing.silent asked n looks goes.0 goes.1 one (does by));
       shelf_rose = λ e. shelf_rose (sym is ∙ e);
       sink_rose = λ e. sink_rose (sym is ∙ e);
       shelf_later = shelf_later;
@@ -145,11 +145,11 @@ module _ (words : List (List ℕ)) (n : ℕ) (files files' : Option Files) (shel
 
   pub contents : (written written' : Option (List ℕ)) → WritesPut written written' sink sink' → ContentsHold it files files' written written'
   contents written written' puts = record {
-    loaded = since (λ m own out. IsAnswer m → AreLoaded files (files_of asked) (loaded_texts own)) (λ by. doing.texts_loaded asked n goes.0 goes.1 files files' by);
-    saved = since (λ m own out. IsAnswer m ⊎ ((m ≡ 71) ⊎ (m ≡ 74)) → IfTold files files' (SavesIn (outputs_in own))) (λ by. doing.files_saved asked n goes.0 goes.1 files files' by);
-    kept = λ one. since (λ m own out. m ≡ 71 → IfTold files files' KeepsAll) (λ by. doing.files_kept asked n goes.0 goes.1 files files' one by);
-    left = since (λ m own out. m ≡ 73 → IfTold files files' (λ before after. (KeepsAll before after × (put_bytes out ≡ [])) ⊎ LeavesPart asked (loaded_texts own) (put_bytes out) before after))
-        (λ by. doing.files_left asked n goes.0 goes.1 files files' by);
-    others = doing.others_stay asked n goes.0 goes.1 files files' goes.4;
+    loaded = since (λ m own out. IsAnswer m → AreLoaded files (files_of asked) (loaded_texts own)) (λ by. doing.texts_loaded asked n looks goes.0 goes.1 files files' by);
+    saved = since (λ m own out. IsAnswer m ⊎ ((m ≡ 71) ⊎ (m ≡ 74)) → IfTold files files' (SavesIn (outputs_in own))) (λ by. doing.files_saved asked n looks goes.0 goes.1 files files' by);
+    kept = λ one. since (λ m own out. m ≡ 71 → IfTold files files' KeepsAll) (λ by. doing.files_kept asked n looks goes.0 goes.1 files files' one by);
+    left = since (λ m own out. m ≡ 73 → IfTold files files' (λ before after. (KeepsAll before after × (put_bytes out ≡ [])) ⊎ LeavesPart asked (loaded_texts own) looks (put_bytes out) before after))
+        (λ by. doing.files_left asked n looks goes.0 goes.1 files files' by);
+    others = doing.others_stay asked n looks goes.0 goes.1 files files' goes.4;
     printed = doing.puts_since written written' sink sink' puts;
   }

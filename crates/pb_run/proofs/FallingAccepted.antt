@@ -16,11 +16,13 @@ use Rattle.pb_answer.specs.Outputs.{Output}
 use Rattle.pb_answer.specs.Searches.{choice_asked, weight_asked}
 use Rattle.pb_answer.specs.Loaded.{input_task, solve_task, check_task, with_text, OfTexts}
 use Rattle.pb_answer.specs.Parts.{AnswerPart}
-use Rattle.pb_run.specs.Outcome.{Outcome, IfFalling, IfCheck, IsBroken}
+use Rattle.pb_answer.specs.Stops.{StopsGrounding, StopsBehind}
+use Rattle.pb_run.specs.Outcome.{Outcome, IfFalling, IfCheck}
 use Rattle.pb_run.specs.Commands.{IsOfVerdict, CheckHolds}
-use Rattle.pb_run.specs.FallingHeadline.{PrintedClaim, IsNumberedFile, SavesOne, AreNumberedFiles, SavesEach, IsNext, IsSilent, EndsProved, EndsNone, EndsStopped, EndsShort, EndsUnprinted, IsRefusedInPart, FallingHolds}
+use Rattle.pb_run.specs.FallingHeadline.{PrintedClaim, IsNumberedFile, SavesOne, AreNumberedFiles, SavesEach, IsNext, IsSilent, EndsProved, EndsNone, EndsStopped, EndsShort, EndsUnprinted, IsRefusedInPart, IsStoppedInPart, FallingHolds}
+use Rattle.pb_run.specs.Laws.{AcceptsUnlessStopped}
 use Rattle.pb_run.specs.FallingLaws.{SavesWhole, IsSaved, SavedClaimsAreAccepted, ClaimsAreAcceptedByWords}
-use Rattle.pb_run.proofs.Accepted.{accepts_it, options_agree}
+use Rattle.pb_run.proofs.Accepted.{verdict_or_stop, check_accepts, options_agree}
 use Rattle.pb_run.proofs.FallingTold.{all_joined}
 
 -- ---- files that are accepted
@@ -78,7 +80,7 @@ input_behind (Strips names) options text texts = refl
 module _ (falling : FallingMeaning) (check : CheckMeaning) (ran checked_ran : Outcome) (file : Output) (same_input : check.input ≡ falling.solve.input) (same_options : check.options ≡ falling.solve.options)
     (saved : IsSaved ran.said file) (texts : checked_ran.texts ≡ file.text ∷ ran.texts) (decided : CheckHolds check checked_ran) where
   abbrev Accepts : Type 0
-  Accepts = (checked_ran.said.status ≡ 0) ⊎ IsBroken checked_ran.said.status
+  Accepts = AcceptsUnlessStopped check.input check.options checked_ran
 
   task_is : (task : TaskParts) → solve_task falling.solve ran.texts ≡ Ok task → check_task check checked_ran.texts ≡ Ok (task, file.text)
   task_is task is =
@@ -89,7 +91,9 @@ module _ (falling : FallingMeaning) (check : CheckMeaning) (ran checked_ran : Ou
   accepts : (task : TaskParts) → solve_task falling.solve ran.texts ≡ Ok task → AllByRecursion (IsAcceptedFile task) ran.said.outputs → Accepts
   accepts task is all =
       let mine = one_of task saved.0 file saved.1 (subst (AllByRecursion (IsAcceptedFile task)) saved.2 all) in
-      subst (λ (v : Result Verdict CertificateFault). IsOfVerdict v checked_ran.said.status) mine.1 (decided.exact task file.text (task_is task is))
+      verdict_or_stop check.input check.options checked_ran
+      (subst (λ (v : Result Verdict CertificateFault). IsOfVerdict v checked_ran.said.status ⊎ StopsBehind check.input check.options checked_ran.texts checked_ran.said) mine.1
+      (decided.exact task file.text (task_is task is)))
 
   nothing : ran.said.outputs ≡ [] → Accepts
   nothing none = absurd (not_none saved.0 file saved.1 (sym none ∙ saved.2))
@@ -103,8 +107,12 @@ module _ (falling : FallingMeaning) (check : CheckMeaning) (ran checked_ran : Ou
       (λ task e. each_accepted falling.solve.certificate task (choice_asked falling.solve) (e.claims ++ e.last ∷ []) ran.said.outputs e.certified) (holds.proved zero)
   by_status (inr (inl one)) holds = of_texts (EndsNone falling.solve ran.said)
       (λ task e. saved_accepted falling.solve.certificate 0 task (choice_asked falling.solve) (weight_asked falling.solve) None ran.said.outputs e.certified) (holds.none one)
-  by_status (inr (inr (inl two))) holds = of_texts (EndsStopped falling.solve falling.steps ran.said)
-      (λ task e. each_accepted falling.solve.certificate task (choice_asked falling.solve) e.claims ran.said.outputs e.so_far.certified) (holds.stopped two)
+  by_status (inr (inr (inl two))) holds = go (holds.stopped two)
+    where
+      go : OfTexts falling.solve ran.texts (EndsStopped falling.solve falling.steps ran.said) ⊎ StopsGrounding falling.solve.input falling.solve.options 0 ran.texts ran.said → Accepts
+      go (inl stop) = of_texts (EndsStopped falling.solve falling.steps ran.said)
+          (λ task e. each_accepted falling.solve.certificate task (choice_asked falling.solve) e.claims ran.said.outputs e.so_far.certified) stop
+      go (inr halted) = nothing halted.outputs
   by_status (inr (inr (inr (inl memory)))) holds = go (holds.short memory)
     where
       go : IsSilent ran.said ⊎ OfTexts falling.solve ran.texts (EndsShort falling.solve falling.steps ran.said) → Accepts
@@ -119,9 +127,11 @@ module _ (falling : FallingMeaning) (check : CheckMeaning) (ran checked_ran : Ou
           (each_accepted falling.solve.certificate task (choice_asked falling.solve) e.claims e.files e.so_far.certified)
           (next_accepted falling.solve task falling.steps e.claims e.part e.next))
 
-      go : IsRefusedInPart falling.solve ran.texts ran.said ⊎ OfTexts falling.solve ran.texts (EndsUnprinted falling.solve falling.steps ran.said) → Accepts
+      go : IsRefusedInPart falling.solve ran.texts ran.said
+          ⊎ (IsStoppedInPart falling.solve ran.texts ran.said ⊎ OfTexts falling.solve ran.texts (EndsUnprinted falling.solve falling.steps ran.said)) → Accepts
       go (inl refused) = nothing refused.4
-      go (inr unprinted) = of_texts (EndsUnprinted falling.solve falling.steps ran.said) all unprinted
+      go (inr (inl stopped)) = nothing stopped.4
+      go (inr (inr unprinted)) = of_texts (EndsUnprinted falling.solve falling.steps ran.said) all unprinted
 
 pub saved_claims_are_accepted : SavedClaimsAreAccepted
 saved_claims_are_accepted falling check ran checked_ran file asked same_input same_options whole saved texts holds decided =
@@ -134,7 +144,7 @@ claims_are_accepted_by_words falling_reads check_reads input steps file argument
     let falling : FallingMeaning = record { solve = solve_given input arguments; steps = number_of steps } in
     let reads : ran.asked ≡ Read (Falling falling) = asked ∙ falling_reads input steps arguments m.solve m.falling m.weight m.engine m.journal in
     let also = kept.asked ∙ check_reads input file others m.each m.distinct m.placed m.new in
-    accepts_it checked_ran.said.status
+    check_accepts checked_ran _ also
     (saved_claims_are_accepted falling _ ran checked_ran saved reads refl (options_agree _ _ _ _ _ _ m.row m.swamp m.reachable) whole is texts
     (subst (λ (r : Reading). IfFalling r (λ f. FallingHolds f ran)) reads holds)
     (subst (λ (r : Reading). IfCheck r (λ c. CheckHolds c checked_ran)) also kept.check))

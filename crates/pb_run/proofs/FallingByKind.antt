@@ -11,10 +11,11 @@ use Rattle.pb_command.specs.Values.{InputNames, Grid, Tiles, Strips}
 use Rattle.pb_command.specs.Meaning.{FallingMeaning}
 use Rattle.pb_answer.specs.Loaded.{input_task, OfTexts}
 use Rattle.pb_answer.specs.Spelled.{OfGrid, OfTiles}
+use Rattle.pb_answer.specs.Stops.{InputMayStop, StopsGrounding}
 use Rattle.pb_answer.proofs.Callers.{of_grid, of_tiles}
 use Rattle.pb_run.specs.Outcome.{Outcome}
 use Rattle.pb_run.specs.Kinds.{weight_of_words, IfMap, IfBoard}
-use Rattle.pb_run.specs.FallingHeadline.{PrintedClaim, printed_text, claims_text, EndsProved, EndsNone, EndsStopped, EndsShort, EndsUnsaved, EndsUnprinted, IsNext, IsSilent, IsRefusedInPart, FallingHolds}
+use Rattle.pb_run.specs.FallingHeadline.{PrintedClaim, printed_text, claims_text, EndsProved, EndsNone, EndsStopped, EndsShort, EndsUnsaved, EndsUnprinted, IsNext, IsSilent, IsRefusedInPart, IsStoppedInPart, FallingHolds}
 use Rattle.pb_run.specs.FallingKinds.{PrintsClaims, PrintsInPart, PrintsCheapestLast, FallingMapHolds, FallingBoardHolds}
 
 module _ (falling : FallingMeaning) (it : Outcome) where
@@ -38,6 +39,12 @@ module _ (falling : FallingMeaning) (it : Outcome) where
   -- what holds of every task holds of the one that the texts spell
   of_every : (P Q : TaskParts → Type 0) → ((task : TaskParts) → P task → Q task) → Of P → Of Q
   of_every P Q f (task, is, holds) = (task, is, f task holds)
+
+  abbrev pub IsHalted : Type 0
+  IsHalted = StopsGrounding falling.solve.input falling.solve.options 0 it.texts it.said
+
+  abbrev MayHalt : InputNames → Type 0
+  MayHalt input = InputMayStop input falling.solve.options 0 it.texts
 
   -- one more claim at the end, and nothing after it
   one_more : (name : ℕ → List ℕ) (claims : List PrintedClaim) (claim : PrintedClaim)
@@ -94,8 +101,12 @@ module _ (falling : FallingMeaning) (it : Outcome) where
     pub none : it.said.status ≡ 1 → Of (λ task. HasNoPlan (space_of task))
     none e = of_every (EndsNone falling.solve it.said) (λ task. HasNoPlan (space_of task)) (λ task n. n.no_plan) (holds.none e)
 
-    pub stopped : it.said.status ≡ 2 → Of (Claims budget_line)
-    stopped e = of_every (EndsStopped falling.solve falling.steps it.said) (Claims budget_line) stop_of (holds.stopped e)
+    pub stopped : it.said.status ≡ 2 → Of (Claims budget_line) ⊎ IsHalted
+    stopped e = go (holds.stopped e)
+      where
+        go : Of (EndsStopped falling.solve falling.steps it.said) ⊎ IsHalted → Of (Claims budget_line) ⊎ IsHalted
+        go (inl ends) = inl (of_every (EndsStopped falling.solve falling.steps it.said) (Claims budget_line) stop_of ends)
+        go (inr stop) = inr stop
 
     pub short : it.said.status ≡ 71 → (it.said.report ≡ []) ⊎ Of (Claims [])
     short e = go (holds.short e)
@@ -111,12 +122,14 @@ module _ (falling : FallingMeaning) (it : Outcome) where
         go (inl silent) = inl silent.0
         go (inr ends) = inr (of_every (EndsUnsaved falling.solve falling.steps it.said) (Claims []) unsaved_of ends)
 
-    pub unprinted : it.said.status ≡ 74 → IsRefusedInPart falling.solve it.texts it.said ⊎ Of InPart
+    pub unprinted : it.said.status ≡ 74 → IsRefusedInPart falling.solve it.texts it.said ⊎ (IsStoppedInPart falling.solve it.texts it.said ⊎ Of InPart)
     unprinted e = go (holds.unprinted e)
       where
-        go : IsRefusedInPart falling.solve it.texts it.said ⊎ Of (EndsUnprinted falling.solve falling.steps it.said) → IsRefusedInPart falling.solve it.texts it.said ⊎ Of InPart
+        go : IsRefusedInPart falling.solve it.texts it.said ⊎ (IsStoppedInPart falling.solve it.texts it.said ⊎ Of (EndsUnprinted falling.solve falling.steps it.said))
+            → IsRefusedInPart falling.solve it.texts it.said ⊎ (IsStoppedInPart falling.solve it.texts it.said ⊎ Of InPart)
         go (inl refused) = inl refused
-        go (inr ends) = inr (of_every (EndsUnprinted falling.solve falling.steps it.said) InPart unprinted_of ends)
+        go (inr (inl stopped)) = inr (inl stopped)
+        go (inr (inr ends)) = inr (inr (of_every (EndsUnprinted falling.solve falling.steps it.said) InPart unprinted_of ends))
 
     -- ---- maps
 
@@ -131,17 +144,31 @@ module _ (falling : FallingMeaning) (it : Outcome) where
         go (Tiles board) is = tt
         go (Strips names) is = tt
 
+    -- a map isn't grounded
+    never_map : (P : TaskParts → Type 0) → MayHalt falling.solve.input → IfMap falling.solve.input (OfMap P)
+    never_map P due = go falling.solve.input due
+      where
+        go : (input : InputNames) → MayHalt input → IfMap input (OfMap P)
+        go (Grid names) due = absurd due
+        go (Tiles board) due = tt
+        go (Strips names) due = tt
+
     pub map_holds : ReadAsSpelled → IfMap falling.solve.input (FallingMapHolds falling it)
     map_holds law = go falling.solve.input (λ e. of_map law Last (proved e)) (λ e. of_map law (λ task. HasNoPlan (space_of task)) (none e))
-        (λ e. of_map law (Claims budget_line) (stopped e)) (λ e. either (short e)) (λ e. either (unsaved e)) (λ e. part (unprinted e))
+        (λ e. stop (stopped e)) (λ e. either (short e)) (λ e. either (unsaved e)) (λ e. part (unprinted e))
       where
         either : (it.said.report ≡ []) ⊎ Of (Claims []) → (it.said.report ≡ []) ⊎ IfMap falling.solve.input (OfMap (Claims []))
         either (inl silent) = inl silent
         either (inr of) = inr (of_map law (Claims []) of)
 
-        part : IsRefusedInPart falling.solve it.texts it.said ⊎ Of InPart → IsRefusedInPart falling.solve it.texts it.said ⊎ IfMap falling.solve.input (OfMap InPart)
+        stop : Of (Claims budget_line) ⊎ IsHalted → IfMap falling.solve.input (OfMap (Claims budget_line))
+        stop (inl of) = of_map law (Claims budget_line) of
+        stop (inr halted) = never_map (Claims budget_line) halted.due
+
+        part : IsRefusedInPart falling.solve it.texts it.said ⊎ (IsStoppedInPart falling.solve it.texts it.said ⊎ Of InPart) → IsRefusedInPart falling.solve it.texts it.said ⊎ IfMap falling.solve.input (OfMap InPart)
         part (inl refused) = inl refused
-        part (inr of) = inr (of_map law InPart of)
+        part (inr (inl stopped)) = inr (never_map InPart stopped.1)
+        part (inr (inr of)) = inr (of_map law InPart of)
 
         go : (input : InputNames) → (it.said.status ≡ 0 → IfMap input (OfMap Last)) → (it.said.status ≡ 1 → IfMap input (OfMap (λ task. HasNoPlan (space_of task))))
             → (it.said.status ≡ 2 → IfMap input (OfMap (Claims budget_line))) → (it.said.status ≡ 71 → (it.said.report ≡ []) ⊎ IfMap input (OfMap (Claims [])))
@@ -164,17 +191,31 @@ module _ (falling : FallingMeaning) (it : Outcome) where
         go (Tiles board) is = of_tiles task P p law (slice_get it.texts 0) is
         go (Strips names) is = tt
 
+    -- a board isn't grounded
+    never_board : (P : TaskParts → Type 0) → MayHalt falling.solve.input → IfBoard falling.solve.input (OfBoard P)
+    never_board P due = go falling.solve.input due
+      where
+        go : (input : InputNames) → MayHalt input → IfBoard input (OfBoard P)
+        go (Grid names) due = tt
+        go (Tiles board) due = absurd due
+        go (Strips names) due = tt
+
     pub board_holds : ReadingsAreSpelled → IfBoard falling.solve.input (FallingBoardHolds falling it)
     board_holds law = go falling.solve.input (λ e. of_board law Last (proved e)) (λ e. of_board law (λ task. HasNoPlan (space_of task)) (none e))
-        (λ e. of_board law (Claims budget_line) (stopped e)) (λ e. either (short e)) (λ e. either (unsaved e)) (λ e. part (unprinted e))
+        (λ e. stop (stopped e)) (λ e. either (short e)) (λ e. either (unsaved e)) (λ e. part (unprinted e))
       where
         either : (it.said.report ≡ []) ⊎ Of (Claims []) → (it.said.report ≡ []) ⊎ IfBoard falling.solve.input (OfBoard (Claims []))
         either (inl silent) = inl silent
         either (inr of) = inr (of_board law (Claims []) of)
 
-        part : IsRefusedInPart falling.solve it.texts it.said ⊎ Of InPart → IsRefusedInPart falling.solve it.texts it.said ⊎ IfBoard falling.solve.input (OfBoard InPart)
+        stop : Of (Claims budget_line) ⊎ IsHalted → IfBoard falling.solve.input (OfBoard (Claims budget_line))
+        stop (inl of) = of_board law (Claims budget_line) of
+        stop (inr halted) = never_board (Claims budget_line) halted.due
+
+        part : IsRefusedInPart falling.solve it.texts it.said ⊎ (IsStoppedInPart falling.solve it.texts it.said ⊎ Of InPart) → IsRefusedInPart falling.solve it.texts it.said ⊎ IfBoard falling.solve.input (OfBoard InPart)
         part (inl refused) = inl refused
-        part (inr of) = inr (of_board law InPart of)
+        part (inr (inl stopped)) = inr (never_board InPart stopped.1)
+        part (inr (inr of)) = inr (of_board law InPart of)
 
         go : (input : InputNames) → (it.said.status ≡ 0 → IfBoard input (OfBoard Last)) → (it.said.status ≡ 1 → IfBoard input (OfBoard (λ task. HasNoPlan (space_of task))))
             → (it.said.status ≡ 2 → IfBoard input (OfBoard (Claims budget_line))) → (it.said.status ≡ 71 → (it.said.report ≡ []) ⊎ IfBoard input (OfBoard (Claims [])))

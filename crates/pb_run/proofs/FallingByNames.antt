@@ -19,7 +19,7 @@ use Rattle.pb_answer.specs.Loaded.{OfTexts}
 use Rattle.pb_answer.proofs.Callers.{AreTask, texts_by_names, plan_by_names, none_below_by_names, no_named_plan}
 use Rattle.pb_run.specs.Outcome.{Outcome}
 use Rattle.pb_run.specs.Kinds.{weight_of_words}
-use Rattle.pb_run.specs.FallingHeadline.{PrintedClaim, printed_text, claims_text, AreAtWeights, CostsNeverRise, AreClaimsOf, MayBeCheaper, IsRefusedInPart, FallingHolds}
+use Rattle.pb_run.specs.FallingHeadline.{PrintedClaim, printed_text, claims_text, AreAtWeights, CostsNeverRise, AreClaimsOf, MayBeCheaper, IsRefusedInPart, IsStoppedInPart, FallingHolds}
 use Rattle.pb_run.specs.FallingKinds.{PrintsClaims, PrintsInPart, PrintsCheapestLast, NamedClaim, named_text, named_claims_text, NamedAtWeights, NamedNeverRise, NamedMayBeCheaper, AreNamedClaims, PrintsNamedClaims, PrintsNamedInPart, PrintsNamedLast, FallingNamedHolds}
 use Rattle.pb_run.proofs.FallingTold.{all_first, all_last}
 use Rattle.pb_run.proofs.FallingByKind as kind
@@ -177,10 +177,7 @@ named_holds falling it holds = record {
       (λ grounding domain problem are last. named_last grounding domain problem are it.said.report (weight_of_words falling.solve) falling.steps last)
       falling.solve (kind.proved falling it holds e);
   none = λ e. texts_by_names it.texts (λ task. HasNoPlan (space_of task)) HasNoNamedPlan no_named_plan falling.solve (kind.none falling it holds e);
-  stopped = λ e. texts_by_names it.texts (kind.Claims falling it (kind.budget_line falling it))
-      (PrintsNamedClaims it.said.report (weight_of_words falling.solve) falling.steps (kind.budget_line falling it))
-      (λ grounding domain problem are claims. named_claims grounding domain problem are it.said.report (weight_of_words falling.solve) falling.steps (kind.budget_line falling it) claims)
-      falling.solve (kind.stopped falling it holds e);
+  stopped = λ e. stop (kind.stopped falling it holds e);
   short = λ e. go (kind.short falling it holds e);
   unsaved = λ e. go (kind.unsaved falling it holds e);
   unprinted = λ e. part (kind.unprinted falling it holds e);
@@ -192,10 +189,20 @@ named_holds falling it holds = record {
     go (inr claims) = inr (texts_by_names it.texts (kind.Claims falling it []) (PrintsNamedClaims it.said.report (weight_of_words falling.solve) falling.steps [])
         (λ grounding domain problem are c. named_claims grounding domain problem are it.said.report (weight_of_words falling.solve) falling.steps [] c) falling.solve claims)
 
-    part : IsRefusedInPart falling.solve it.texts it.said ⊎ OfTexts falling.solve it.texts (kind.InPart falling it)
+    stop : OfTexts falling.solve it.texts (kind.Claims falling it (kind.budget_line falling it)) ⊎ kind.IsHalted falling it
+        → OfTrees falling.solve.input 0 it.texts (PrintsNamedClaims it.said.report (weight_of_words falling.solve) falling.steps (kind.budget_line falling it)) ⊎ kind.IsHalted falling it
+    stop (inl claims) = inl (texts_by_names it.texts (kind.Claims falling it (kind.budget_line falling it))
+        (PrintsNamedClaims it.said.report (weight_of_words falling.solve) falling.steps (kind.budget_line falling it))
+        (λ grounding domain problem are c. named_claims grounding domain problem are it.said.report (weight_of_words falling.solve) falling.steps (kind.budget_line falling it) c)
+        falling.solve claims)
+    stop (inr halted) = inr halted
+
+    part : IsRefusedInPart falling.solve it.texts it.said ⊎ (IsStoppedInPart falling.solve it.texts it.said ⊎ OfTexts falling.solve it.texts (kind.InPart falling it))
         → IsRefusedInPart falling.solve it.texts it.said
-        ⊎ OfTrees falling.solve.input 0 it.texts (PrintsNamedInPart it.said.report (weight_of_words falling.solve) falling.steps falling.solve.settings.budget)
+        ⊎ (IsStoppedInPart falling.solve it.texts it.said
+        ⊎ OfTrees falling.solve.input 0 it.texts (PrintsNamedInPart it.said.report (weight_of_words falling.solve) falling.steps falling.solve.settings.budget))
     part (inl refused) = inl refused
-    part (inr begun) = inr (texts_by_names it.texts (kind.InPart falling it)
+    part (inr (inl stopped)) = inr (inl stopped)
+    part (inr (inr begun)) = inr (inr (texts_by_names it.texts (kind.InPart falling it)
         (PrintsNamedInPart it.said.report (weight_of_words falling.solve) falling.steps falling.solve.settings.budget)
-        (λ grounding domain problem are b. named_in_part grounding domain problem are it.said.report (weight_of_words falling.solve) falling.steps falling.solve.settings.budget b) falling.solve begun)
+        (λ grounding domain problem are b. named_in_part grounding domain problem are it.said.report (weight_of_words falling.solve) falling.steps falling.solve.settings.budget b) falling.solve begun))

@@ -10,24 +10,27 @@ use Rattle.pb_answer.specs.Loaded.{OfTexts, solve_task}
 use Rattle.pb_answer.specs.Answer.{Said, IsRefused, OrRefused}
 use Rattle.pb_answer.specs.Parts.{AnswerPart, AreAnswerParts, outputs_of, report_of}
 use Rattle.pb_answer.specs.Falling.{IsProvedCheapest, IsFallingNone, IsFallingStop, IsFallingFound}
+use Rattle.pb_answer.specs.Stops.{InputMayStop, StopsGrounding}
 use Rattle.pb_run.specs.Asked.{files_of}
 use Rattle.pb_run.specs.Calls.{loaded_texts, outputs_in, put_bytes, load_calls, FailToSaveAll}
-use Rattle.pb_run.specs.Parted.{OfTaskOr, AreFirstParts, AreDecided}
+use Rattle.pb_run.specs.Answers.{AnswersReading}
+use Rattle.pb_run.specs.Parted.{OfTaskOr, AreAllParts, AreFirstParts, AreDecided}
 use Rattle.pb_run.specs.Handing.{HandsOutAnswer, BreaksOffSaving, BreaksOffPutting, HandsOutParts}
 use Rattle.pb_run.specs.Course.{RunsOut, FailsToLoad, HasAnswered, Does}
 use Rattle.pb_run.specs.Outcome.{Outcome, outcome_by, AnswersOneOf}
-use Rattle.pb_run.specs.FallingHeadline.{IsSilent, EndsProved, EndsNone, EndsStopped, EndsShort, EndsUnsaved, EndsUnprinted, IsRefusedInPart, FallingHolds}
+use Rattle.pb_run.specs.FallingHeadline.{IsSilent, EndsProved, EndsNone, EndsStopped, EndsShort, EndsUnsaved, EndsUnprinted, IsRefusedInPart, IsStoppedInPart, FallingHolds}
 use Rattle.pb_run.specs.FallingLaws.{CallsGiveFalling}
 use Rattle.pb_run.proofs.CallLists.{loads_tell, loads_save_none, ended_few}
+use Rattle.pb_run.proofs.Parted.{all_outputs, all_report}
 use Rattle.pb_run.proofs.FallingCalls.{TellAll, all_tell, SplitUnsaved, split_unsaved, is_begun, SplitUnput, split_unput}
 use Rattle.pb_run.proofs.FallingEnds.{claimed_as, Broken, broken, broken_among, ends_short, one_file, at_zero, at_one, at_two, which}
 
-module _ (falling : FallingMeaning) (n : ℕ) (shelf sink : List Call) where
+module _ (falling : FallingMeaning) (n looks : ℕ) (shelf sink : List Call) where
   abbrev reading : Reading
   reading = Read (Falling falling)
 
   abbrev it : Outcome
-  it = outcome_by reading n shelf sink
+  it = outcome_by reading n looks shelf sink
 
   abbrev Holds : Type 0
   Holds = FallingHolds falling it
@@ -38,6 +41,17 @@ module _ (falling : FallingMeaning) (n : ℕ) (shelf sink : List Call) where
 
   abbrev StatusesAre : Type 0
   StatusesAre = AnswersOneOf (0 ∷ 1 ∷ 2 ∷ 65 ∷ []) it
+
+  abbrev IsUnprinted : Type 0
+  IsUnprinted = IsRefusedInPart falling.solve it.texts it.said
+      ⊎ (IsStoppedInPart falling.solve it.texts it.said ⊎ OfTexts falling.solve it.texts (EndsUnprinted falling.solve falling.steps it.said))
+
+  -- grounding of these texts was stopped, with what was said
+  abbrev IsHalted : (texts : List (List ℕ)) → Said → Type 0
+  IsHalted texts said = StopsGrounding falling.solve.input falling.solve.options 0 texts said
+
+  abbrev MayHalt : (texts : List (List ℕ)) → Type 0
+  MayHalt texts = InputMayStop falling.solve.input falling.solve.options 0 texts
 
   -- ---- statuses at which one promise is made
 
@@ -75,7 +89,7 @@ module _ (falling : FallingMeaning) (n : ℕ) (shelf sink : List Call) where
       none (inr (inl e)) = omega (arith, is, e)
       none (inr (inr e)) = omega (arith, is, e)
 
-  at_sink : n ≡ 74 → IsRefusedInPart falling.solve it.texts it.said ⊎ OfTexts falling.solve it.texts (EndsUnprinted falling.solve falling.steps it.said) → Holds
+  at_sink : n ≡ 74 → IsUnprinted → Holds
   at_sink is unprinted = record {
     found = λ e. absurd (none e);
     proved = λ e. absurd (omega (arith, is, e));
@@ -109,13 +123,25 @@ module _ (falling : FallingMeaning) (n : ℕ) (shelf sink : List Call) where
       none (inr (inl e)) = omega (arith, is, e)
       none (inr (inr e)) = omega (arith, is, e)
 
+  at_stop : IsHalted it.texts it.said → Holds
+  at_stop stop = record {
+    found = λ e. inr stop;
+    proved = λ e. absurd (omega (arith, stop.status, e));
+    none = λ e. absurd (omega (arith, stop.status, e));
+    stopped = λ e. inr stop;
+    short = λ e. absurd (omega (arith, stop.status, e));
+    unsaved = λ e. absurd (omega (arith, stop.status, e));
+    unprinted = λ e. absurd (omega (arith, stop.status, e));
+    statuses = inl (inr (inr (inl stop.status)));
+  }
+
   -- all of a search is out
   at_found : (texts : List (List ℕ)) → loaded_texts shelf ≡ texts → (task : TaskParts) → solve_task falling.solve texts ≡ Ok task → (parts : List AnswerPart) → IsFallingFound falling.solve task falling.steps it.said parts → Holds
   at_found texts same task is parts found = record {
-    found = λ e. of_texts texts same task is _ (parts, found);
+    found = λ e. inl (of_texts texts same task is _ (parts, found));
     proved = λ e. of_texts texts same task is (EndsProved falling.solve falling.steps it.said) (at_zero falling.solve task falling.steps it.said parts found e);
     none = λ e. of_texts texts same task is (EndsNone falling.solve it.said) (at_one falling.solve task falling.steps it.said parts found e);
-    stopped = λ e. of_texts texts same task is (EndsStopped falling.solve falling.steps it.said) (at_two falling.solve task falling.steps it.said parts found e);
+    stopped = λ e. inl (of_texts texts same task is (EndsStopped falling.solve falling.steps it.said) (at_two falling.solve task falling.steps it.said parts found e));
     short = λ e. absurd (other 71 e (omega arith));
     unsaved = λ e. absurd (other 73 e (omega arith));
     unprinted = λ e. absurd (other 74 e (omega arith));
@@ -165,7 +191,7 @@ module _ (falling : FallingMeaning) (n : ℕ) (shelf sink : List Call) where
 
   -- ---- an answer is handed out
 
-  module _ (a : HasAnswered reading n shelf sink) where
+  module _ (a : HasAnswered reading n looks shelf sink) where
     texts_of : loaded_texts a.saves ≡ [] → loaded_texts shelf ≡ a.texts
     texts_of none = ap loaded_texts a.shelf_is ∙ loads_tell (files_of reading) a.texts a.unloaded a.saves (ended_few (files_of reading) a.texts a.unloaded a.ends)
         ∙ ap (λ (ts : List (List ℕ)). a.texts ++ ts) none ∙ append-nil a.texts
@@ -173,11 +199,20 @@ module _ (falling : FallingMeaning) (n : ℕ) (shelf sink : List Call) where
     outputs_of_saves : outputs_in shelf ≡ outputs_in a.saves
     outputs_of_saves = ap outputs_in a.shelf_is ∙ loads_save_none (files_of reading) a.texts a.unloaded a.saves
 
-    whole : HandsOutAnswer reading a.texts a.parts n a.saves sink → Holds
-    whole h = go (solve_task falling.solve a.texts) refl h.answers h.parts_are
+    whole : HandsOutAnswer reading a.texts a.parts n looks a.saves sink → Holds
+    whole h = by h.answers h.parts_are
       where
         tell : TellAll a.parts a.saves sink
         tell = all_tell a.parts a.saves sink h.hands
+
+        halted : IsHalted a.texts h.said → Holds
+        halted stop = at_stop (record {
+          due = subst MayHalt (sym (texts_of tell.none_loaded)) stop.due;
+          looks = h.looks_is ∙ stop.looks;
+          status = h.status_is ∙ stop.status;
+          report = tell.printed ∙ sym (all_report reading a.texts h.said a.parts h.parts_are) ∙ stop.report;
+          outputs = outputs_of_saves ∙ tell.saved ∙ sym (all_outputs reading a.texts h.said a.parts h.parts_are) ∙ stop.outputs;
+        })
 
         go : (t : Result TaskParts (List ℕ)) → solve_task falling.solve a.texts ≡ t
             → OrRefused t (λ task all. (parts : List AnswerPart) × IsFallingFound falling.solve task falling.steps all parts) h.said
@@ -202,11 +237,17 @@ module _ (falling : FallingMeaning) (n : ℕ) (shelf sink : List Call) where
             ends (inr (inr (status, stop))) = inr (inr (h.status_is ∙ status, stop))
         go (Err report) is refused parts_are = at_refusal (h.status_is ∙ refused.0)
 
-    -- the part that broke off, of all parts or of the first ones; or the texts are refused, and there is one part
-    by_decided : (Q : Type 0) (before : List AnswerPart) (part : AnswerPart) (after : List AnswerPart) → a.parts ≡ before ++ part ∷ after → AreDecided reading a.texts a.parts
+        by : AnswersReading reading a.texts h.said → AreAllParts reading a.texts h.said a.parts → Holds
+        by (inr stop) parts_are = halted stop
+        by (inl answers) (inl (stop, one)) = halted stop
+        by (inl answers) (inr parts_are) = go (solve_task falling.solve a.texts) refl answers parts_are
+
+    -- the part that broke off, of all parts or of the first ones; or the texts are refused or grounding was stopped, and there is one part
+    by_decided : (Q : Type 0) (before : List AnswerPart) (part : AnswerPart) (after : List AnswerPart) → a.parts ≡ before ++ part ∷ after → AreDecided reading a.texts looks a.parts
         → ((task : TaskParts) → solve_task falling.solve a.texts ≡ Ok task → Broken falling.solve task falling.steps before part → Q)
-        → ((said : Said) → solve_task falling.solve a.texts ≡ Err said.report → IsRefused said.report said → before ++ part ∷ after ≡ record { outputs = said.outputs; report = said.report } ∷ [] → Q) → Q
-    by_decided Q before part after parts_are decided of_task refused = go (subst (λ (ps : List AnswerPart). AreDecided reading a.texts ps) parts_are decided)
+        → ((said : Said) → solve_task falling.solve a.texts ≡ Err said.report → IsRefused said.report said → before ++ part ∷ after ≡ record { outputs = said.outputs; report = said.report } ∷ [] → Q)
+        → ((said : Said) → IsHalted a.texts said → looks ≡ said.looks → before ++ part ∷ after ≡ record { outputs = said.outputs; report = said.report } ∷ [] → Q) → Q
+    by_decided Q before part after parts_are decided of_task refused halted = go (subst (λ (ps : List AnswerPart). AreDecided reading a.texts looks ps) parts_are decided)
       where
         by_task : (said : Said) (t : Result TaskParts (List ℕ)) → solve_task falling.solve a.texts ≡ t
             → OrRefused t (λ task all. (parts : List AnswerPart) × IsFallingFound falling.solve task falling.steps all parts) said
@@ -215,16 +256,26 @@ module _ (falling : FallingMeaning) (n : ℕ) (shelf sink : List Call) where
         by_task said (Err report) is (status, says, saves) one =
             refused said (is ∙ ap (λ (text : List ℕ). Err text) (sym says)) (status, refl, saves) one
 
+        by_stop : (said : Said) → IsHalted a.texts said → looks ≡ said.looks → (t : Result TaskParts (List ℕ)) → solve_task falling.solve a.texts ≡ t
+            → OfTaskOr t (AreAnswerParts said (before ++ part ∷ after)) (λ task. IsFallingFound falling.solve task falling.steps said (before ++ part ∷ after)) → Q
+        by_stop said stop counted (Ok task) is found = of_task task is (broken falling.solve task falling.steps said before part after found)
+        by_stop said stop counted (Err report) is one = halted said stop counted one
+
+        by : (said : Said) → AnswersReading reading a.texts said → AreAllParts reading a.texts said (before ++ part ∷ after) → looks ≡ said.looks → Q
+        by said answers (inl (stop, one)) counted = halted said stop counted one
+        by said (inl answers) (inr are) counted = by_task said (solve_task falling.solve a.texts) refl answers are
+        by said (inr stop) (inr are) counted = by_stop said stop counted (solve_task falling.solve a.texts) refl are
+
         never : (before : List AnswerPart) → before ++ part ∷ after ≡ [] → ⊥
         never [] e = cc
         never (b ∷ before) e = cc
 
-        go : AreDecided reading a.texts (before ++ part ∷ after) → Q
-        go (inl (said, answers, are)) = by_task said (solve_task falling.solve a.texts) refl answers are
+        go : AreDecided reading a.texts looks (before ++ part ∷ after) → Q
+        go (inl (said, answers, are, counted)) = by said answers are counted
         go (inr (inl none)) = absurd (never before none)
         go (inr (inr (task, is, are))) = of_task task is (broken_among falling.solve task falling.steps before part after are)
 
-    -- a refusal has no file and is in one part
+    -- a refusal and a stop have no file and are in one part
     only_part : (before : List AnswerPart) (part : AnswerPart) (after : List AnswerPart) (said : Said) → before ++ part ∷ after ≡ record { outputs = said.outputs; report = said.report } ∷ []
         → (before ≡ []) × (part.outputs ≡ said.outputs) × (part.report ≡ said.report)
     only_part [] part after said e =
@@ -239,16 +290,16 @@ module _ (falling : FallingMeaning) (n : ℕ) (shelf sink : List Call) where
         none [] one e = cc
         none (c ∷ before) one e = cc
 
-    unsaved : BreaksOffSaving reading a.texts a.parts n a.saves sink → Holds
+    unsaved : BreaksOffSaving reading a.texts a.parts n looks a.saves sink → Holds
     unsaved f = at_shelf f.status_is (by_decided (IsSilent it.said ⊎ OfTexts falling.solve it.texts (EndsUnsaved falling.solve falling.steps it.said)) s.before s.part s.after s.parts_are f.decided
         (λ task is b. inr (of_texts a.texts (texts_of s.none_loaded) task is (EndsUnsaved falling.solve falling.steps it.said) (ends task b)))
-        (λ said is refusal one. absurd (no_file said refusal one)))
+        (λ said is refusal one. absurd (no_file said refusal.2 one)) (λ said stop counted one. absurd (no_file said stop.outputs one)))
       where
         s : SplitUnsaved a.parts a.saves sink
         s = split_unsaved a.parts a.saves sink f.hands
 
-        no_file : (said : Said) → IsRefused said.report said → s.before ++ s.part ∷ s.after ≡ record { outputs = said.outputs; report = said.report } ∷ [] → ⊥
-        no_file said refusal one = subst (λ (os : List Output). FailToSaveAll s.own os) ((only_part s.before s.part s.after said one).1 ∙ refusal.2) s.fails
+        no_file : (said : Said) → said.outputs ≡ [] → s.before ++ s.part ∷ s.after ≡ record { outputs = said.outputs; report = said.report } ∷ [] → ⊥
+        no_file said none one = subst (λ (os : List Output). FailToSaveAll s.own os) ((only_part s.before s.part s.after said one).1 ∙ none) s.fails
 
         ends : (task : TaskParts) → Broken falling.solve task falling.steps s.before s.part → EndsUnsaved falling.solve falling.steps it.said task
         ends task b = go (one_file falling.solve task falling.steps b.claims s.part b.next)
@@ -268,10 +319,11 @@ module _ (falling : FallingMeaning) (n : ℕ) (shelf sink : List Call) where
               outputs = outputs_of_saves ∙ s.saved;
             }
 
-    unput : BreaksOffPutting reading a.texts a.parts n a.saves sink → Holds
-    unput f = at_sink f.status_is (by_decided (IsRefusedInPart falling.solve it.texts it.said ⊎ OfTexts falling.solve it.texts (EndsUnprinted falling.solve falling.steps it.said)) s.before s.part s.after s.parts_are f.decided
-        (λ task is b. inr (of_texts a.texts (texts_of s.none_loaded) task is (EndsUnprinted falling.solve falling.steps it.said) (ends task b)))
-        (λ said is refusal one. inl (refused said is refusal (only_part s.before s.part s.after said one))))
+    unput : BreaksOffPutting reading a.texts a.parts n looks a.saves sink → Holds
+    unput f = at_sink f.status_is (by_decided IsUnprinted s.before s.part s.after s.parts_are f.decided
+        (λ task is b. inr (inr (of_texts a.texts (texts_of s.none_loaded) task is (EndsUnprinted falling.solve falling.steps it.said) (ends task b))))
+        (λ said is refusal one. inl (refused said is refusal (only_part s.before s.part s.after said one)))
+        (λ said stop counted one. inr (inl (stopped said stop counted (only_part s.before s.part s.after said one)))))
       where
         s : SplitUnput a.parts a.saves sink
         s = split_unput a.parts a.saves sink f.hands
@@ -301,20 +353,31 @@ module _ (falling : FallingMeaning) (n : ℕ) (shelf sink : List Call) where
           outputs_of_saves ∙ s.saved ∙ ap (λ (ps : List AnswerPart). outputs_of ps ++ s.part.outputs) none ∙ files ∙ refusal.2,
         )
 
-    answered : HandsOutParts reading a.texts a.parts n a.saves sink → Holds
+        stopped : (said : Said) → IsHalted a.texts said → looks ≡ said.looks → (s.before ≡ []) × (s.part.outputs ≡ said.outputs) × (s.part.report ≡ said.report)
+            → IsStoppedInPart falling.solve it.texts it.said
+        stopped said stop counted (none, files, report) = (
+          drop s.kept s.part.report,
+          subst MayHalt (sym (texts_of s.none_loaded)) stop.due,
+          counted ∙ stop.looks,
+          sym (ap (λ (text : List ℕ). text ++ drop s.kept s.part.report) (s.printed ∙ ap (λ (ps : List AnswerPart). report_of ps ++ take s.kept s.part.report) none)
+              ∙ take-append-drop s.kept s.part.report ∙ report ∙ stop.report),
+          outputs_of_saves ∙ s.saved ∙ ap (λ (ps : List AnswerPart). outputs_of ps ++ s.part.outputs) none ∙ files ∙ stop.outputs,
+        )
+
+    answered : HandsOutParts reading a.texts a.parts n looks a.saves sink → Holds
     answered (inl h) = whole h
     answered (inr (inl f)) = unsaved f
     answered (inr (inr f)) = unput f
 
-  pub falling_holds : Does reading n shelf sink → Holds
+  pub falling_holds : Does reading n looks shelf sink → Holds
   falling_holds (inl out) = runs_out out
   falling_holds (inr (inl failed)) = fails_to_load failed
   falling_holds (inr (inr a)) = answered a a.hands
 
 pub calls_give_falling : CallsGiveFalling
-calls_give_falling (Refused fault) n shelf sink does = tt
-calls_give_falling (Read (Solve solve)) n shelf sink does = tt
-calls_give_falling (Read (Falling falling)) n shelf sink does = falling_holds falling n shelf sink does
-calls_give_falling (Read (Check check)) n shelf sink does = tt
-calls_give_falling (Read (Journal journal)) n shelf sink does = tt
-calls_give_falling (Read (Make make)) n shelf sink does = tt
+calls_give_falling (Refused fault) n looks shelf sink does = tt
+calls_give_falling (Read (Solve solve)) n looks shelf sink does = tt
+calls_give_falling (Read (Falling falling)) n looks shelf sink does = falling_holds falling n looks shelf sink does
+calls_give_falling (Read (Check check)) n looks shelf sink does = tt
+calls_give_falling (Read (Journal journal)) n looks shelf sink does = tt
+calls_give_falling (Read (Make make)) n looks shelf sink does = tt

@@ -48,7 +48,7 @@ module _ (search : FallingValue) (parts : List AnswerPart) (has : HandedOutBefor
   more = parts ++ part_of said ∷ []
 
   abbrev total : Said
-  total = record { status = said.status; report = report_of more; outputs = outputs_of more }
+  total = record { status = said.status; report = report_of more; outputs = outputs_of more; looks = said.looks }
 
   abbrev Says : Type 0
   Says = SaysNow has.before has.machine search said

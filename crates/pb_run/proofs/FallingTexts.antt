@@ -1,5 +1,5 @@
 -- What is handed out of a search with falling weights, as the answer to the texts of its task.
-use Rattle.std.proofs.Common.{◌≡◌, inl, inr, ℕ, Option, List, [], Result, Ok, sym, subst}
+use Rattle.std.proofs.Common.{◌≡◌, inl, inr, ℕ, Option, List, [], Result, Ok, refl, sym, subst}
 use Rattle.pb_machine.specs.Machine.{Machine}
 use Rattle.pb_outside.specs.Outside.{Files}
 use Rattle.pb_outside.specs.Calls.{Call}
@@ -22,7 +22,7 @@ use Rattle.pb_run.specs.declared.output.Ending.TheVariants.{Done, NotSaved, NotP
 -- ---- a search of the task that the texts spell
 
 module _ (falling : FallingMeaning) (texts : List (List ℕ)) (search : FallingValue) (solve_is : search.solve ≡ falling.solve) (steps_is : search.steps ≡ falling.steps)
-    (task_is : solve_task falling.solve texts ≡ Ok search.parts) where
+    (task_is : solve_task falling.solve texts ≡ Ok search.parts) (looks : ℕ) where
   abbrev asked : Reading
   asked = Read (Falling falling)
 
@@ -30,35 +30,49 @@ module _ (falling : FallingMeaning) (texts : List (List ℕ)) (search : FallingV
   as_asked : (P : SolveMeaning → ℕ → Type 0) → P search.solve search.steps → P falling.solve falling.steps
   as_asked P h = subst (λ (s : SolveMeaning). P s falling.steps) solve_is (subst (λ (k : ℕ). P search.solve k) steps_is h)
 
+  -- the same that is said, with the looks of this call
+  abbrev counted : Said → Said
+  counted said = record { status = said.status; report = said.report; outputs = said.outputs; looks = looks }
+
+  count : (said : Said) (parts : List AnswerPart) → IsFallingFound search.solve search.parts search.steps said parts → IsFallingFound search.solve search.parts search.steps (counted said) parts
+  count said parts found = record {
+    report = found.report;
+    outputs = found.outputs;
+    abstraction = found.abstraction;
+    graph_of = found.graph_of;
+    finest = found.finest;
+    found = found.found;
+  }
+
   all_answer : (said : Said) (parts : List AnswerPart) → IsFallingFound search.solve search.parts search.steps said parts
-      → AnswersReading asked texts said × AreAllParts asked texts said parts
+      → AnswersReading asked texts (counted said) × AreAllParts asked texts (counted said) parts
   all_answer said parts is_found =
-      let found = as_asked (λ solve steps. IsFallingFound solve search.parts steps said parts) is_found in (
-        subst (λ (task : Result TaskParts (List ℕ)). OrRefused task
-            (λ (t : TaskParts) (all : Said). (ps : List AnswerPart) × IsFallingFound falling.solve t falling.steps all ps) said) (sym task_is) (parts, found),
-        subst (λ (task : Result TaskParts (List ℕ)). OfTaskOr task (AreAnswerParts said parts)
-            (λ (t : TaskParts). IsFallingFound falling.solve t falling.steps said parts)) (sym task_is) found,
+      let found = as_asked (λ solve steps. IsFallingFound solve search.parts steps (counted said) parts) (count said parts is_found) in (
+        inl (subst (λ (task : Result TaskParts (List ℕ)). OrRefused task
+            (λ (t : TaskParts) (all : Said). (ps : List AnswerPart) × IsFallingFound falling.solve t falling.steps all ps) (counted said)) (sym task_is) (parts, found)),
+        inr (subst (λ (task : Result TaskParts (List ℕ)). OfTaskOr task (AreAnswerParts (counted said) parts)
+            (λ (t : TaskParts). IsFallingFound falling.solve t falling.steps (counted said) parts)) (sym task_is) found),
       )
 
   first_parts : (parts : List AnswerPart) → AreClaimParts search.solve search.parts search.steps parts → AreFirstParts asked texts parts
   first_parts parts claims = inr (search.parts, task_is, as_asked (λ solve steps. AreClaimParts solve search.parts steps parts) claims)
 
-  decided_parts : (parts : List AnswerPart) → AreFallingParts search.solve search.parts search.steps parts → AreDecided asked texts parts
-  decided_parts parts (inl (said, found)) = let all = all_answer said parts found in inl (said, all.0, all.1)
+  decided_parts : (parts : List AnswerPart) → AreFallingParts search.solve search.parts search.steps parts → AreDecided asked texts looks parts
+  decided_parts parts (inl (said, found)) = let all = all_answer said parts found in inl (counted said, all.0, all.1, refl)
   decided_parts parts (inr claims) = inr (first_parts parts claims)
 
-  ends_parts : (ending : Ending) (parts : List AnswerPart) (status : ℕ) → EndsFalling search.solve search.parts search.steps ending parts status → EndsParts asked texts ending parts status
-  ends_parts Done parts status (inl (said, found, is)) = let all = all_answer said parts found in inl (said, all.0, all.1, is)
+  ends_parts : (ending : Ending) (parts : List AnswerPart) (status : ℕ) → EndsFalling search.solve search.parts search.steps ending parts status → EndsParts asked texts ending parts status looks
+  ends_parts Done parts status (inl (said, found, is)) = let all = all_answer said parts found in inl (counted said, all.0, all.1, is, refl)
   ends_parts Done parts status (inr (is, claims)) = inr (is, first_parts parts claims)
   ends_parts NotSaved parts status (is, decided) = (is, decided_parts parts decided)
   ends_parts NotPrinted parts status (is, decided) = (is, decided_parts parts decided)
 
   fit_parts : (status : ℕ) (can_hold : List ℕ → ℕ → Type 0) (can_take : ℕ → Type 0) → ClaimsIfTheyFit search.solve search.parts search.steps status can_hold can_take
-      → HandsOutIfPartsFit asked texts status can_hold can_take
+      → HandsOutIfPartsFit asked texts status looks can_hold can_take
   fit_parts status can_hold can_take (inl is) = inl is
   fit_parts status can_hold can_take (inr (inl all)) =
       let answer = all_answer all.said all.parts all.found in
-      inr (inl (record { said = all.said; answers = answer.0; parts = all.parts; parts_are = answer.1; if_they_fit = all.if_they_fit }))
+      inr (inl (record { said = counted all.said; answers = answer.0; looks_is = refl; parts = all.parts; parts_are = answer.1; if_they_fit = all.if_they_fit }))
   fit_parts status can_hold can_take (inr (inr first)) =
       inr (inr (record { broke = first.broke; parts = first.parts; parts_are = first_parts first.parts first.parts_are; do_not_fit = first.do_not_fit }))
 
@@ -72,29 +86,29 @@ first_run (Read (Check check)) texts search first = absurd first
 first_run (Read (Journal journal)) texts search first = absurd first
 first_run (Read (Make make)) texts search first = absurd first
 
-module _ (files files' : Option Files) (shelf shelf' sink sink' : List Call) (written written' : Option (List ℕ)) (status : ℕ) where
+module _ (files files' : Option Files) (shelf shelf' sink sink' : List Call) (written written' : Option (List ℕ)) (status looks : ℕ) where
   pub claims_handed : (reading : Reading) (texts : List (List ℕ)) (search : FallingValue) → IsFirstRun reading texts search
       → HandsOutFalling search.solve search.parts search.steps status files files' shelf shelf' sink sink' written written'
-      → HandsOutTexts reading texts status files files' shelf shelf' sink sink' written written'
+      → HandsOutTexts reading texts status looks files files' shelf shelf' sink sink' written written'
   claims_handed (Refused fault) texts search first hands = absurd first
   claims_handed (Read (Solve solve)) texts search first hands = absurd first
   claims_handed (Read (Falling falling)) texts search (solve_is, steps_is, task_is, run) hands = record {
     ending = hands.ending;
     parts = hands.parts;
     hands = hands.hands;
-    ends = ends_parts falling texts search solve_is steps_is task_is hands.ending hands.parts status hands.ends;
+    ends = ends_parts falling texts search solve_is steps_is task_is looks hands.ending hands.parts status hands.ends;
   }
   claims_handed (Read (Check check)) texts search first hands = absurd first
   claims_handed (Read (Journal journal)) texts search first hands = absurd first
   claims_handed (Read (Make make)) texts search first hands = absurd first
 
 pub claims_fit : (reading : Reading) (texts : List (List ℕ)) (search : FallingValue) → IsFirstRun reading texts search
-    → (status : ℕ) (can_hold : List ℕ → ℕ → Type 0) (can_take : ℕ → Type 0) → ClaimsIfTheyFit search.solve search.parts search.steps status can_hold can_take
-    → HandsOutIfPartsFit reading texts status can_hold can_take
-claims_fit (Refused fault) texts search first status can_hold can_take fit = absurd first
-claims_fit (Read (Solve solve)) texts search first status can_hold can_take fit = absurd first
-claims_fit (Read (Falling falling)) texts search (solve_is, steps_is, task_is, run) status can_hold can_take fit =
-    fit_parts falling texts search solve_is steps_is task_is status can_hold can_take fit
-claims_fit (Read (Check check)) texts search first status can_hold can_take fit = absurd first
-claims_fit (Read (Journal journal)) texts search first status can_hold can_take fit = absurd first
-claims_fit (Read (Make make)) texts search first status can_hold can_take fit = absurd first
+    → (status looks : ℕ) (can_hold : List ℕ → ℕ → Type 0) (can_take : ℕ → Type 0) → ClaimsIfTheyFit search.solve search.parts search.steps status can_hold can_take
+    → HandsOutIfPartsFit reading texts status looks can_hold can_take
+claims_fit (Refused fault) texts search first status looks can_hold can_take fit = absurd first
+claims_fit (Read (Solve solve)) texts search first status looks can_hold can_take fit = absurd first
+claims_fit (Read (Falling falling)) texts search (solve_is, steps_is, task_is, run) status looks can_hold can_take fit =
+    fit_parts falling texts search solve_is steps_is task_is looks status can_hold can_take fit
+claims_fit (Read (Check check)) texts search first status looks can_hold can_take fit = absurd first
+claims_fit (Read (Journal journal)) texts search first status looks can_hold can_take fit = absurd first
+claims_fit (Read (Make make)) texts search first status looks can_hold can_take fit = absurd first

@@ -51,10 +51,10 @@ module _ (can_hold : List ℕ → ℕ → Type 0) (can_take : ℕ → Type 0) (s
 
 pub one_part_fits : (reading : Reading) (texts : List (List ℕ)) (can_hold : List ℕ → ℕ → Type 0) (can_take : ℕ → Type 0) → asks_one_part reading ≡ true
     → ((said : Said) → AnswersReading reading texts said → CanHold can_hold said.outputs × can_take (length said.report)) → CanHandOut reading texts can_hold can_take
-one_part_fits reading texts can_hold can_take one fits = go
+one_part_fits reading texts can_hold can_take one fits looks = go
   where
-    go : (parts : List AnswerPart) → AreDecided reading texts parts → PartsFit can_hold can_take parts
-    go parts (inl (said, answers, are)) = subst (λ (ps : List AnswerPart). PartsFit can_hold can_take ps) (sym (all_are_one reading texts said parts one are)) (whole_fits can_hold can_take said (fits said answers))
+    go : (parts : List AnswerPart) → AreDecided reading texts looks parts → PartsFit can_hold can_take parts
+    go parts (inl (said, answers, are, counted)) = subst (λ (ps : List AnswerPart). PartsFit can_hold can_take ps) (sym (all_are_one reading texts said parts one are)) (whole_fits can_hold can_take said (fits said answers))
     go parts (inr first) = subst (λ (ps : List AnswerPart). PartsFit can_hold can_take ps) (sym (none_are_first reading texts parts one first)) (record { held = tt; taken = tt })
 
 -- ---- the next part

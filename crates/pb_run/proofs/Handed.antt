@@ -142,10 +142,10 @@ first_parts_named reading texts parts first = go reading first
     go (Read (Journal journal)) is = none (Read (Journal journal)) is
     go (Read (Make make)) is = none (Read (Make make)) is
 
-pub decided_named : (reading : Reading) (texts : List (List ℕ)) (parts : List AnswerPart) → AreDecided reading texts parts → AreSomeOf (names_of (outputs_of parts)) (saved_names reading)
-decided_named reading texts parts (inl (said, answers, are)) =
+pub decided_named : (reading : Reading) (texts : List (List ℕ)) (looks : ℕ) (parts : List AnswerPart) → AreDecided reading texts looks parts → AreSomeOf (names_of (outputs_of parts)) (saved_names reading)
+decided_named reading texts looks parts (inl (said, answers, are, counted)) =
     subst (λ (outputs : List Output). AreSomeOf (names_of outputs) (saved_names reading)) (all_outputs reading texts said parts are) (told.outputs_are_named texts said reading answers)
-decided_named reading texts parts (inr first) = first_parts_named reading texts parts first
+decided_named reading texts looks parts (inr first) = first_parts_named reading texts parts first
 
 -- ---- one part
 
@@ -159,8 +159,8 @@ module _ (reading : Reading) (one : asks_one_part reading ≡ true) (texts : Lis
   none_put said saves sink (inl (fails, no_sink)) = no_sink
   none_put said saves sink (inr (saves', sink', part, more)) = absurd more
 
-  pub unsaved_is_silent : (parts : List AnswerPart) (saves sink : List Call) → AreDecided reading texts parts → FailsInSaves parts saves sink → sink ≡ []
-  unsaved_is_silent parts saves sink (inl (said, answers, are)) fails =
+  pub unsaved_is_silent : (looks : ℕ) (parts : List AnswerPart) (saves sink : List Call) → AreDecided reading texts looks parts → FailsInSaves parts saves sink → sink ≡ []
+  unsaved_is_silent looks parts saves sink (inl (said, answers, are, counted)) fails =
       none_put said saves sink (subst (λ (ps : List AnswerPart). FailsInSaves ps saves sink) (all_are_one reading texts said parts one are) fails)
-  unsaved_is_silent parts saves sink (inr first) fails =
+  unsaved_is_silent looks parts saves sink (inr first) fails =
       absurd (subst (λ (ps : List AnswerPart). FailsInSaves ps saves sink) (none_are_first reading texts parts one first) fails)

@@ -31,14 +31,14 @@ module _ (shelf : ShelfView) (sink : SinkView) (listed : shelf.calls.listed ≡ 
   parts_fit parts fit =
       record { held = can_hold (outputs_of parts) fit.held; taken = can_take [] parts fit.taken }
 
-  pub handed_out_if_it_fits : (reading : Reading) (status : ℕ) → HaveFiles shelf (files_of reading)
-      → AnswersWhatFits reading status (Some (file_of shelf)) (HasFile shelf) (HasRoom shelf)
+  pub handed_out_if_it_fits : (reading : Reading) (status looks : ℕ) → HaveFiles shelf (files_of reading)
+      → AnswersWhatFits reading status looks (Some (file_of shelf)) (HasFile shelf) (HasRoom shelf)
       (CanTake sink)
-      → IsHandedOutIfItFits reading (file_of shelf) status (HasRoomFor shelf) (HasRoomToPut sink)
-  handed_out_if_it_fits reading status have fits = go (fits (can_load (files_of reading) have))
+      → IsHandedOutIfItFits reading (file_of shelf) status looks (HasRoomFor shelf) (HasRoomToPut sink)
+  handed_out_if_it_fits reading status looks have fits = go (fits (can_load (files_of reading) have))
     where
-      go : IsHandedOutIfItFits reading (file_of shelf) status (HasRoom shelf) (CanTake sink)
-          → IsHandedOutIfItFits reading (file_of shelf) status (HasRoomFor shelf) (HasRoomToPut sink)
+      go : IsHandedOutIfItFits reading (file_of shelf) status looks (HasRoom shelf) (CanTake sink)
+          → IsHandedOutIfItFits reading (file_of shelf) status looks (HasRoomFor shelf) (HasRoomToPut sink)
       go (inl memory) = inl memory
       go (inr (texts, loaded, inl it)) = inr (
         texts,
@@ -46,6 +46,7 @@ module _ (shelf : ShelfView) (sink : SinkView) (listed : shelf.calls.listed ≡ 
         inl (record {
           said = it.said;
           answers = it.answers;
+          looks_is = it.looks_is;
           parts = it.parts;
           parts_are = it.parts_are;
           if_they_fit = λ fit. it.if_they_fit (parts_fit it.parts fit);

@@ -5,6 +5,7 @@ mod Saving
 mod Loads
 mod Parted
 mod FallingNames
+mod Stopping
 mod Told
 mod CallLists
 mod Loading

@@ -40,14 +40,18 @@ pub record HasFound (make : MakeMeaning) (kind : Kind) (answer : MadeAnswer) : T
   pub stopped : IfStopped answer (λ budget.
       OfMade kind make.seed make.size (λ parts. IsStopped parts make.workers budget))
 
--- what is said of an answer
-abbrev pub said_of_answer : MadeAnswer → Said
-said_of_answer answer =
-    record { status = number_of (made_status answer); report = made_report answer; outputs = [] }
+-- what is said of an answer, with so many looks
+abbrev pub said_of_answer : MadeAnswer → (looks : ℕ) → Said
+said_of_answer answer looks = record {
+  status = number_of (made_status answer);
+  report = made_report answer;
+  outputs = [];
+  looks = looks;
+}
 
-module _ (make : MakeMeaning) where
+module _ (make : MakeMeaning) (looks : ℕ) where
   made_is : (answer : MadeAnswer) → HasFound make make.kind answer → (said : Said)
-      → said ≡ said_of_answer answer → IsMade make said
+      → said ≡ said_of_answer answer looks → IsMade make said
   made_is (Accepted (Bounded cost bound)) found said is =
       inl (
         ap (λ (s : Said). s.status) is,
@@ -77,14 +81,15 @@ module _ (make : MakeMeaning) where
 
   -- what was found with the kind as it was handed on is answered
   pub made_at : (kind : Kind) → kind ≡ make.kind → (answer : MadeAnswer)
-      → HasFound make kind answer → (said : Said) → said ≡ said_of_answer answer
+      → HasFound make kind answer → (said : Said) → said ≡ said_of_answer answer looks
       → IsMade make said
   made_at kind same answer found =
       made_is answer (subst (λ k. HasFound make k answer) same found)
 
 -- what is said, by its parts
-pub said_is : (answer : MadeAnswer) (said : Said) (status : Status) (report : List ℕ)
-    → said ≡ record { status = number_of status; report = report; outputs = [] }
-    → status ≡ made_status answer → report ≡ made_report answer → said ≡ said_of_answer answer
-said_is answer said status report is same text =
-    is ∙ (λ i. record { status = number_of (same i); report = text i; outputs = [] })
+pub said_is : (answer : MadeAnswer) (said : Said) (status : Status) (report : List ℕ) (looks : ℕ)
+    → said ≡ record { status = number_of status; report = report; outputs = []; looks = looks }
+    → status ≡ made_status answer → report ≡ made_report answer
+    → said ≡ said_of_answer answer looks
+said_is answer said status report looks is same text =
+    is ∙ (λ i. record { status = number_of (same i); report = text i; outputs = []; looks = looks })

@@ -1,5 +1,5 @@
 -- The parts of an answer: one, or those of a search with falling weights.
-use Rattle.std.proofs.Common.{◌≡◌, inl, ℕ, true, true≢false, List, [], ◌∷◌, Result, Ok, Err, refl, sym, ap, ◌∙◌, append-nil}
+use Rattle.std.proofs.Common.{◌≡◌, inl, inr, ℕ, true, true≢false, List, [], ◌∷◌, Result, Ok, Err, refl, sym, ap, ◌∙◌, append-nil}
 use Rattle.pb_task.specs.declared.parts.TaskParts.{TaskParts}
 use Rattle.pb_command.specs.Meaning.{Reading, Refused, Read, Solve, Falling, Check, Journal, Make, FallingMeaning}
 use Rattle.pb_answer.specs.Loaded.{solve_task}
@@ -54,22 +54,30 @@ one_outputs said parts is = sym (ap outputs_of is ∙ append-nil said.outputs)
 one_report : (said : Said) (parts : List AnswerPart) → AreAnswerParts said parts → said.report ≡ report_of parts
 one_report said parts is = sym (ap report_of is ∙ append-nil said.report)
 
-module _ (falling : FallingMeaning) (said : Said) (parts : List AnswerPart) where
+module _ (falling : FallingMeaning) (texts : List (List ℕ)) (said : Said) (parts : List AnswerPart) where
   abbrev OfTask : Result TaskParts (List ℕ) → Type 0
   OfTask task = OfTaskOr task (AreAnswerParts said parts) (λ (t : TaskParts). IsFallingFound falling.solve t falling.steps said parts)
 
-  falling_outputs : (task : Result TaskParts (List ℕ)) → OfTask task → said.outputs ≡ outputs_of parts
-  falling_outputs (Ok task) are = are.outputs
-  falling_outputs (Err report) are = one_outputs said parts are
+  task_outputs : (task : Result TaskParts (List ℕ)) → OfTask task → said.outputs ≡ outputs_of parts
+  task_outputs (Ok task) are = are.outputs
+  task_outputs (Err report) are = one_outputs said parts are
 
-  falling_report : (task : Result TaskParts (List ℕ)) → OfTask task → said.report ≡ report_of parts
-  falling_report (Ok task) are = are.report
-  falling_report (Err report) are = one_report said parts are
+  falling_outputs : AreAllParts (Read (Falling falling)) texts said parts → said.outputs ≡ outputs_of parts
+  falling_outputs (inl (stop, are)) = one_outputs said parts are
+  falling_outputs (inr are) = task_outputs (solve_task falling.solve texts) are
+
+  task_report : (task : Result TaskParts (List ℕ)) → OfTask task → said.report ≡ report_of parts
+  task_report (Ok task) are = are.report
+  task_report (Err report) are = one_report said parts are
+
+  falling_report : AreAllParts (Read (Falling falling)) texts said parts → said.report ≡ report_of parts
+  falling_report (inl (stop, are)) = one_report said parts are
+  falling_report (inr are) = task_report (solve_task falling.solve texts) are
 
 pub all_outputs : (reading : Reading) (texts : List (List ℕ)) (said : Said) (parts : List AnswerPart) → AreAllParts reading texts said parts → said.outputs ≡ outputs_of parts
 all_outputs (Refused fault) texts said parts are = one_outputs said parts are
 all_outputs (Read (Solve solve)) texts said parts are = one_outputs said parts are
-all_outputs (Read (Falling falling)) texts said parts are = falling_outputs falling said parts (solve_task falling.solve texts) are
+all_outputs (Read (Falling falling)) texts said parts are = falling_outputs falling texts said parts are
 all_outputs (Read (Check check)) texts said parts are = one_outputs said parts are
 all_outputs (Read (Journal journal)) texts said parts are = one_outputs said parts are
 all_outputs (Read (Make make)) texts said parts are = one_outputs said parts are
@@ -77,7 +85,7 @@ all_outputs (Read (Make make)) texts said parts are = one_outputs said parts are
 pub all_report : (reading : Reading) (texts : List (List ℕ)) (said : Said) (parts : List AnswerPart) → AreAllParts reading texts said parts → said.report ≡ report_of parts
 all_report (Refused fault) texts said parts are = one_report said parts are
 all_report (Read (Solve solve)) texts said parts are = one_report said parts are
-all_report (Read (Falling falling)) texts said parts are = falling_report falling said parts (solve_task falling.solve texts) are
+all_report (Read (Falling falling)) texts said parts are = falling_report falling texts said parts are
 all_report (Read (Check check)) texts said parts are = one_report said parts are
 all_report (Read (Journal journal)) texts said parts are = one_report said parts are
 all_report (Read (Make make)) texts said parts are = one_report said parts are

@@ -14,12 +14,13 @@ use Rattle.pb_check.specs.Judging.{verdict_of, bound_of}
 use Rattle.pb_check.specs.Shown.{IsAccepted, BoundsAreLeast}
 use Rattle.pb_check.specs.Spelling.{PlanFitsIfAny}
 use Rattle.pb_journal.specs.Texts.{header_text, event_line, events_text}
-use Rattle.pb_report.specs.Texts.{verdict_text, journal_report}
+use Rattle.pb_report.specs.Texts.{verdict_text, journal_report, stopped_grounding_report}
 use Rattle.pb_command.specs.Meaning.{Reading, Read, Check, Journal, CheckMeaning, JournalMeaning}
 use Rattle.pb_answer.specs.Outputs.{Output}
 use Rattle.pb_answer.specs.Claims.{rewritten_outputs}
 use Rattle.pb_answer.specs.Journals.{IsJournalOf}
 use Rattle.pb_answer.specs.Answer.{Said, IsChecked, IsJudged, OrRefused}
+use Rattle.pb_answer.specs.Stops.{StopsTexts}
 use Rattle.pb_run.specs.Asked.{files_of}
 use Rattle.pb_run.specs.Calls.{CanHold}
 use Rattle.pb_run.specs.Answers.{AnswersReading}
@@ -29,6 +30,7 @@ use Rattle.pb_run.specs.InMemory.{HasRoomFor}
 use Rattle.pb_run.specs.Rooms.{HasTextsAndLine, ChecksAreServed, JournalsAreServed}
 use Rattle.pb_run.proofs.InMemory.{can_load, can_hold}
 use Rattle.pb_run.proofs.Fitting.{one_part_fits}
+use Rattle.pb_run.proofs.Stopping.{stop_says, stop_long}
 use Rattle.pb_run.proofs.Lengths.{line_long, spaced_long, number_long}
 
 -- ---- how long reports are
@@ -117,6 +119,16 @@ module _ (reading : Reading) (shelf : ShelfView) (sink : SinkView) (texts : List
   pub takes : (n : ℕ) → n ≤ 64 → CanTake sink n
   takes n few = let line = has.line in (has.none_fails_to_put, omega (arith, few, line))
 
+  -- a stop of grounding is one line, and saves nothing
+  pub stop_fits : (said : Said) → StopsTexts reading texts said
+      → CanHold (HasRoom shelf) said.outputs × CanTake sink (length said.report)
+  stop_fits said stop =
+      let says = stop_says reading texts said stop in (
+        subst (λ (outputs : List Output). CanHold (HasRoom shelf) outputs) (sym says.2) tt,
+        subst (λ (report : List ℕ). CanTake sink (length report)) (sym says.1)
+            (takes (length stopped_grounding_report) stop_long),
+      )
+
   holds : (outputs : List Output) → CanHold (HasRoomFor shelf) outputs
       → CanHold (HasRoom shelf) outputs
   holds outputs = can_hold shelf sink has.none_fails has.none_fails_to_put outputs
@@ -141,10 +153,15 @@ module _ (law : BoundsAreLeast) (check : CheckMeaning) (shelf : ShelfView) (sink
 pub checks_are_served : BoundsAreLeast → ChecksAreServed
 checks_are_served law check shelf sink texts parts certificate verdict has task is room =
     serves (Read (Check check)) shelf sink texts has refl
-    (λ said answers.
-    verdict_fits law check shelf sink texts parts certificate verdict has is room said
-    (subst (λ (t : Result (TaskParts × List ℕ) (List ℕ)).
-    OrRefused t (λ of. IsChecked check of.0 of.1) said) task answers))
+    (λ said answers. go said answers)
+  where
+    go : (said : Said) → AnswersReading (Read (Check check)) texts said
+        → CanHold (HasRoom shelf) said.outputs × CanTake sink (length said.report)
+    go said (inl answer) =
+        verdict_fits law check shelf sink texts parts certificate verdict has is room said
+        (subst (λ (t : Result (TaskParts × List ℕ) (List ℕ)).
+        OrRefused t (λ of. IsChecked check of.0 of.1) said) task answer)
+    go said (inr stop) = stop_fits (Read (Check check)) shelf sink texts has said stop
 
 module _ (journal : JournalMeaning) (shelf : ShelfView) (sink : SinkView) (texts : List (List ℕ))
     (parts : TaskParts) (text : List ℕ) (events : ℕ)
@@ -164,7 +181,12 @@ module _ (journal : JournalMeaning) (shelf : ShelfView) (sink : SinkView) (texts
 pub journals_are_served : JournalsAreServed
 journals_are_served journal shelf sink texts parts text events has task is short =
     serves (Read (Journal journal)) shelf sink texts has refl
-    (λ said answers.
-    count_fits journal shelf sink texts parts text events has is short said
-    (subst (λ (t : Result (TaskParts × List ℕ) (List ℕ)).
-    OrRefused t (λ of. IsJudged of.0 of.1) said) task answers))
+    (λ said answers. go said answers)
+  where
+    go : (said : Said) → AnswersReading (Read (Journal journal)) texts said
+        → CanHold (HasRoom shelf) said.outputs × CanTake sink (length said.report)
+    go said (inl answer) =
+        count_fits journal shelf sink texts parts text events has is short said
+        (subst (λ (t : Result (TaskParts × List ℕ) (List ℕ)).
+        OrRefused t (λ of. IsJudged of.0 of.1) said) task answer)
+    go said (inr stop) = stop_fits (Read (Journal journal)) shelf sink texts has said stop

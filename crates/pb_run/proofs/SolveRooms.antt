@@ -35,13 +35,14 @@ use Rattle.pb_answer.specs.Engines.{engine_asked, Left, FindsIn}
 use Rattle.pb_answer.specs.Claims.{IsCertificate, journal_outputs_if_any}
 use Rattle.pb_answer.specs.Answer.{Said, IsFound, OrRefused}
 use Rattle.pb_run.specs.Calls.{CanHold}
+use Rattle.pb_run.specs.Answers.{AnswersReading}
 use Rattle.pb_run.specs.InMemory.{HasRoomFor}
 use Rattle.pb_run.specs.Rooms.{HasTextsAndLine, most_rows, most_of_certificate, most_of_journal, NamesAreWithin, HasSearchRoom, SolvesAreServed}
 use Rattle.pb_run.proofs.InMemory.{can_hold}
 use Rattle.pb_run.proofs.Lengths.{plan_report_long, stopped_long, IsSmallPlan, IsSmallPlanIfAny, IsSmallChoice, certificate_long}
 use Rattle.pb_run.proofs.Rows.{traces_are_short}
 use Rattle.pb_run.proofs.LeftRows.{few_actions, AreWithin, IsShort, rows_are_small, quiet_is_within, journal_is_short}
-use Rattle.pb_run.proofs.Rooms.{serves, takes}
+use Rattle.pb_run.proofs.Rooms.{serves, takes, stop_fits}
 
 -- ---- room
 
@@ -272,6 +273,11 @@ module _ (lengths : JournalTextsAreShort) (solve : SolveMeaning) (shelf : ShelfV
 pub solves_are_served : JournalTextsAreShort → SolvesAreServed
 solves_are_served lengths solve shelf sink texts parts longest has task lawful range names room =
     serves (Read (Solve solve)) shelf sink texts has refl
-    (λ said answers.
-    found_fits lengths solve shelf sink texts parts longest has lawful range names room said
-    (subst (λ (t : Result TaskParts (List ℕ)). OrRefused t (IsFound solve) said) task answers))
+    (λ said answers. go said answers)
+  where
+    go : (said : Said) → AnswersReading (Read (Solve solve)) texts said
+        → CanHold (HasRoom shelf) said.outputs × CanTake sink (length said.report)
+    go said (inl answer) =
+        found_fits lengths solve shelf sink texts parts longest has lawful range names room said
+        (subst (λ (t : Result TaskParts (List ℕ)). OrRefused t (IsFound solve) said) task answer)
+    go said (inr stop) = stop_fits (Read (Solve solve)) shelf sink texts has said stop

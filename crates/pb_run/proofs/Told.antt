@@ -28,7 +28,7 @@ use Rattle.pb_answer.specs.Falling.{IsFallingFound}
 use Rattle.pb_answer.specs.Answer.{Said, Says, Saves, IsSolved, IsUnsolvable, IsStopped, IsFound, IsChecked, IsJudged, IsRefused, OrRefused}
 use Rattle.pb_run.specs.Makes.{MakesPlan, MakesNone, MakesStop}
 use Rattle.pb_run.specs.Answers.{IsMade, AnswersReading}
-use Rattle.pb_run.specs.Outcome.{Outcome, IsAnswer, AnswersOneOf}
+use Rattle.pb_run.specs.Outcome.{Outcome, IsAnswer, IsBroken, AnswersOneOf}
 use Rattle.pb_run.specs.Headline.{PlanIsPlan, NoneIsCheaper, CertificateHolds, NoneMeansNone, StopHasCause}
 use Rattle.pb_run.specs.Commands.{IsOfVerdict, SolveHolds, CheckHolds, JournalHolds, MakeHolds, SolvesHold, ChecksHold, JournalsHold, MakesHold, RefusalHolds}
 use Rattle.pb_run.specs.Served.{IsAnswered}
@@ -36,7 +36,9 @@ use Rattle.pb_run.proofs.ByCommand.{of_refused, of_solve, of_check, of_journal, 
 use Rattle.pb_run.proofs.CallLists.{names_of, names_joined}
 use Rattle.pb_run.proofs.FallingNames.{first_runs_named}
 use Rattle.pb_run.proofs.Some.{all_are_some, some_behind, some_with}
+use Rattle.pb_answer.specs.Stops.{StopsTexts, StopsGrounding, StopsBehind}
 use Rattle.pb_answer.proofs.Callers.{never_refused, names_of_found, found_status}
+use Rattle.pb_run.proofs.Stopping.{IsStop, stop_says}
 
 module _ (texts : List (List ℕ)) (said : Said) where
   abbrev pub Done : Reading → Outcome
@@ -44,6 +46,12 @@ module _ (texts : List (List ℕ)) (said : Said) where
 
   abbrev pub Answered : Reading → Type 0
   Answered reading = AnswersReading reading texts said
+
+  abbrev pub Stopped : Reading → Type 0
+  Stopped reading = StopsTexts reading texts said
+
+  says_stop : (reading : Reading) → Stopped reading → IsStop said
+  says_stop reading stop = stop_says reading texts said stop
 
   -- ---- the names of what is saved
 
@@ -77,40 +85,49 @@ module _ (texts : List (List ℕ)) (said : Said) where
   -- ---- of a search
 
   module _ (solve : SolveMeaning) (answers : AnswersReading (Read (Solve solve)) texts said) where
-    -- how the search ended, or that the texts are refused
+    abbrev IsHalted : Type 0
+    IsHalted = StopsGrounding solve.input solve.options 0 texts said
+
+    -- how the search ended, or that the texts are refused, or that grounding was stopped
     by_end : (Q : Type 0) → ((parts : TaskParts) → solve_task solve texts ≡ Ok parts → IsSolved solve parts said → Q)
         → ((parts : TaskParts) → solve_task solve texts ≡ Ok parts → IsUnsolvable solve parts said → Q)
         → ((parts : TaskParts) → solve_task solve texts ≡ Ok parts → IsStopped solve parts said → Q)
-        → (solve_task solve texts ≡ Err said.report → IsRefused said.report said → Q) → Q
-    by_end Q solved unsolvable stopped refused = by_task (solve_task solve texts) (IsFound solve) answers Q found refused
+        → (solve_task solve texts ≡ Err said.report → IsRefused said.report said → Q) → (IsHalted → Q) → Q
+    by_end Q solved unsolvable stopped refused halted = go answers
       where
         found : (parts : TaskParts) → solve_task solve texts ≡ Ok parts → IsFound solve parts said → Q
         found parts is (inl h) = solved parts is h
         found parts is (inr (inl h)) = unsolvable parts is h
         found parts is (inr (inr h)) = stopped parts is h
 
+        go : AnswersReading (Read (Solve solve)) texts said → Q
+        go (inl ends) = by_task (solve_task solve texts) (IsFound solve) ends Q found refused
+        go (inr stop) = halted stop
+
     search_known : IsAnswer said.status
-    search_known = by_end (IsAnswer said.status) (λ parts is h. inl h.0) (λ parts is h. inr (inl h.0)) (λ parts is h. inr (inr (inl h.0))) (λ is h. inr (inr (inr (inr (inr h.0)))))
+    search_known = by_end (IsAnswer said.status) (λ parts is h. inl h.0) (λ parts is h. inr (inl h.0)) (λ parts is h. inr (inr (inl h.0))) (λ is h. inr (inr (inr (inr (inr h.0))))) (λ h. inr (inr (inl h.status)))
 
     of_zero : (P : TaskParts → Type 0) → ((parts : TaskParts) → IsSolved solve parts said → P parts) → said.status ≡ 0 → OfTexts solve texts P
     of_zero P f zero = by_end (OfTexts solve texts P) (λ parts is h. (parts, is, f parts h))
         (λ parts is h. absurd (omega (arith, zero, h.0))) (λ parts is h. absurd (omega (arith, zero, h.0))) (λ is h. absurd (omega (arith, zero, h.0)))
+        (λ h. absurd (omega (arith, zero, h.status)))
 
     of_one : (P : TaskParts → Type 0) → ((parts : TaskParts) → IsUnsolvable solve parts said → P parts) → said.status ≡ 1 → OfTexts solve texts P
     of_one P f one = by_end (OfTexts solve texts P) (λ parts is h. absurd (omega (arith, one, h.0)))
         (λ parts is h. (parts, is, f parts h)) (λ parts is h. absurd (omega (arith, one, h.0))) (λ is h. absurd (omega (arith, one, h.0)))
+        (λ h. absurd (omega (arith, one, h.status)))
 
-    of_two : (P : TaskParts → Type 0) → ((parts : TaskParts) → IsStopped solve parts said → P parts) → said.status ≡ 2 → OfTexts solve texts P
-    of_two P f two = by_end (OfTexts solve texts P) (λ parts is h. absurd (omega (arith, two, h.0)))
-        (λ parts is h. absurd (omega (arith, two, h.0))) (λ parts is h. (parts, is, f parts h)) (λ is h. absurd (omega (arith, two, h.0)))
+    at_two : (Q : Type 0) → ((parts : TaskParts) → solve_task solve texts ≡ Ok parts → IsStopped solve parts said → Q) → (IsHalted → Q) → said.status ≡ 2 → Q
+    at_two Q stopped halted two = by_end Q (λ parts is h. absurd (omega (arith, two, h.0)))
+        (λ parts is h. absurd (omega (arith, two, h.0))) stopped (λ is h. absurd (omega (arith, two, h.0))) halted
 
     search_statuses : AnswersOneOf (0 ∷ 1 ∷ 2 ∷ 65 ∷ []) (Done (Read (Solve solve)))
     search_statuses = by_end (AnswersOneOf (0 ∷ 1 ∷ 2 ∷ 65 ∷ []) (Done (Read (Solve solve)))) (λ parts is h. inl (inl h.0)) (λ parts is h. inl (inr (inl h.0)))
-        (λ parts is h. inl (inr (inr (inl h.0)))) (λ is h. inl (inr (inr (inr (inl h.0)))))
+        (λ parts is h. inl (inr (inr (inl h.0)))) (λ is h. inl (inr (inr (inr (inl h.0))))) (λ h. inl (inr (inr (inl h.status))))
 
     solve_refused : said.status ≡ 65 → solve_task solve texts ≡ Err said.report
     solve_refused e = by_end (solve_task solve texts ≡ Err said.report) (λ parts is h. absurd (omega (arith, e, h.0)))
-        (λ parts is h. absurd (omega (arith, e, h.0))) (λ parts is h. absurd (omega (arith, e, h.0))) (λ is h. is)
+        (λ parts is h. absurd (omega (arith, e, h.0))) (λ parts is h. absurd (omega (arith, e, h.0))) (λ is h. is) (λ h. absurd (omega (arith, e, h.status)))
 
     -- ---- what is saved
 
@@ -146,18 +163,30 @@ module _ (texts : List (List ℕ)) (said : Said) where
     solve_named : AreNamed (Read (Solve solve))
     solve_named = by_end (AreNamed (Read (Solve solve))) (λ parts is h. certified_named parts (Some h.1.0) h.1.6)
         (λ parts is h. certified_named parts None h.3) (λ parts is h. stopped_named parts h.2) (λ is h. none_named (Read (Solve solve)) h.2)
+        (λ h. none_named (Read (Solve solve)) h.outputs)
 
     solve_saves_none : (said.status ≡ 0 → ⊥) → (said.status ≡ 1 → ⊥) → (said.status ≡ 2 → ⊥) → said.outputs ≡ []
     solve_saves_none not_zero not_one not_two = by_end (said.outputs ≡ []) (λ parts is h. absurd (not_zero h.0))
-        (λ parts is h. absurd (not_one h.0)) (λ parts is h. absurd (not_two h.0)) (λ is h. h.2)
+        (λ parts is h. absurd (not_one h.0)) (λ parts is h. absurd (not_two h.0)) (λ is h. h.2) (λ h. h.outputs)
 
-    solve_answered : IsAnswered (Read (Solve solve)) texts said.status
-    solve_answered parts is = go (of_task (solve_task solve texts) (IsFound solve) answers parts is)
+    solve_answered : IsAnswered (Read (Solve solve)) texts said
+    solve_answered parts is = go answers
       where
-        go : IsFound solve parts said → (said.status ≡ 0) ⊎ ((said.status ≡ 1) ⊎ ((said.status ≡ 2) ⊎ (said.status ≡ 71)))
-        go (inl found) = inl found.0
-        go (inr (inl none)) = inr (inl none.0)
-        go (inr (inr stop)) = inr (inr (inl stop.0))
+        ends : IsFound solve parts said → (said.status ≡ 0) ⊎ ((said.status ≡ 1) ⊎ ((said.status ≡ 2) ⊎ (said.status ≡ 71)))
+        ends (inl found) = inl found.0
+        ends (inr (inl none)) = inr (inl none.0)
+        ends (inr (inr stop)) = inr (inr (inl stop.0))
+
+        go : AnswersReading (Read (Solve solve)) texts said → (said.status ≡ 0) ⊎ ((said.status ≡ 1) ⊎ ((said.status ≡ 2) ⊎ (said.status ≡ 71)))
+        go (inl found) = ends (of_task (solve_task solve texts) (IsFound solve) found parts is)
+        go (inr stop) = inr (inr (inl stop.status))
+
+    solve_refuses : (report : List ℕ) → solve_task solve texts ≡ Err report → (said.status ≡ 65) ⊎ IsHalted
+    solve_refuses report is = go answers
+      where
+        go : AnswersReading (Read (Solve solve)) texts said → (said.status ≡ 65) ⊎ IsHalted
+        go (inl ends) = inl (refuses (solve_task solve texts) (IsFound solve) ends report is)
+        go (inr stop) = inr stop
 
   -- ---- of a search with falling weights
 
@@ -165,10 +194,17 @@ module _ (texts : List (List ℕ)) (said : Said) where
     abbrev IsFallingOf : TaskParts → Said → Type 0
     IsFallingOf task all = (parts : List AnswerPart) × IsFallingFound falling.solve task falling.steps all parts
 
-    -- what was found, or that the texts are refused
+    abbrev IsFallingHalted : Type 0
+    IsFallingHalted = StopsGrounding falling.solve.input falling.solve.options 0 texts said
+
+    -- what was found, or that the texts are refused, or that grounding was stopped
     by_falling : (Q : Type 0) → ((task : TaskParts) (parts : List AnswerPart) → IsFallingFound falling.solve task falling.steps said parts → Q)
-        → (solve_task falling.solve texts ≡ Err said.report → IsRefused said.report said → Q) → Q
-    by_falling Q found refused = by_task (solve_task falling.solve texts) IsFallingOf answers Q (λ task is h. found task h.0 h.1) refused
+        → (solve_task falling.solve texts ≡ Err said.report → IsRefused said.report said → Q) → (IsFallingHalted → Q) → Q
+    by_falling Q found refused halted = go answers
+      where
+        go : AnswersReading (Read (Falling falling)) texts said → Q
+        go (inl ends) = by_task (solve_task falling.solve texts) IsFallingOf ends Q (λ task is h. found task h.0 h.1) refused
+        go (inr stop) = halted stop
 
     abbrev IsSearched : Type 0
     IsSearched = (said.status ≡ 0) ⊎ ((said.status ≡ 1) ⊎ (said.status ≡ 2))
@@ -183,6 +219,7 @@ module _ (texts : List (List ℕ)) (said : Said) where
 
     falling_known : IsAnswer said.status
     falling_known = by_falling (IsAnswer said.status) (λ task parts found. searched_known (status_of task parts found)) (λ is h. inr (inr (inr (inr (inr h.0)))))
+        (λ h. inr (inr (inl h.status)))
 
     not_refused : IsSearched → said.status ≢ 65
     not_refused (inl is) e = omega (arith, is, e)
@@ -191,29 +228,36 @@ module _ (texts : List (List ℕ)) (said : Said) where
 
     falling_refused : said.status ≡ 65 → solve_task falling.solve texts ≡ Err said.report
     falling_refused e = by_falling (solve_task falling.solve texts ≡ Err said.report)
-        (λ task parts found. absurd (not_refused (status_of task parts found) e)) (λ is h. is)
+        (λ task parts found. absurd (not_refused (status_of task parts found) e)) (λ is h. is) (λ h. absurd (omega (arith, e, h.status)))
 
     falling_saves_none : said.status ≡ 65 → said.outputs ≡ []
     falling_saves_none e = by_falling (said.outputs ≡ []) (λ task parts found. absurd (not_refused (status_of task parts found) e)) (λ is h. h.2)
+        (λ h. h.outputs)
 
     falling_named : AreNamed (Read (Falling falling))
     falling_named = by_falling (AreNamed (Read (Falling falling)))
         (λ task parts found. subst (λ (os : List Output). AreSomeOf (names_of os) (saved_names (Read (Falling falling)))) (sym found.outputs)
         (first_runs_named falling.solve falling.steps (outputs_of parts) (names_of_found falling.solve task falling.steps said parts found)))
-        (λ is h. none_named (Read (Falling falling)) h.2)
+        (λ is h. none_named (Read (Falling falling)) h.2) (λ h. none_named (Read (Falling falling)) h.outputs)
 
-    falling_answered : IsAnswered (Read (Falling falling)) texts said.status
-    falling_answered task is =
-        let found = of_task (solve_task falling.solve texts) IsFallingOf answers task is in
-        go (status_of task found.0 found.1)
+    falling_answered : IsAnswered (Read (Falling falling)) texts said
+    falling_answered task is = go answers
       where
-        go : IsSearched → (said.status ≡ 0) ⊎ ((said.status ≡ 1) ⊎ ((said.status ≡ 2) ⊎ (said.status ≡ 71)))
-        go (inl h) = inl h
-        go (inr (inl h)) = inr (inl h)
-        go (inr (inr h)) = inr (inr (inl h))
+        ends : IsSearched → (said.status ≡ 0) ⊎ ((said.status ≡ 1) ⊎ ((said.status ≡ 2) ⊎ (said.status ≡ 71)))
+        ends (inl h) = inl h
+        ends (inr (inl h)) = inr (inl h)
+        ends (inr (inr h)) = inr (inr (inl h))
 
-    falling_refuses : (report : List ℕ) → solve_task falling.solve texts ≡ Err report → said.status ≡ 65
-    falling_refuses report is = refuses (solve_task falling.solve texts) IsFallingOf answers report is
+        go : AnswersReading (Read (Falling falling)) texts said → (said.status ≡ 0) ⊎ ((said.status ≡ 1) ⊎ ((said.status ≡ 2) ⊎ (said.status ≡ 71)))
+        go (inl answer) = let found = of_task (solve_task falling.solve texts) IsFallingOf answer task is in ends (status_of task found.0 found.1)
+        go (inr stop) = inr (inr (inl stop.status))
+
+    falling_refuses : (report : List ℕ) → solve_task falling.solve texts ≡ Err report → (said.status ≡ 65) ⊎ IsFallingHalted
+    falling_refuses report is = go answers
+      where
+        go : AnswersReading (Read (Falling falling)) texts said → (said.status ≡ 65) ⊎ IsFallingHalted
+        go (inl ends) = inl (refuses (solve_task falling.solve texts) IsFallingOf ends report is)
+        go (inr stop) = inr stop
 
   -- ---- of a text that is accepted or rejected: a certificate, or a journal
 
@@ -221,69 +265,98 @@ module _ (texts : List (List ℕ)) (said : Said) where
   abbrev Judged : Type 0
   Judged = Result (TaskParts × List ℕ) (List ℕ)
 
-  -- `anew` is what is saved of an accepted text
-  module _ (task : Judged) (Good Bad : (says : List ℕ → Type 0) → TaskParts → List ℕ → Type 0) (anew : TaskParts → List ℕ → List Output) where
+  -- `anew` is what is saved of an accepted text, and `Halts` that grounding was stopped
+  module _ (task : Judged) (Good Bad : (says : List ℕ → Type 0) → TaskParts → List ℕ → Type 0) (anew : TaskParts → List ℕ → List Output) (Halts : Type 0) (says_it : Halts → IsStop said) where
     abbrev IsVerdict : TaskParts × List ℕ → Said → Type 0
     IsVerdict t s = ((s.status ≡ 0) × Saves s (anew t.0 t.1) × Good (Says s) t.0 t.1) ⊎ ((s.status ≡ 3) × Saves s [] × Bad (Says s) t.0 t.1)
 
     abbrev Holds : (P : TaskParts → List ℕ → Type 0) → Type 0
     Holds P = (parts : TaskParts) × (text : List ℕ) × (task ≡ Ok (parts, text)) × P parts text
 
-    module _ (answers : OrRefused task IsVerdict said) where
-      -- whether the text is accepted or rejected, or the texts are refused
+    -- a stop has no other status
+    not_at : (k : ℕ) → k ≢ 2 → Halts → said.status ≢ k
+    not_at k other stop e = other (sym e ∙ (says_it stop).0)
+
+    module _ (answers : OrRefused task IsVerdict said ⊎ Halts) where
+      -- whether the text is accepted or rejected, or the texts are refused, or grounding was stopped
       by_verdict : (Q : Type 0) → ((parts : TaskParts) (text : List ℕ) → task ≡ Ok (parts, text) → (said.status ≡ 0) × Saves said (anew parts text) × Good (Says said) parts text → Q)
           → ((parts : TaskParts) (text : List ℕ) → task ≡ Ok (parts, text) → (said.status ≡ 3) × Saves said [] × Bad (Says said) parts text → Q)
-          → (task ≡ Err said.report → IsRefused said.report said → Q) → Q
-      by_verdict Q good bad refused = by_task task IsVerdict answers Q judged refused
+          → (task ≡ Err said.report → IsRefused said.report said → Q) → (Halts → Q) → Q
+      by_verdict Q good bad refused halted = go answers
         where
           judged : (t : TaskParts × List ℕ) → task ≡ Ok t → IsVerdict t said → Q
           judged (parts, text) is (inl h) = good parts text is h
           judged (parts, text) is (inr h) = bad parts text is h
 
+          go : OrRefused task IsVerdict said ⊎ Halts → Q
+          go (inl verdict) = by_task task IsVerdict verdict Q judged refused
+          go (inr stop) = halted stop
+
       verdict_known : IsAnswer said.status
       verdict_known = by_verdict (IsAnswer said.status) (λ parts text is h. inl h.0) (λ parts text is h. inr (inr (inr (inl h.0)))) (λ is h. inr (inr (inr (inr (inr h.0)))))
+          (λ stop. inr (inr (inl (says_it stop).0)))
 
       accepted : said.status ≡ 0 → Holds (Good (Says said))
       accepted zero = by_verdict (Holds (Good (Says said))) (λ parts text is h. (parts, text, is, h.2)) (λ parts text is h. absurd (omega (arith, zero, h.0)))
-          (λ is h. absurd (omega (arith, zero, h.0)))
+          (λ is h. absurd (omega (arith, zero, h.0))) (λ stop. absurd (not_at 0 (λ e. omega (arith, e)) stop zero))
 
       rejected : said.status ≡ 3 → Holds (Bad (Says said))
       rejected three = by_verdict (Holds (Bad (Says said))) (λ parts text is h. absurd (omega (arith, three, h.0))) (λ parts text is h. (parts, text, is, h.2))
-          (λ is h. absurd (omega (arith, three, h.0)))
+          (λ is h. absurd (omega (arith, three, h.0))) (λ stop. absurd (not_at 3 (λ e. omega (arith, e)) stop three))
 
-      verdict_statuses : (reading : Reading) → AnswersOneOf (0 ∷ 3 ∷ 65 ∷ []) (Done reading)
-      verdict_statuses reading = by_verdict (AnswersOneOf (0 ∷ 3 ∷ 65 ∷ []) (Done reading)) (λ parts text is h. inl (inl h.0)) (λ parts text is h. inl (inr (inl h.0)))
-          (λ is h. inl (inr (inr (inl h.0))))
+      verdict_statuses : (reading : Reading) → AnswersOneOf (0 ∷ 2 ∷ 3 ∷ 65 ∷ []) (Done reading)
+      verdict_statuses reading = by_verdict (AnswersOneOf (0 ∷ 2 ∷ 3 ∷ 65 ∷ []) (Done reading)) (λ parts text is h. inl (inl h.0)) (λ parts text is h. inl (inr (inr (inl h.0))))
+          (λ is h. inl (inr (inr (inr (inl h.0))))) (λ stop. inl (inr (inl (says_it stop).0)))
+
+      verdict_stopped : said.status ≡ 2 → Halts
+      verdict_stopped two = by_verdict Halts (λ parts text is h. absurd (omega (arith, two, h.0))) (λ parts text is h. absurd (omega (arith, two, h.0)))
+          (λ is h. absurd (omega (arith, two, h.0))) (λ stop. stop)
 
       verdict_refused : said.status ≡ 65 → task ≡ Err said.report
       verdict_refused e = by_verdict (task ≡ Err said.report) (λ parts text is h. absurd (omega (arith, e, h.0))) (λ parts text is h. absurd (omega (arith, e, h.0))) (λ is h. is)
+          (λ stop. absurd (not_at 65 (λ e. omega (arith, e)) stop e))
+
+      verdict_refuses : (report : List ℕ) → task ≡ Err report → (said.status ≡ 65) ⊎ Halts
+      verdict_refuses report is = go answers
+        where
+          go : OrRefused task IsVerdict said ⊎ Halts → (said.status ≡ 65) ⊎ Halts
+          go (inl verdict) = inl (refuses task IsVerdict verdict report is)
+          go (inr stop) = inr stop
 
       refusal_saves : said.status ≡ 65 → said.outputs ≡ []
-      refusal_saves e = by_verdict (said.outputs ≡ []) (λ parts text is h. absurd (omega (arith, e, h.0))) (λ parts text is h. h.1) (λ is h. h.2)
+      refusal_saves e = by_verdict (said.outputs ≡ []) (λ parts text is h. absurd (omega (arith, e, h.0))) (λ parts text is h. h.1) (λ is h. h.2) (λ stop. (says_it stop).2)
 
       rejected_saves : said.status ≡ 3 → said.outputs ≡ []
-      rejected_saves three = by_verdict (said.outputs ≡ []) (λ parts text is h. absurd (omega (arith, three, h.0))) (λ parts text is h. h.1) (λ is h. h.2)
+      rejected_saves three = by_verdict (said.outputs ≡ []) (λ parts text is h. absurd (omega (arith, three, h.0))) (λ parts text is h. h.1) (λ is h. h.2) (λ stop. (says_it stop).2)
 
       verdict_saves : (parts : TaskParts) (text : List ℕ) → task ≡ Ok (parts, text) → said.status ≡ 0 → said.outputs ≡ anew parts text
-      verdict_saves parts text is zero = go (of_task task IsVerdict answers (parts, text) is)
+      verdict_saves parts text is zero = go answers
         where
-          go : IsVerdict (parts, text) said → said.outputs ≡ anew parts text
-          go (inl h) = h.1
-          go (inr h) = absurd (omega (arith, zero, h.0))
+          saved : IsVerdict (parts, text) said → said.outputs ≡ anew parts text
+          saved (inl h) = h.1
+          saved (inr h) = absurd (omega (arith, zero, h.0))
+
+          go : OrRefused task IsVerdict said ⊎ Halts → said.outputs ≡ anew parts text
+          go (inl verdict) = saved (of_task task IsVerdict verdict (parts, text) is)
+          go (inr stop) = absurd (not_at 0 (λ e. omega (arith, e)) stop zero)
 
       -- what is saved has names among these, if what is saved anew has
       verdict_named : (reading : Reading) → ((parts : TaskParts) (text : List ℕ) → AreSomeOf (names_of (anew parts text)) (saved_names reading)) → AreNamed reading
       verdict_named reading named =
           by_verdict (AreNamed reading) (λ parts text is h. subst (λ (os : List Output). AreSomeOf (names_of os) (saved_names reading)) (sym h.1) (named parts text))
-          (λ parts text is h. none_named reading h.1) (λ is h. none_named reading h.2)
+          (λ parts text is h. none_named reading h.1) (λ is h. none_named reading h.2) (λ stop. none_named reading (says_it stop).2)
 
-      -- what is not rejected is accepted
-      verdict_answered : (parts : TaskParts) (text : List ℕ) → task ≡ Ok (parts, text) → (Bad (Says said) parts text → ⊥) → said.status ≡ 0
-      verdict_answered parts text is not_bad = go (of_task task IsVerdict answers (parts, text) is)
+      -- what is not rejected is accepted, unless grounding was stopped
+      verdict_answered : (parts : TaskParts) (text : List ℕ) → task ≡ Ok (parts, text) → (Bad (Says said) parts text → ⊥) → (said.status ≡ 0) ⊎ Halts
+      verdict_answered parts text is not_bad = go answers
         where
-          go : IsVerdict (parts, text) said → said.status ≡ 0
-          go (inl h) = h.0
-          go (inr h) = absurd (not_bad h.2)
+          good : IsVerdict (parts, text) said → said.status ≡ 0
+          good (inl h) = h.0
+          good (inr h) = absurd (not_bad h.2)
+
+          go : OrRefused task IsVerdict said ⊎ Halts → (said.status ≡ 0) ⊎ Halts
+          go (inl verdict) = inl (good (of_task task IsVerdict verdict (parts, text) is))
+          go (inr stop) = inr stop
 
   -- ---- of a task that is made
 
@@ -318,7 +391,7 @@ module _ (texts : List (List ℕ)) (said : Said) where
     made_saves_none : said.outputs ≡ []
     made_saves_none = by_made (said.outputs ≡ []) (λ h. h.1) (λ h. h.1) (λ h. h.1)
 
-    made_answered : IsAnswered (Read (Make make)) texts said.status
+    made_answered : IsAnswered (Read (Make make)) texts said
     made_answered = by_made ((said.status ≡ 0) ⊎ ((said.status ≡ 1) ⊎ ((said.status ≡ 2) ⊎ (said.status ≡ 71)))) (λ h. inl h.0) (λ h. inr (inl h.0)) (λ h. inr (inr (inl h.0)))
 
   -- ---- which statuses there are
@@ -327,8 +400,8 @@ module _ (texts : List (List ℕ)) (said : Said) where
   known (Refused fault) answers = inr (inr (inr (inr (inl answers.0))))
   known (Read (Solve solve)) answers = search_known solve answers
   known (Read (Falling falling)) answers = falling_known falling answers
-  known (Read (Check check)) answers = verdict_known (check_task check texts) Accepts Rejects (rewritten_outputs check) answers
-  known (Read (Journal journal)) answers = verdict_known (journal_task journal texts) AcceptsJournal RejectsJournal (λ parts text. []) answers
+  known (Read (Check check)) answers = verdict_known (check_task check texts) Accepts Rejects (rewritten_outputs check) (Stopped (Read (Check check))) (says_stop (Read (Check check))) answers
+  known (Read (Journal journal)) answers = verdict_known (journal_task journal texts) AcceptsJournal RejectsJournal (λ parts text. []) (Stopped (Read (Journal journal))) (says_stop (Read (Journal journal))) answers
   known (Read (Make make)) answers = made_known make answers
 
   -- ---- the promises to whoever solves
@@ -368,11 +441,11 @@ module _ (texts : List (List ℕ)) (said : Said) where
   pub stopped : (reading : Reading) → Answered reading → StopHasCause (Done reading)
   stopped = of_solve Answered _ at
     where
-      at : (solve : SolveMeaning) → Answered (Read (Solve solve)) → said.status ≡ 2 → Says said (stopped_report solve.settings.budget) × OfTexts solve texts (Stops (Saves said) solve)
-      at solve answers two = (
-        said_alone solve (stopped_report solve.settings.budget) (of_two solve answers (λ parts. Says said (stopped_report solve.settings.budget)) (λ parts is. is.1) two),
-        of_two solve answers (Stops (Saves said) solve) (λ parts is. is.2) two,
-      )
+      Cause : SolveMeaning → Type 0
+      Cause solve = (Says said (stopped_report solve.settings.budget) × OfTexts solve texts (Stops (Saves said) solve)) ⊎ StopsGrounding solve.input solve.options 0 texts said
+
+      at : (solve : SolveMeaning) → Answered (Read (Solve solve)) → said.status ≡ 2 → Cause solve
+      at solve answers two = at_two solve answers (Cause solve) (λ parts is h. inl (h.1, (parts, is, h.2))) (λ stop. inr stop) two
 
   -- ---- command by command
 
@@ -389,25 +462,37 @@ module _ (texts : List (List ℕ)) (said : Said) where
       decided check parts certificate (inl valid) = subst (λ v. IsOfVerdict v said.status) (sym valid.2.2) (inl valid.0)
       decided check parts certificate (inr faulty) = subst (λ v. IsOfVerdict v said.status) (sym faulty.2.2) (inl faulty.0)
 
+      exactly : (check : CheckMeaning) (parts : TaskParts) (certificate : List ℕ) → check_task check texts ≡ Ok (parts, certificate) → Answered (Read (Check check))
+          → IsOfVerdict (checked parts certificate) said.status ⊎ StopsBehind check.input check.options texts said
+      exactly check parts certificate is (inl verdict) =
+          inl (decided check parts certificate (of_task (check_task check texts) (λ t. IsChecked check t.0 t.1) verdict (parts, certificate) is))
+      exactly check parts certificate is (inr stop) = inr stop
+
       at : (check : CheckMeaning) → Answered (Read (Check check)) → CheckHolds check (Done reading)
       at check answers = record {
-        accepted = accepted (check_task check texts) Accepts Rejects (rewritten_outputs check) answers;
-        rejected = rejected (check_task check texts) Accepts Rejects (rewritten_outputs check) answers;
-        exact = λ parts certificate is. decided check parts certificate (of_task (check_task check texts) (λ t. IsChecked check t.0 t.1) answers (parts, certificate) is);
-        rewritten = λ parts certificate is zero. verdict_saves (check_task check texts) Accepts Rejects (rewritten_outputs check) answers parts certificate is zero;
-        unsaved = rejected_saves (check_task check texts) Accepts Rejects (rewritten_outputs check) answers;
-        statuses = verdict_statuses (check_task check texts) Accepts Rejects (rewritten_outputs check) answers (Read (Check check));
+        accepted = accepted (check_task check texts) Accepts Rejects (rewritten_outputs check) (Stopped (Read (Check check))) (says_stop (Read (Check check))) answers;
+        rejected = rejected (check_task check texts) Accepts Rejects (rewritten_outputs check) (Stopped (Read (Check check))) (says_stop (Read (Check check))) answers;
+        exact = λ parts certificate is. exactly check parts certificate is answers;
+        rewritten = λ parts certificate is zero. verdict_saves (check_task check texts) Accepts Rejects (rewritten_outputs check) (Stopped (Read (Check check))) (says_stop (Read (Check check))) answers parts certificate is zero;
+        unsaved = rejected_saves (check_task check texts) Accepts Rejects (rewritten_outputs check) (Stopped (Read (Check check))) (says_stop (Read (Check check))) answers;
+        stopped = verdict_stopped (check_task check texts) Accepts Rejects (rewritten_outputs check) (Stopped (Read (Check check))) (says_stop (Read (Check check))) answers;
+        statuses = verdict_statuses (check_task check texts) Accepts Rejects (rewritten_outputs check) (Stopped (Read (Check check))) (says_stop (Read (Check check))) answers (Read (Check check));
       }
 
   pub judged_text : (reading : Reading) → Answered reading → JournalsHold (Done reading)
   judged_text reading given = of_journal Answered _ at reading given
     where
+      either : (journal : JournalMeaning) → (said.status ≡ 0) ⊎ Stopped (Read (Journal journal)) → (said.status ≡ 0) ⊎ (Stopped (Read (Journal journal)) ⊎ IsBroken said.status)
+      either journal (inl zero) = inl zero
+      either journal (inr stop) = inr (inl stop)
+
       at : (journal : JournalMeaning) → Answered (Read (Journal journal)) → JournalHolds journal (Done reading)
       at journal answers = record {
-        accepted = accepted (journal_task journal texts) AcceptsJournal RejectsJournal (λ parts text. []) answers;
-        rejected = rejected (journal_task journal texts) AcceptsJournal RejectsJournal (λ parts text. []) answers;
-        exact = λ parts text events is legal. inl (verdict_answered (journal_task journal texts) AcceptsJournal RejectsJournal (λ parts text. []) answers parts text is (λ bad. bad.4 events legal));
-        statuses = verdict_statuses (journal_task journal texts) AcceptsJournal RejectsJournal (λ parts text. []) answers (Read (Journal journal));
+        accepted = accepted (journal_task journal texts) AcceptsJournal RejectsJournal (λ parts text. []) (Stopped (Read (Journal journal))) (says_stop (Read (Journal journal))) answers;
+        rejected = rejected (journal_task journal texts) AcceptsJournal RejectsJournal (λ parts text. []) (Stopped (Read (Journal journal))) (says_stop (Read (Journal journal))) answers;
+        exact = λ parts text events is legal. either journal (verdict_answered (journal_task journal texts) AcceptsJournal RejectsJournal (λ parts text. []) (Stopped (Read (Journal journal))) (says_stop (Read (Journal journal))) answers parts text is (λ bad. bad.4 events legal));
+        stopped = verdict_stopped (journal_task journal texts) AcceptsJournal RejectsJournal (λ parts text. []) (Stopped (Read (Journal journal))) (says_stop (Read (Journal journal))) answers;
+        statuses = verdict_statuses (journal_task journal texts) AcceptsJournal RejectsJournal (λ parts text. []) (Stopped (Read (Journal journal))) (says_stop (Read (Journal journal))) answers (Read (Journal journal));
       }
 
   pub made : (reading : Reading) → Answered reading → MakesHold (Done reading)
@@ -423,16 +508,16 @@ module _ (texts : List (List ℕ)) (said : Said) where
   input_refused (Refused fault) answers = λ e. omega (arith, e, answers.0)
   input_refused (Read (Solve solve)) answers = solve_refused solve answers
   input_refused (Read (Falling falling)) answers = falling_refused falling answers
-  input_refused (Read (Check check)) answers = verdict_refused (check_task check texts) Accepts Rejects (rewritten_outputs check) answers
-  input_refused (Read (Journal journal)) answers = verdict_refused (journal_task journal texts) AcceptsJournal RejectsJournal (λ parts text. []) answers
+  input_refused (Read (Check check)) answers = verdict_refused (check_task check texts) Accepts Rejects (rewritten_outputs check) (Stopped (Read (Check check))) (says_stop (Read (Check check))) answers
+  input_refused (Read (Journal journal)) answers = verdict_refused (journal_task journal texts) AcceptsJournal RejectsJournal (λ parts text. []) (Stopped (Read (Journal journal))) (says_stop (Read (Journal journal))) answers
   input_refused (Read (Make make)) answers = λ e. absurd (made_is_read make answers e)
 
-  always_refused : (reading : Reading) → Answered reading → (report : List ℕ) → RefusesTexts reading texts report → said.status ≡ 65
+  always_refused : (reading : Reading) → Answered reading → (report : List ℕ) → RefusesTexts reading texts report → (said.status ≡ 65) ⊎ Stopped reading
   always_refused (Refused fault) answers report refused = absurd refused
-  always_refused (Read (Solve solve)) answers report is = refuses (solve_task solve texts) (IsFound solve) answers report is
+  always_refused (Read (Solve solve)) answers report is = solve_refuses solve answers report is
   always_refused (Read (Falling falling)) answers report is = falling_refuses falling answers report is
-  always_refused (Read (Check check)) answers report is = refuses (check_task check texts) (λ t. IsChecked check t.0 t.1) answers report is
-  always_refused (Read (Journal journal)) answers report is = refuses (journal_task journal texts) (λ t. IsJudged t.0 t.1) answers report is
+  always_refused (Read (Check check)) answers report is = verdict_refuses (check_task check texts) Accepts Rejects (rewritten_outputs check) (Stopped (Read (Check check))) (says_stop (Read (Check check))) answers report is
+  always_refused (Read (Journal journal)) answers report is = verdict_refuses (journal_task journal texts) AcceptsJournal RejectsJournal (λ parts text. []) (Stopped (Read (Journal journal))) (says_stop (Read (Journal journal))) answers report is
   always_refused (Read (Make make)) answers report refused = absurd refused
 
   -- ---- what is saved
@@ -442,48 +527,56 @@ module _ (texts : List (List ℕ)) (said : Said) where
   outputs_are_named (Read (Solve solve)) answers = solve_named solve answers
   outputs_are_named (Read (Falling falling)) answers = falling_named falling answers
   outputs_are_named (Read (Check check)) answers =
-      verdict_named (check_task check texts) Accepts Rejects (rewritten_outputs check) answers (Read (Check check)) (λ parts text. text_named check.rewrite (rewritten_text parts text))
-  outputs_are_named (Read (Journal journal)) answers = verdict_named (journal_task journal texts) AcceptsJournal RejectsJournal (λ parts text. []) answers (Read (Journal journal)) (λ parts text. tt)
+      verdict_named (check_task check texts) Accepts Rejects (rewritten_outputs check) (Stopped (Read (Check check))) (says_stop (Read (Check check))) answers (Read (Check check)) (λ parts text. text_named check.rewrite (rewritten_text parts text))
+  outputs_are_named (Read (Journal journal)) answers = verdict_named (journal_task journal texts) AcceptsJournal RejectsJournal (λ parts text. []) (Stopped (Read (Journal journal))) (says_stop (Read (Journal journal))) answers (Read (Journal journal)) (λ parts text. tt)
   outputs_are_named (Read (Make make)) answers = none_named (Read (Make make)) (made_saves_none make answers)
 
   refusal_saves_none : (reading : Reading) → Answered reading → said.status ≡ 65 → said.outputs ≡ []
   refusal_saves_none (Refused fault) answers e = answers.2
   refusal_saves_none (Read (Solve solve)) answers e = solve_saves_none solve answers (λ zero. omega (arith, e, zero)) (λ one. omega (arith, e, one)) (λ two. omega (arith, e, two))
   refusal_saves_none (Read (Falling falling)) answers e = falling_saves_none falling answers e
-  refusal_saves_none (Read (Check check)) answers e = refusal_saves (check_task check texts) Accepts Rejects (rewritten_outputs check) answers e
-  refusal_saves_none (Read (Journal journal)) answers e = refusal_saves (journal_task journal texts) AcceptsJournal RejectsJournal (λ parts text. []) answers e
+  refusal_saves_none (Read (Check check)) answers e = refusal_saves (check_task check texts) Accepts Rejects (rewritten_outputs check) (Stopped (Read (Check check))) (says_stop (Read (Check check))) answers e
+  refusal_saves_none (Read (Journal journal)) answers e = refusal_saves (journal_task journal texts) AcceptsJournal RejectsJournal (λ parts text. []) (Stopped (Read (Journal journal))) (says_stop (Read (Journal journal))) answers e
   refusal_saves_none (Read (Make make)) answers e = made_saves_none make answers
 
   pub refused : ReadAsSpelled → ReadingsAreSpelled → (reading : Reading) → Answered reading → RefusalHolds (Done reading)
   refused maps boards reading answers = record {
     words = of_refused Answered _ at reading answers;
     input = input_refused reading answers;
-    input_exact = λ report is. inl (always_refused reading answers report is);
+    input_exact = λ report is. either (always_refused reading answers report is);
     spelled = λ spelled e. never_refused maps boards reading texts spelled said.report (input_refused reading answers e);
     unsaved = refusal_saves_none reading answers;
   }
     where
+      either : (said.status ≡ 65) ⊎ Stopped reading → (said.status ≡ 65) ⊎ (Stopped reading ⊎ IsBroken said.status)
+      either (inl e) = inl e
+      either (inr stop) = inr (inl stop)
+
       at : (fault : CommandFault) → Answered (Refused fault)
           → ((said.status ≡ 64) × IsPrinted fault said.report × Saves said []) ⊎ ((said.status ≡ 71) ⊎ (said.status ≡ 74))
       at fault done = inl done
 
   -- ---- completeness
 
-  pub answered : (reading : Reading) → AnswersReading reading texts said → IsAnswered reading texts said.status
+  accepts_or_stops : (reading : Reading) → (said.status ≡ 0) ⊎ Stopped reading → (said.status ≡ 0) ⊎ (Stopped reading ⊎ (said.status ≡ 71))
+  accepts_or_stops reading (inl zero) = inl zero
+  accepts_or_stops reading (inr stop) = inr (inl stop)
+
+  pub answered : (reading : Reading) → AnswersReading reading texts said → IsAnswered reading texts said
   answered (Refused fault) answers = inl answers.0
   answered (Read (Solve solve)) answers = solve_answered solve answers
   answered (Read (Falling falling)) answers = falling_answered falling answers
   answered (Read (Check check)) answers = λ parts certificate verdict is valid.
-      inl (verdict_answered (check_task check texts) Accepts Rejects (rewritten_outputs check) answers parts certificate is (λ bad. bad.3 verdict valid))
+      accepts_or_stops (Read (Check check)) (verdict_answered (check_task check texts) Accepts Rejects (rewritten_outputs check) (Stopped (Read (Check check))) (says_stop (Read (Check check))) answers parts certificate is (λ bad. bad.3 verdict valid))
   answered (Read (Journal journal)) answers = λ parts text events is legal.
-      inl (verdict_answered (journal_task journal texts) AcceptsJournal RejectsJournal (λ parts text. []) answers parts text is (λ bad. bad.4 events legal))
+      accepts_or_stops (Read (Journal journal)) (verdict_answered (journal_task journal texts) AcceptsJournal RejectsJournal (λ parts text. []) (Stopped (Read (Journal journal))) (says_stop (Read (Journal journal))) answers parts text is (λ bad. bad.4 events legal))
   answered (Read (Make make)) answers = made_answered make answers
 
 -- want of memory is an answer to all
-pub memory_answers : (reading : Reading) (texts : List (List ℕ)) (n : ℕ) → n ≡ 71 → IsAnswered reading texts n
-memory_answers (Refused fault) texts n is = inr is
-memory_answers (Read (Solve solve)) texts n is = λ parts task. inr (inr (inr is))
-memory_answers (Read (Falling falling)) texts n is = λ parts task. inr (inr (inr is))
-memory_answers (Read (Check check)) texts n is = λ parts certificate verdict task valid. inr is
-memory_answers (Read (Journal journal)) texts n is = λ parts text events task legal. inr is
-memory_answers (Read (Make make)) texts n is = inr (inr (inr is))
+pub memory_answers : (reading : Reading) (texts : List (List ℕ)) (said : Said) → said.status ≡ 71 → IsAnswered reading texts said
+memory_answers (Refused fault) texts said is = inr is
+memory_answers (Read (Solve solve)) texts said is = λ parts task. inr (inr (inr is))
+memory_answers (Read (Falling falling)) texts said is = λ parts task. inr (inr (inr is))
+memory_answers (Read (Check check)) texts said is = λ parts certificate verdict task valid. inr (inr is)
+memory_answers (Read (Journal journal)) texts said is = λ parts text events task legal. inr (inr is)
+memory_answers (Read (Make make)) texts said is = inr (inr (inr is))

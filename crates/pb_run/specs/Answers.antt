@@ -1,4 +1,5 @@
--- What is answered of a command line and of the texts that were loaded of its files.
+-- What is answered of a command line and of the texts that were loaded of its files. If a domain
+-- and a problem are read, grounding may be stopped.
 use Rattle.std.specs.Prelude.{◌≡◌, ◌⊎◌, ℕ, List, []}
 use Rattle.pb_command.specs.Meaning.{Reading, Refused, Read, Solve, Falling, Check, Journal, Make, MakeMeaning}
 use Rattle.pb_command.specs.Causes.{IsPrinted}
@@ -6,6 +7,7 @@ use Rattle.pb_answer.specs.Loaded.{solve_task, check_task, journal_task}
 use Rattle.pb_answer.specs.Answer.{Said, Says, Saves, IsFound, IsChecked, IsJudged, OrRefused}
 use Rattle.pb_answer.specs.Parts.{AnswerPart}
 use Rattle.pb_answer.specs.Falling.{IsFallingFound}
+use Rattle.pb_answer.specs.Stops.{OrStopped}
 use Rattle.pb_run.specs.Makes.{MakesPlan, MakesNone, MakesStop}
 
 -- ---- of a task that is to be made
@@ -22,13 +24,15 @@ abbrev pub AnswersReading : Reading → (texts : List (List ℕ)) → Said → T
 AnswersReading (Refused fault) texts said =
     (said.status ≡ 64) × IsPrinted fault said.report × Saves said []
 AnswersReading (Read (Solve solve)) texts said =
-    OrRefused (solve_task solve texts) (IsFound solve) said
+    OrStopped (Read (Solve solve)) texts (OrRefused (solve_task solve texts) (IsFound solve)) said
 AnswersReading (Read (Falling falling)) texts said =
-    OrRefused (solve_task falling.solve texts)
+    OrStopped (Read (Falling falling)) texts (OrRefused (solve_task falling.solve texts)
     (λ task all. (parts : List AnswerPart)
-    × IsFallingFound falling.solve task falling.steps all parts) said
+    × IsFallingFound falling.solve task falling.steps all parts)) said
 AnswersReading (Read (Check check)) texts said =
-    OrRefused (check_task check texts) (λ task. IsChecked check task.0 task.1) said
+    OrStopped (Read (Check check)) texts
+    (OrRefused (check_task check texts) (λ task. IsChecked check task.0 task.1)) said
 AnswersReading (Read (Journal journal)) texts said =
-    OrRefused (journal_task journal texts) (λ task. IsJudged task.0 task.1) said
+    OrStopped (Read (Journal journal)) texts
+    (OrRefused (journal_task journal texts) (λ task. IsJudged task.0 task.1)) said
 AnswersReading (Read (Make make)) texts said = IsMade make said

@@ -29,17 +29,18 @@ LoadsInPart files texts unloaded status =
     ⊎ ((status ≡ 73) × (length texts < files) × (unloaded ≡ Some Failed))
 
 -- Files are loaded. Then memory runs out or a load fails, and nothing is saved or put. Or the loads
--- came to their end, and the answer to their texts is saved and put.
-abbrev pub HandsOutAtOnce : Reading → (status : ℕ) → (shelf sink : List Call) → Type 0
-HandsOutAtOnce reading status shelf sink =
+-- came to their end, and the answer to their texts, with so many looks, is saved and put.
+abbrev pub HandsOutAtOnce : Reading → (status looks : ℕ) → (shelf sink : List Call) → Type 0
+HandsOutAtOnce reading status looks shelf sink =
     (texts : List (List ℕ)) × (unloaded : Option Load) × (saves : List Call)
     × (shelf ≡ load_calls (files_of reading) texts unloaded ++ saves)
     × ((LoadsInPart (length (files_of reading)) texts unloaded status × (saves ≡ []) × (sink ≡ []))
     ⊎ (EndLoads (files_of reading) texts unloaded
-    × ((said : Said) × AnswersReading reading texts said × SavesThenPuts said status saves sink)))
+    × ((said : Said) × AnswersReading reading texts said × (looks ≡ said.looks)
+    × SavesThenPuts said status saves sink)))
 
 -- If a command line asks for one part, its answer is handed out at once.
 abbrev pub OnePartIsHandedOutAtOnce : Type 0
 OnePartIsHandedOutAtOnce =
-    (reading : Reading) (status : ℕ) (shelf sink : List Call) → asks_one_part reading ≡ true
-    → Does reading status shelf sink → HandsOutAtOnce reading status shelf sink
+    (reading : Reading) (status looks : ℕ) (shelf sink : List Call) → asks_one_part reading ≡ true
+    → Does reading status looks shelf sink → HandsOutAtOnce reading status looks shelf sink

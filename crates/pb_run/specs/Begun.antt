@@ -1,6 +1,6 @@
 -- What is begun for a command line and the texts that were loaded of its files: an answer in one
 -- part, or a search with falling weights.
-use Rattle.std.specs.Prelude.{ℕ, List, [], ◌∷◌}
+use Rattle.std.specs.Prelude.{◌≡◌, ℕ, List, [], ◌∷◌}
 use Rattle.pb_command.specs.Meaning.{Reading, Refused, Read, Solve, Falling, Check, Journal, Make}
 use Rattle.pb_answer.specs.Answer.{Said, said_of}
 use Rattle.pb_answer.specs.declared.begin.FallingBegin.TheVariants.{Search}
@@ -25,6 +25,8 @@ IsFirstRun (Read (Check check)) texts search = ⊥
 IsFirstRun (Read (Journal journal)) texts search = ⊥
 IsFirstRun (Read (Make make)) texts search = ⊥
 
-abbrev pub Begins : Reading → (texts : List (List ℕ)) → Begun → Type 0
-Begins reading texts (Answered answer) = IsOnePart reading texts (said_of answer)
-Begins reading texts (Searching search) = IsFirstRun reading texts search
+-- the answer counts these looks, or a search is begun
+abbrev pub Begins : Reading → (texts : List (List ℕ)) → (looks : ℕ) → Begun → Type 0
+Begins reading texts looks (Answered answer) =
+    IsOnePart reading texts (said_of answer) × (looks ≡ (said_of answer).looks)
+Begins reading texts looks (Searching search) = IsFirstRun reading texts search

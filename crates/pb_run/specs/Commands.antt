@@ -13,6 +13,7 @@ use Rattle.pb_answer.specs.Loaded.{check_task, journal_task, OfTexts, OfCheckedT
 use Rattle.pb_answer.specs.Claims.{Solves, Accepts, Rejects, rewritten_outputs}
 use Rattle.pb_answer.specs.Journals.{AcceptsJournal, RejectsJournal, IsJournalOf}
 use Rattle.pb_answer.specs.Answer.{Says, Saves}
+use Rattle.pb_answer.specs.Stops.{StopsBehind, StopsTexts}
 use Rattle.pb_run.specs.Makes.{MakesPlan, MakesNone, MakesStop}
 use Rattle.pb_run.specs.Outcome.{Outcome, IfRefused, IfSolve, IfCheck, IfJournal, IfMake, IsBroken, AnswersOneOf}
 
@@ -35,7 +36,8 @@ IsOfVerdict (Err fault) status = (status ≡ 3) ⊎ IsBroken status
 
 -- - `accepted`: the certificate is a valid one of the task, and what it claims is true.
 -- - `rejected`: it isn't valid, and its first fault is printed.
--- - `exact`: the text and the task alone decide between the two.
+-- - `exact`: the text and the task alone decide between the two, unless grounding is stopped.
+-- - `stopped`: grounding was stopped before anything was judged.
 -- - `rewritten`: an accepted certificate is saved anew under the name of `--rewrite`, if that is
 --   given, and nothing else is saved. One of version 1 is saved in version 2, any other as it is.
 -- - `unsaved`: of a rejected one nothing is saved.
@@ -44,20 +46,22 @@ pub record CheckHolds (check : CheckMeaning) (it : Outcome) : Type 0 where
   pub rejected : it.said.status ≡ 3 → OfCheckedTexts check it.texts (Rejects (Says it.said))
   pub exact : (parts : TaskParts) (certificate : List ℕ) → check_task check it.texts
       ≡ Ok (parts, certificate)
-      → IsOfVerdict (checked parts certificate)
-      it.said.status
+      → IsOfVerdict (checked parts certificate) it.said.status
+      ⊎ StopsBehind check.input check.options it.texts it.said
+  pub stopped : it.said.status ≡ 2 → StopsBehind check.input check.options it.texts it.said
   pub rewritten : (parts : TaskParts) (certificate : List ℕ) → check_task check it.texts
       ≡ Ok (parts, certificate) → it.said.status ≡ 0
       → Saves it.said (rewritten_outputs check parts certificate)
   pub unsaved : it.said.status ≡ 3 → Saves it.said []
-  pub statuses : AnswersOneOf (0 ∷ 3 ∷ 65 ∷ []) it
+  pub statuses : AnswersOneOf (0 ∷ 2 ∷ 3 ∷ 65 ∷ []) it
 
 -- ---- `journal`
 
 -- - `accepted`: the text is a journal of a finished legal history of the printed number of events,
 --   over the task's blocks and with the settings of its header. It says nothing of plans.
 -- - `rejected`: it is none, and the first line that is refused is printed, with the reason.
--- - `exact`: each such journal is accepted.
+-- - `exact`: each such journal is accepted, unless grounding is stopped.
+-- - `stopped`: grounding was stopped before anything was judged.
 pub record JournalHolds (journal : JournalMeaning) (it : Outcome) : Type 0 where
   pub accepted : it.said.status ≡ 0
       → OfJournalTexts journal it.texts (AcceptsJournal (Says it.said))
@@ -65,8 +69,10 @@ pub record JournalHolds (journal : JournalMeaning) (it : Outcome) : Type 0 where
       → OfJournalTexts journal it.texts (RejectsJournal (Says it.said))
   pub exact : (parts : TaskParts) (text : List ℕ) (events : ℕ) → journal_task journal it.texts
       ≡ Ok (parts, text) → IsJournalOf parts text events
-      → (it.said.status ≡ 0) ⊎ IsBroken it.said.status
-  pub statuses : AnswersOneOf (0 ∷ 3 ∷ 65 ∷ []) it
+      → (it.said.status ≡ 0)
+      ⊎ (StopsBehind journal.input journal.options it.texts it.said ⊎ IsBroken it.said.status)
+  pub stopped : it.said.status ≡ 2 → StopsBehind journal.input journal.options it.texts it.said
+  pub statuses : AnswersOneOf (0 ∷ 2 ∷ 3 ∷ 65 ∷ []) it
 
 -- ---- `make`
 
@@ -85,7 +91,7 @@ pub record MakeHolds (make : MakeMeaning) (it : Outcome) : Type 0 where
 -- - `words`: words that are no command line are refused with the text of that. No other words are:
 --   the other records have no status 64.
 -- - `input`: texts are refused with status 65 and their report if and only if one is too long or
---   they spell no task.
+--   they spell no task. Grounding may be stopped before a refusal that would come later.
 -- - `spelled`: texts that spell a task by the rules of their format are not refused.
 -- - `unsaved`: a refusal saves no file.
 pub record RefusalHolds (it : Outcome) : Type 0 where
@@ -94,7 +100,8 @@ pub record RefusalHolds (it : Outcome) : Type 0 where
       ⊎ ((it.said.status ≡ 71) ⊎ (it.said.status ≡ 74)))
   pub input : it.said.status ≡ 65 → RefusesTexts it.asked it.texts it.said.report
   pub input_exact : (report : List ℕ) → RefusesTexts it.asked it.texts report
-      → (it.said.status ≡ 65) ⊎ IsBroken it.said.status
+      → (it.said.status ≡ 65)
+      ⊎ (StopsTexts it.asked it.texts it.said ⊎ IsBroken it.said.status)
   pub spelled : SpellTask it.asked it.texts → it.said.status ≢ 65
   pub unsaved : it.said.status ≡ 65 → Saves it.said []
 

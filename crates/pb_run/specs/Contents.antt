@@ -46,15 +46,15 @@ SavesPartsIn (part ∷ parts) [] before after = SavesPartIn part.outputs before 
 SavesPartsIn (part ∷ parts) (put ∷ puts) before after =
     (between : Files) × SavesIn part.outputs before between × SavesPartsIn parts puts between after
 
--- Of what is due for these texts some parts are finished. Their files are saved, and their pieces
--- are what was printed. Of the next part only some files were saved, and of one more a first part,
--- or nothing.
-pub record LeavesPart (reading : Reading) (texts : List (List ℕ)) (printed : List ℕ)
+-- Of what is due for these texts, after so many looks, some parts are finished. Their files are
+-- saved, and their pieces are what was printed. Of the next part only some files were saved, and of
+-- one more a first part, or nothing.
+pub record LeavesPart (reading : Reading) (texts : List (List ℕ)) (looks : ℕ) (printed : List ℕ)
     (before after : Files) : Type 0 where
   pub finished : List AnswerPart
   pub next : AnswerPart
   pub rest : List AnswerPart
-  pub decided : AreDecided reading texts (finished ++ next ∷ rest)
+  pub decided : AreDecided reading texts looks (finished ++ next ∷ rest)
   pub printed_is : printed ≡ report_of finished
   pub between : Files
   pub saved : SavesIn (outputs_of finished) before between
@@ -113,30 +113,31 @@ HandsTold said NotPrinted files files' = IfTold files files' (SavesIn said.outpu
 
 -- how parts were handed out, with what that means for the known files of the shelf
 abbrev pub TellsHands : (reading : Reading) (texts : List (List ℕ)) (parts : List AnswerPart)
-    (status : ℕ) (saves sink : List Call) → Option Files → Option Files
-    → HandsOutParts reading texts parts status saves sink → Type 0
-TellsHands reading texts parts status saves sink files files' (inl done) =
+    (status looks : ℕ) (saves sink : List Call) → Option Files → Option Files
+    → HandsOutParts reading texts parts status looks saves sink → Type 0
+TellsHands reading texts parts status looks saves sink files files' (inl done) =
     IfTold files files' (SavesIn (outputs_of parts))
-TellsHands reading texts parts status saves sink files files' (inr (inl failed)) =
+TellsHands reading texts parts status looks saves sink files files' (inr (inl failed)) =
     IfTold files files' (SavesPartsIn parts sink)
-TellsHands reading texts parts status saves sink files files' (inr (inr failed)) =
+TellsHands reading texts parts status looks saves sink files files' (inr (inr failed)) =
     IfTold files files' (SavesIn (outputs_in saves))
 
 -- what was done, with what that means for the known files of the shelf
-abbrev pub GoesBy : Reading → (status : ℕ) → Option Files → Option Files → (shelf sink : List Call)
-    → Type 0
-GoesBy reading status files files' shelf sink =
+abbrev pub GoesBy : Reading → (status looks : ℕ) → Option Files → Option Files
+    → (shelf sink : List Call) → Type 0
+GoesBy reading status looks files files' shelf sink =
     ((out : RunsOut reading status shelf sink)
     × IfTold files files' (SavesIn (outputs_of out.parts)))
     ⊎ ((FailsToLoad reading status shelf sink × IfTold files files' KeepsAll)
-    ⊎ ((a : HasAnswered reading status shelf sink) × AreLoaded files (files_of reading) a.texts
-    × TellsHands reading a.texts a.parts status a.saves sink files files' a.hands))
+    ⊎ ((a : HasAnswered reading status looks shelf sink)
+    × AreLoaded files (files_of reading) a.texts
+    × TellsHands reading a.texts a.parts status looks a.saves sink files files' a.hands))
 
-abbrev pub Goes : Reading → (status : ℕ) → Option Files → Option Files
+abbrev pub Goes : Reading → (status looks : ℕ) → Option Files → Option Files
     → (shelf shelf' sink sink' : List Call) → Type 0
-Goes reading status files files' shelf shelf' sink sink' =
+Goes reading status looks files files' shelf shelf' sink sink' =
     (own : List Call) × (out : List Call) × (shelf' ≡ shelf ++ own) × (sink' ≡ sink ++ out)
-    × GoesBy reading status files files' own out
+    × GoesBy reading status looks files files' own out
 
 -- what was put since follows what was written before, if that is known
 abbrev pub WritesPut : (written written' : Option (List ℕ)) → (sink sink' : List Call) → Type 0

@@ -35,27 +35,28 @@ pub record FailsToLoad (reading : Reading) (status : ℕ) (shelf sink : List Cal
   pub sink_is : sink ≡ []
 
 -- All files were loaded, or one was too long. What is answered of their texts is handed out in
--- parts, up to a call that fails.
-pub record HasAnswered (reading : Reading) (status : ℕ) (shelf sink : List Call) : Type 0 where
-  pub texts : List (List ℕ)
-  pub unloaded : Option Load
-  pub ends : EndLoads (files_of reading) texts unloaded
-  pub parts : List AnswerPart
-  pub saves : List Call
-  pub shelf_is : shelf ≡ load_calls (files_of reading) texts unloaded ++ saves
-  pub hands : HandsOutParts reading texts parts status saves sink
+-- parts, up to a call that fails. Grounding looked at so many rows for it.
+pub record HasAnswered (reading : Reading) (status looks : ℕ) (shelf sink : List Call) : Type 0
+  where
+    pub texts : List (List ℕ)
+    pub unloaded : Option Load
+    pub ends : EndLoads (files_of reading) texts unloaded
+    pub parts : List AnswerPart
+    pub saves : List Call
+    pub shelf_is : shelf ≡ load_calls (files_of reading) texts unloaded ++ saves
+    pub hands : HandsOutParts reading texts parts status looks saves sink
 
 -- The calls on the shelf and the sink are a beginning of one sequence. The files are loaded in the
 -- order of the words. Then, part by part, the answer to their texts is saved and printed. Each call
 -- but the last is done.
-abbrev pub Does : Reading → (status : ℕ) → (shelf sink : List Call) → Type 0
-Does reading status shelf sink =
+abbrev pub Does : Reading → (status looks : ℕ) → (shelf sink : List Call) → Type 0
+Does reading status looks shelf sink =
     RunsOut reading status shelf sink ⊎ (FailsToLoad reading status shelf sink
-    ⊎ HasAnswered reading status shelf sink)
+    ⊎ HasAnswered reading status looks shelf sink)
 
 -- the calls that were made since are a beginning of the sequence
-pub record DoesSince (reading : Reading) (status : ℕ) (shelf shelf' sink sink' : List Call) : Type 0
-  where
-    pub shelf_grows : shelf' ≡ shelf ++ calls_since shelf shelf'
-    pub sink_grows : sink' ≡ sink ++ calls_since sink sink'
-    pub does : Does reading status (calls_since shelf shelf') (calls_since sink sink')
+pub record DoesSince (reading : Reading) (status looks : ℕ) (shelf shelf' sink sink' : List Call)
+    : Type 0 where
+  pub shelf_grows : shelf' ≡ shelf ++ calls_since shelf shelf'
+  pub sink_grows : sink' ≡ sink ++ calls_since sink sink'
+  pub does : Does reading status looks (calls_since shelf shelf') (calls_since sink sink')

@@ -15,8 +15,10 @@ use Rattle.pb_task.specs.Parts.{space_of, action_name}
 use Rattle.pb_estimate.specs.declared.choice.Choice.{Choice}
 use Rattle.pb_abstract.specs.Projection.{IsFinest}
 use Rattle.pb_abstract.specs.Graph.{AbstractGraph, IsGraphOf}
+use Rattle.pb_strips.specs.Looks.{most_looks}
 use Rattle.pb_cert.specs.Found.{IsCertificateOf}
 use Rattle.pb_falling.specs.Falling.{weight_at, Claim}
+use Rattle.pb_report.specs.Texts.{stopped_grounding_report}
 use Rattle.pb_command.specs.Meaning.{SolveMeaning, FallingMeaning}
 use Rattle.pb_answer.specs.Outputs.{Output, output}
 use Rattle.pb_answer.specs.Searches.{choice_asked, weight_asked}
@@ -24,6 +26,7 @@ use Rattle.pb_answer.specs.Loaded.{OfTexts, solve_task, IsErr}
 use Rattle.pb_answer.specs.Answer.{Said, Says, Saves}
 use Rattle.pb_answer.specs.Parts.{AnswerPart}
 use Rattle.pb_answer.specs.Falling.{numbered, AreFalling, EndsAfter, IsFallingFound}
+use Rattle.pb_answer.specs.Stops.{InputMayStop, StopsGrounding}
 use Rattle.pb_run.specs.Outcome.{Outcome, IfFalling, AnswersOneOf}
 
 -- ---- claims
@@ -277,28 +280,39 @@ IsRefusedInPart solve texts said =
     (kept : List ℕ) × (rest : List ℕ) × IsErr (solve_task solve texts) (kept ++ rest)
     × Says said kept × Saves said []
 
+-- Grounding was stopped: no refusal comes before, and it had looked at as many rows as it may. Of
+-- the line of that a first part is printed, and nothing is saved.
+abbrev pub IsStoppedInPart : SolveMeaning → (texts : List (List ℕ)) → Said → Type 0
+IsStoppedInPart solve texts said =
+    (rest : List ℕ) × InputMayStop solve.input solve.options 0 texts × (said.looks ≡ most_looks)
+    × (stopped_grounding_report ≡ said.report ++ rest) × Saves said []
+
 -- ---- all that is promised
 
 -- - `found`: what is printed and saved is of one search, part by part. The certificate of a claim
 --   has the rows of its run.
--- - `proved`, `none`, `stopped`: what each status means.
+-- - `proved`, `none`, `stopped`: what each status means. At 2 grounding may have been stopped too,
+--   before any run.
 -- - `short`, `unsaved`, `unprinted`: what is out if nothing more is answered.
 -- - `statuses`: only 0, 1, 2 and 65, or 71, 73, 74 if nothing is answered.
 pub record FallingHolds (falling : FallingMeaning) (it : Outcome) : Type 0 where
   pub found : (it.said.status ≡ 0) ⊎ ((it.said.status ≡ 1) ⊎ (it.said.status ≡ 2))
       → OfTexts falling.solve it.texts (λ task. (parts : List AnswerPart)
       × IsFallingFound falling.solve task falling.steps it.said parts)
+      ⊎ StopsGrounding falling.solve.input falling.solve.options 0 it.texts it.said
   pub proved : it.said.status ≡ 0
       → OfTexts falling.solve it.texts (EndsProved falling.solve falling.steps it.said)
   pub none : it.said.status ≡ 1 → OfTexts falling.solve it.texts (EndsNone falling.solve it.said)
   pub stopped : it.said.status ≡ 2
       → OfTexts falling.solve it.texts (EndsStopped falling.solve falling.steps it.said)
+      ⊎ StopsGrounding falling.solve.input falling.solve.options 0 it.texts it.said
   pub short : it.said.status ≡ 71 → IsSilent it.said
       ⊎ OfTexts falling.solve it.texts (EndsShort falling.solve falling.steps it.said)
   pub unsaved : it.said.status ≡ 73 → IsSilent it.said
       ⊎ OfTexts falling.solve it.texts (EndsUnsaved falling.solve falling.steps it.said)
   pub unprinted : it.said.status ≡ 74 → IsRefusedInPart falling.solve it.texts it.said
-      ⊎ OfTexts falling.solve it.texts (EndsUnprinted falling.solve falling.steps it.said)
+      ⊎ (IsStoppedInPart falling.solve it.texts it.said
+      ⊎ OfTexts falling.solve it.texts (EndsUnprinted falling.solve falling.steps it.said))
   pub statuses : AnswersOneOf (0 ∷ 1 ∷ 2 ∷ 65 ∷ []) it
 
 abbrev pub FallingsHold : Outcome → Type 0

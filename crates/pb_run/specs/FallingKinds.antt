@@ -16,9 +16,10 @@ use Rattle.pb_falling.specs.Falling.{weight_at}
 use Rattle.pb_command.specs.Meaning.{FallingMeaning}
 use Rattle.pb_answer.specs.Spelled.{OfGrid, OfTiles}
 use Rattle.pb_answer.specs.Named.{OfTrees, NoneBelow, NoneCheaperByNames, HasNoNamedPlan}
+use Rattle.pb_answer.specs.Stops.{StopsGrounding}
 use Rattle.pb_run.specs.Outcome.{Outcome, IfFalling}
 use Rattle.pb_run.specs.Kinds.{weight_of_words, IfMap, IfBoard}
-use Rattle.pb_run.specs.FallingHeadline.{PrintedClaim, claims_text, AreClaimsOf, MayBeCheaper, IsRefusedInPart}
+use Rattle.pb_run.specs.FallingHeadline.{PrintedClaim, claims_text, AreClaimsOf, MayBeCheaper, IsRefusedInPart, IsStoppedInPart}
 
 -- ---- any space
 
@@ -197,7 +198,8 @@ PrintsNamedLast report weight steps domain problem =
     × NoneBelow domain problem (plan_cost domain problem last.actions)
 
 -- What `solve` with `--falling` promises of a domain and a problem, by names, as for a map. A state
--- is a set of facts, and an action is one of the domain's with objects.
+-- is a set of facts, and an action is one of the domain's with objects. At 2 grounding may have
+-- been stopped too, and at 74 the line of that may be printed in part.
 pub record FallingNamedHolds (falling : FallingMeaning) (it : Outcome) : Type 0 where
   pub proved : it.said.status ≡ 0 → OfTrees falling.solve.input 0 it.texts
       (PrintsNamedLast it.said.report (weight_of_words falling.solve) falling.steps)
@@ -205,6 +207,7 @@ pub record FallingNamedHolds (falling : FallingMeaning) (it : Outcome) : Type 0 
   pub stopped : it.said.status ≡ 2 → OfTrees falling.solve.input 0 it.texts
       (PrintsNamedClaims it.said.report (weight_of_words falling.solve) falling.steps
       (stopped_report falling.solve.settings.budget))
+      ⊎ StopsGrounding falling.solve.input falling.solve.options 0 it.texts it.said
   pub short : it.said.status ≡ 71 → (it.said.report ≡ [])
       ⊎ OfTrees falling.solve.input 0 it.texts
       (PrintsNamedClaims it.said.report (weight_of_words falling.solve) falling.steps [])
@@ -212,9 +215,10 @@ pub record FallingNamedHolds (falling : FallingMeaning) (it : Outcome) : Type 0 
       ⊎ OfTrees falling.solve.input 0 it.texts
       (PrintsNamedClaims it.said.report (weight_of_words falling.solve) falling.steps [])
   pub unprinted : it.said.status ≡ 74 → IsRefusedInPart falling.solve it.texts it.said
+      ⊎ (IsStoppedInPart falling.solve it.texts it.said
       ⊎ OfTrees falling.solve.input 0 it.texts
       (PrintsNamedInPart it.said.report (weight_of_words falling.solve) falling.steps
-      falling.solve.settings.budget)
+      falling.solve.settings.budget))
 
 abbrev pub FallingNamedHold : Outcome → Type 0
 FallingNamedHold it = IfFalling it.asked (λ falling. FallingNamedHolds falling it)

@@ -15,9 +15,9 @@ use Rattle.pb_command.specs.Options.{Argument, words_of, placed_words, value_giv
 use Rattle.pb_answer.specs.Outputs.{Output}
 use Rattle.pb_answer.specs.Answer.{Said}
 use Rattle.pb_run.specs.Course.{Does}
-use Rattle.pb_run.specs.Outcome.{Outcome, outcome_by, IsBroken}
+use Rattle.pb_run.specs.Outcome.{Outcome, outcome_by}
 use Rattle.pb_run.specs.Commands.{CheckHolds}
-use Rattle.pb_run.specs.Laws.{Keeps, AcceptsIt}
+use Rattle.pb_run.specs.Laws.{Keeps, AcceptsUnlessStopped, AcceptsIt}
 use Rattle.pb_run.specs.FallingHeadline.{PrintedClaim, claims_text, CostsNeverRise, AreClaimsOf, FallingHolds, FallingsHold}
 use Rattle.pb_run.specs.FallingKinds.{FallingMapsHold, FallingBoardsHold, FallingNamedHold}
 
@@ -26,8 +26,9 @@ use Rattle.pb_run.specs.FallingKinds.{FallingMapsHold, FallingBoardsHold, Fallin
 -- How a call goes gives what is promised of falling weights.
 abbrev pub CallsGiveFalling : Type 0
 CallsGiveFalling =
-    (reading : Reading) (status : ℕ) (shelf sink : List Call) → Does reading status shelf sink
-    → FallingsHold (outcome_by reading status shelf sink)
+    (reading : Reading) (status looks : ℕ) (shelf sink : List Call)
+    → Does reading status looks shelf sink
+    → FallingsHold (outcome_by reading status looks shelf sink)
 
 -- What is promised of falling weights gives what is promised of each kind of task in its own words.
 abbrev pub FallingHoldsByKind : Type 0
@@ -49,8 +50,8 @@ IsSaved said file =
 
 -- A call searched a task with falling weights. Another call checks the text of any one of the files
 -- that it saved, which was loaded whole, for the same input, row, swamp and grounding. It accepts
--- it, unless it answers nothing. That holds too if the first call ran out of memory or its output
--- failed.
+-- it, unless its grounding is stopped or it answers nothing. That holds too if the first call ran
+-- out of memory or its output failed.
 abbrev pub SavedClaimsAreAccepted : Type 0
 SavedClaimsAreAccepted =
     (falling : FallingMeaning) (check : CheckMeaning) (ran checked : Outcome) (file : Output)
@@ -59,7 +60,7 @@ SavedClaimsAreAccepted =
     → SavesWhole ran.said.status → IsSaved ran.said file
     → checked.texts ≡ file.text ∷ ran.texts
     → FallingHolds falling ran → CheckHolds check checked
-    → (checked.said.status ≡ 0) ⊎ IsBroken checked.said.status
+    → AcceptsUnlessStopped check.input check.options checked
 
 -- Arguments of `solve` for this input, with `--falling` and other options in any order, for the
 -- engine that has falling weights and without a journal. Also arguments of `check` for the same
@@ -82,7 +83,7 @@ pub record AreFallingMatching (input : InputNames) (steps file : List ℕ)
 
 -- A call with the words `solve .. --falling S` saved certificates whole. Another call has the words
 -- of the matching `check ..`. It loads the text of any one of them whole, and then the same input,
--- and accepts it.
+-- and accepts it, unless its grounding is stopped.
 abbrev pub ClaimsAreAcceptedByWords : Type 0
 ClaimsAreAcceptedByWords =
     (input : InputNames) (steps file : List ℕ) (arguments others : List Argument)
@@ -92,7 +93,7 @@ ClaimsAreAcceptedByWords =
     → Keeps (codes "check" ∷ words_of others) checked
     → SavesWhole ran.said.status → IsSaved ran.said saved
     → checked.texts ≡ saved.text ∷ ran.texts
-    → AcceptsIt checked.said.status
+    → AcceptsIt checked
 
 -- ---- texts
 

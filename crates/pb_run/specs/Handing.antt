@@ -45,33 +45,34 @@ FailsInPuts (part ∷ parts) saves sink =
     ⊎ ((saves' : List Call) × (sink' : List Call) × HandsOutOne part saves sink saves' sink'
     × FailsInPuts parts saves' sink')
 
--- all parts of an answer are handed out, and the status is that of the answer
+-- all parts of an answer are handed out, and status and looks are those of the answer
 pub record HandsOutAnswer (reading : Reading) (texts : List (List ℕ)) (parts : List AnswerPart)
-    (status : ℕ) (saves sink : List Call) : Type 0 where
+    (status looks : ℕ) (saves sink : List Call) : Type 0 where
   pub said : Said
   pub answers : AnswersReading reading texts said
   pub parts_are : AreAllParts reading texts said parts
   pub status_is : status ≡ said.status
+  pub looks_is : looks ≡ said.looks
   pub hands : HandsOutAll parts saves sink
 
 -- the parts that are decided are handed out, up to a file that the shelf fails to save
 pub record BreaksOffSaving (reading : Reading) (texts : List (List ℕ)) (parts : List AnswerPart)
-    (status : ℕ) (saves sink : List Call) : Type 0 where
+    (status looks : ℕ) (saves sink : List Call) : Type 0 where
   pub status_is : status ≡ 73
-  pub decided : AreDecided reading texts parts
+  pub decided : AreDecided reading texts looks parts
   pub hands : FailsInSaves parts saves sink
 
 -- the parts that are decided are handed out, up to a piece that the sink fails to take
 pub record BreaksOffPutting (reading : Reading) (texts : List (List ℕ)) (parts : List AnswerPart)
-    (status : ℕ) (saves sink : List Call) : Type 0 where
+    (status looks : ℕ) (saves sink : List Call) : Type 0 where
   pub status_is : status ≡ 74
-  pub decided : AreDecided reading texts parts
+  pub decided : AreDecided reading texts looks parts
   pub hands : FailsInPuts parts saves sink
 
 -- an answer is handed out in parts, or up to a call that fails
-abbrev pub HandsOutParts : Reading → (texts : List (List ℕ)) → List AnswerPart → (status : ℕ)
-    → (saves sink : List Call) → Type 0
-HandsOutParts reading texts parts status saves sink =
-    HandsOutAnswer reading texts parts status saves sink
-    ⊎ (BreaksOffSaving reading texts parts status saves sink
-    ⊎ BreaksOffPutting reading texts parts status saves sink)
+abbrev pub HandsOutParts : Reading → (texts : List (List ℕ)) → List AnswerPart
+    → (status looks : ℕ) → (saves sink : List Call) → Type 0
+HandsOutParts reading texts parts status looks saves sink =
+    HandsOutAnswer reading texts parts status looks saves sink
+    ⊎ (BreaksOffSaving reading texts parts status looks saves sink
+    ⊎ BreaksOffPutting reading texts parts status looks saves sink)

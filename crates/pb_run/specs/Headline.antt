@@ -1,7 +1,7 @@
 -- The five promises to whoever runs `solve` without `--falling`. The task is that of the loaded
 -- texts and of the words `--row`, `--swamp` and `--reachable`. The same promises for each kind of
 -- task in its own words are in `Kinds`, and what else each command promises is in `Commands`.
-use Rattle.std.specs.Prelude.{◌≡◌, None}
+use Rattle.std.specs.Prelude.{◌≡◌, ◌⊎◌, None}
 use Rattle.pb_model.specs.Plan.{HasNoPlan}
 use Rattle.pb_model.specs.Texts.{none_report, stopped_report}
 use Rattle.pb_task.specs.Parts.{space_of}
@@ -9,6 +9,7 @@ use Rattle.pb_answer.specs.Answer.{Says, Saves}
 use Rattle.pb_answer.specs.Loaded.{OfTexts}
 use Rattle.pb_answer.specs.Searches.{weight_asked}
 use Rattle.pb_answer.specs.Claims.{Certifies, Stops, PrintsPlan, PrintsLeastCost, SavesPlan}
+use Rattle.pb_answer.specs.Stops.{StopsGrounding}
 use Rattle.pb_run.specs.Outcome.{Outcome, IfSolve}
 
 -- Status 0: what is printed is a plan of the task, with its cost and bound.
@@ -36,9 +37,12 @@ abbrev pub NoneMeansNone : Outcome → Type 0
 NoneMeansNone it = IfSolve it.asked (λ solve. it.said.status ≡ 1 → Says it.said none_report
     × OfTexts solve it.texts (λ parts. HasNoPlan (space_of parts)))
 
--- Status 2: the search used up its budget of expansions. The budget is printed and nothing else,
--- no certificate is saved, and nothing is claimed of plans.
+-- Status 2, and nothing is claimed of plans. The search used up its budget of expansions: the
+-- budget is printed and nothing else, and no certificate is saved. Or grounding was stopped: it had
+-- looked at as many rows as it may, no refusal comes before that, one line is printed, and nothing
+-- is saved.
 abbrev pub StopHasCause : Outcome → Type 0
 StopHasCause it = IfSolve it.asked (λ solve. it.said.status ≡ 2
-    → Says it.said (stopped_report solve.settings.budget) × OfTexts solve it.texts
+    → (Says it.said (stopped_report solve.settings.budget) × OfTexts solve it.texts
     (Stops (Saves it.said) solve))
+    ⊎ StopsGrounding solve.input solve.options 0 it.texts it.said)

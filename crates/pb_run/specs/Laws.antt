@@ -9,6 +9,7 @@ use Rattle.pb_task.specs.declared.grounding.Grounding.{Grounding}
 use Rattle.pb_task.specs.declared.grounding.Grounding.TheVariants.{All, Reachable}
 use Rattle.pb_task.specs.Groundings.{grounding_name}
 use Rattle.pb_task.specs.Widths.{width_of}
+use Rattle.pb_command.specs.declared.command.InputOptions.{InputOptions}
 use Rattle.pb_command.specs.Values.{InputNames}
 use Rattle.pb_command.specs.Meaning.{Read, Solve, SolveMeaning, CheckMeaning, JournalMeaning, reading_of_words}
 use Rattle.pb_command.specs.declared.command.Engine.TheVariants.{Leases}
@@ -22,6 +23,7 @@ use Rattle.pb_answer.specs.Outputs.{Output, output}
 use Rattle.pb_answer.specs.Loaded.{OfTexts, input_task, grounding_asked}
 use Rattle.pb_answer.specs.Journals.{IsJournalOf}
 use Rattle.pb_answer.specs.Answer.{Said}
+use Rattle.pb_answer.specs.Stops.{StopsBehind, StopsTexts}
 use Rattle.pb_run.specs.Outcome.{Outcome, IsAnswer, IsBroken}
 use Rattle.pb_run.specs.Headline.{CertificateHolds, StopHasCause}
 use Rattle.pb_run.specs.Commands.{SolveHolds, CheckHolds, JournalHolds, SolvesHold, ChecksHold, JournalsHold}
@@ -34,10 +36,17 @@ IsSavedFirst said name text = (rest : List Output) × (said.outputs ≡ output n
 abbrev pub IsSavedLast : Said → (name text : List ℕ) → Type 0
 IsSavedLast said name text = (first : List Output) × (said.outputs ≡ first ++ output name text ∷ [])
 
+-- A call that judges a text accepts it, or its grounding is stopped, or it answers nothing. How
+-- often grounding looks isn't promised, so the texts don't exclude a stop.
+abbrev pub AcceptsUnlessStopped : InputNames → InputOptions → Outcome → Type 0
+AcceptsUnlessStopped input options it =
+    (it.said.status ≡ 0)
+    ⊎ (StopsBehind input options it.texts it.said ⊎ IsBroken it.said.status)
+
 -- A call searched a task, answered a plan or none, and saved a certificate under a name. Another
 -- call checks the text of that certificate, which was loaded whole, for the same input, row, swamp
--- and grounding. It accepts it, unless it answers nothing: this follows from what is promised of
--- both.
+-- and grounding. It accepts it, unless its grounding is stopped or it answers nothing: this follows
+-- from what is promised of both.
 abbrev pub SavedCertificatesAreAccepted : Type 0
 SavedCertificatesAreAccepted =
     (solve : SolveMeaning) (check : CheckMeaning) (solved checked : Outcome) (name text : List ℕ)
@@ -47,11 +56,12 @@ SavedCertificatesAreAccepted =
     → (solved.said.status ≡ 0) ⊎ (solved.said.status ≡ 1)
     → IsSavedFirst solved.said name text → checked.texts ≡ text ∷ solved.texts
     → SolveHolds solve solved → CertificateHolds solved → CheckHolds check checked
-    → (checked.said.status ≡ 0) ⊎ IsBroken checked.said.status
+    → AcceptsUnlessStopped check.input check.options checked
 
 -- A call searched a task by leases, answered a plan, none or a stop, and saved a journal under a
 -- name. Another call judges the text of that journal, which was loaded whole, for the same input,
--- row and grounding, with swamp or without. It accepts it, unless it answers nothing.
+-- row and grounding, with swamp or without. It accepts it, unless its grounding is stopped or it
+-- answers nothing.
 abbrev pub SavedJournalsAreAccepted : Type 0
 SavedJournalsAreAccepted =
     (solve : SolveMeaning) (journal : JournalMeaning) (solved judged : Outcome)
@@ -62,7 +72,7 @@ SavedJournalsAreAccepted =
     → IsSavedLast solved.said name text → judged.texts ≡ text ∷ solved.texts
     → SolveHolds solve solved → CertificateHolds solved → StopHasCause solved
     → JournalHolds journal judged
-    → (judged.said.status ≡ 0) ⊎ IsBroken judged.said.status
+    → AcceptsUnlessStopped journal.input journal.options judged
 
 -- A call searched a task by leases, answered a plan, none or a stop, and saved a journal under a
 -- name. The text is a journal of the task, and no longer than its own events allow: 79 bytes, and
@@ -106,18 +116,21 @@ pub record AreMatching (input : InputNames) (has_option : ValuedOption → Bool)
   pub row : number_given Row others ≡ number_given Row arguments
   pub reachable : flag_given ReachableFlag others ≡ flag_given ReachableFlag arguments
 
--- The call accepts, unless it answers nothing. If it has an answer, or memory ran out, it accepts
--- or memory ran out. This second part is for a shelf that can load and a sink that can take the
--- report.
-abbrev pub AcceptsIt : (status : ℕ) → Type 0
-AcceptsIt status =
-    ((status ≡ 0) ⊎ IsBroken status)
-    × (IsAnswer status ⊎ (status ≡ 71) → (status ≡ 0) ⊎ (status ≡ 71))
+-- The call accepts, unless its grounding is stopped or it answers nothing. If it has an answer, or
+-- memory ran out, it accepts, or its grounding is stopped, or memory ran out. This second part is
+-- for a shelf that can load and a sink that can take the report.
+abbrev pub AcceptsIt : Outcome → Type 0
+AcceptsIt it =
+    ((it.said.status ≡ 0)
+    ⊎ (StopsTexts it.asked it.texts it.said ⊎ IsBroken it.said.status))
+    × (IsAnswer it.said.status ⊎ (it.said.status ≡ 71) → (it.said.status ≡ 0)
+    ⊎ (StopsTexts it.asked it.texts it.said ⊎ (it.said.status ≡ 71)))
 
 -- A call with the words `solve ..`, with `--cert NAME` among them, answered a plan or none and
 -- saved a certificate under that name. Another call has the words of the matching `check ..`, with
 -- `--swamp` exactly if `solve` had it, and a new name for `--rewrite`, if that is given. It loads
--- the text of that certificate whole and then the same input, and accepts the certificate.
+-- the text of that certificate whole and then the same input, and accepts the certificate, unless
+-- its grounding is stopped.
 abbrev pub CertificatesAreAcceptedByWords : Type 0
 CertificatesAreAcceptedByWords =
     (input : InputNames) (name file text : List ℕ) (arguments others : List Argument)
@@ -129,12 +142,12 @@ CertificatesAreAcceptedByWords =
     → Keeps (codes "check" ∷ words_of others) checked
     → (solved.said.status ≡ 0) ⊎ (solved.said.status ≡ 1)
     → IsSavedFirst solved.said name text → checked.texts ≡ text ∷ solved.texts
-    → AcceptsIt checked.said.status
+    → AcceptsIt checked
 
 -- A call with the words `solve ..`, with `--trace NAME` among them, answered a plan, none or a
 -- stop, and saved a journal under that name. Another call has the words of the matching
 -- `journal ..`. It loads the text of that journal whole and then the same input, and accepts the
--- journal.
+-- journal, unless its grounding is stopped.
 abbrev pub JournalsAreAcceptedByWords : Type 0
 JournalsAreAcceptedByWords =
     (input : InputNames) (name file text : List ℕ) (arguments others : List Argument)
@@ -145,7 +158,7 @@ JournalsAreAcceptedByWords =
     → Keeps (codes "journal" ∷ words_of others) judged
     → (solved.said.status ≡ 0) ⊎ ((solved.said.status ≡ 1) ⊎ (solved.said.status ≡ 2))
     → IsSavedLast solved.said name text → judged.texts ≡ text ∷ solved.texts
-    → AcceptsIt judged.said.status
+    → AcceptsIt judged
 
 -- ---- what a certificate states
 

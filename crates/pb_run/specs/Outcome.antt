@@ -7,16 +7,17 @@ use Rattle.pb_answer.specs.Answer.{Said}
 use Rattle.pb_run.specs.Calls.{loaded_texts, outputs_in, put_bytes, calls_since}
 
 -- The command that the words are, or their fault; the texts that were loaded, in order; and the
--- status, the bytes that were printed and the files that were saved.
+-- status, the bytes that were printed, the files that were saved, and how many rows grounding had
+-- looked at in the end.
 pub record Outcome : Type 0 where
   pub asked : Reading
   pub texts : List (List ℕ)
   pub said : Said
 
--- the outcome of a call that was asked for this and ended with this status, by what it called on the
--- shelf and on the sink
-abbrev pub outcome_by : Reading → (status : ℕ) → (shelf sink : List Call) → Outcome
-outcome_by asked status shelf sink =
+-- the outcome of a call that was asked for this and ended with this status and so many looks, by
+-- what it called on the shelf and on the sink
+abbrev pub outcome_by : Reading → (status looks : ℕ) → (shelf sink : List Call) → Outcome
+outcome_by asked status looks shelf sink =
     record {
       asked = asked;
       texts = loaded_texts shelf;
@@ -24,15 +25,17 @@ outcome_by asked status shelf sink =
         status = status;
         report = put_bytes sink;
         outputs = outputs_in shelf;
+        looks = looks;
       };
     }
 
 -- the same by the words of the call, and by the calls on the shelf and on the sink before and after
 -- it
-abbrev pub outcome : (words : List (List ℕ)) → (status : ℕ) → (shelf shelf' sink sink' : List Call)
-    → Outcome
-outcome words status shelf shelf' sink sink' =
-    outcome_by (reading_of_words words) status (calls_since shelf shelf') (calls_since sink sink')
+abbrev pub outcome : (words : List (List ℕ)) → (status looks : ℕ)
+    → (shelf shelf' sink sink' : List Call) → Outcome
+outcome words status looks shelf shelf' sink sink' =
+    outcome_by (reading_of_words words) status looks (calls_since shelf shelf')
+    (calls_since sink sink')
 
 -- ---- by command: P, if the words are this command
 

@@ -44,23 +44,25 @@ pub record StillFits (parts : List AnswerPart) (can_hold can_hold' : List ℕ �
   pub holds : KeepsHolds can_hold can_hold'
   pub takes : KeepsTakes can_take can_take' (length (report_of parts))
 
--- How it ends with the parts of an answer to these texts: all were handed out, or memory ran out
--- before the next one was decided. Or a file of the part in hand wasn't saved, or its piece not
--- put.
-abbrev pub EndsParts : Reading → (texts : List (List ℕ)) → Ending → List AnswerPart → (status : ℕ)
-    → Type 0
-EndsParts reading texts Done parts status =
+-- How it ends with the parts of an answer to these texts, after so many looks: all were handed out,
+-- or memory ran out before the next one was decided. Or a file of the part in hand wasn't saved, or
+-- its piece not put.
+abbrev pub EndsParts : Reading → (texts : List (List ℕ)) → Ending → List AnswerPart
+    → (status looks : ℕ) → Type 0
+EndsParts reading texts Done parts status looks =
     ((said : Said) × AnswersReading reading texts said × AreAllParts reading texts said parts
-    × (status ≡ said.status))
+    × (status ≡ said.status) × (looks ≡ said.looks))
     ⊎ ((status ≡ 71) × AreFirstParts reading texts parts)
-EndsParts reading texts NotSaved parts status = (status ≡ 73) × AreDecided reading texts parts
-EndsParts reading texts NotPrinted parts status = (status ≡ 74) × AreDecided reading texts parts
+EndsParts reading texts NotSaved parts status looks =
+    (status ≡ 73) × AreDecided reading texts looks parts
+EndsParts reading texts NotPrinted parts status looks =
+    (status ≡ 74) × AreDecided reading texts looks parts
 
 -- what is due for these texts was handed out, part by part
-pub record HandsOutTexts (reading : Reading) (texts : List (List ℕ)) (status : ℕ)
+pub record HandsOutTexts (reading : Reading) (texts : List (List ℕ)) (status looks : ℕ)
     (files files' : Option Files) (shelf shelf' sink sink' : List Call)
     (written written' : Option (List ℕ)) : Type 0 where
   pub ending : Ending
   pub parts : List AnswerPart
   pub hands : HandsParts ending parts files files' shelf shelf' sink sink' written written'
-  pub ends : EndsParts reading texts ending parts status
+  pub ends : EndsParts reading texts ending parts status looks

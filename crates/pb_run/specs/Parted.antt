@@ -7,6 +7,7 @@ use Rattle.pb_answer.specs.Loaded.{solve_task}
 use Rattle.pb_answer.specs.Answer.{Said}
 use Rattle.pb_answer.specs.Parts.{AnswerPart, AreAnswerParts}
 use Rattle.pb_answer.specs.Falling.{IsFallingFound, AreClaimParts}
+use Rattle.pb_answer.specs.Stops.{StopsTexts}
 use Rattle.pb_run.specs.Answers.{AnswersReading}
 
 -- Whether a command line asks for an answer in one part. Each one does but a search with falling
@@ -25,10 +26,11 @@ OfTaskOr (Ok task) Q P = P task
 OfTaskOr (Err report) Q P = Q
 
 -- The parts of an answer to these texts: all files and the whole report, or those of a search with
--- falling weights, one for each claim.
+-- falling weights, one for each claim. A stop of grounding is one part.
 abbrev pub AreAllParts : Reading → (texts : List (List ℕ)) → Said → List AnswerPart → Type 0
 AreAllParts (Read (Falling falling)) texts said parts =
-    OfTaskOr (solve_task falling.solve texts) (AreAnswerParts said parts)
+    (StopsTexts (Read (Falling falling)) texts said × AreAnswerParts said parts)
+    ⊎ OfTaskOr (solve_task falling.solve texts) (AreAnswerParts said parts)
     (λ task. IsFallingFound falling.solve task falling.steps said parts)
 AreAllParts (Read (Solve solve)) texts said parts = AreAnswerParts said parts
 AreAllParts (Read (Check check)) texts said parts = AreAnswerParts said parts
@@ -51,8 +53,10 @@ AreFirstParts (Read (Journal journal)) texts parts = parts ≡ []
 AreFirstParts (Read (Make make)) texts parts = parts ≡ []
 AreFirstParts (Refused fault) texts parts = parts ≡ []
 
--- the parts that are decided of these texts: those of an answer, or its first ones
-abbrev pub AreDecided : Reading → (texts : List (List ℕ)) → List AnswerPart → Type 0
-AreDecided reading texts parts =
-    ((said : Said) × AnswersReading reading texts said × AreAllParts reading texts said parts)
+-- the parts that are decided of these texts after so many looks: those of an answer, or its first
+-- ones
+abbrev pub AreDecided : Reading → (texts : List (List ℕ)) → (looks : ℕ) → List AnswerPart → Type 0
+AreDecided reading texts looks parts =
+    ((said : Said) × AnswersReading reading texts said × AreAllParts reading texts said parts
+    × (looks ≡ said.looks))
     ⊎ AreFirstParts reading texts parts

@@ -12,6 +12,7 @@ use Rattle.pb_answer.specs.Loaded.{solve_task, check_task, journal_task}
 use Rattle.pb_answer.specs.Journals.{IsJournalOf}
 use Rattle.pb_answer.specs.Answer.{Said}
 use Rattle.pb_answer.specs.Parts.{AnswerPart, outputs_of}
+use Rattle.pb_answer.specs.Stops.{StopsTexts}
 use Rattle.pb_run.specs.Answers.{AnswersReading}
 use Rattle.pb_run.specs.Parted.{AreAllParts, AreFirstParts, AreDecided}
 
@@ -27,36 +28,38 @@ pub record PartsFit (can_hold : List ℕ → ℕ → Type 0) (can_take : ℕ →
   pub held : CanHold can_hold (outputs_of parts)
   pub taken : CanTakeAll can_take [] parts
 
--- whatever parts are decided of the texts, the shelf can hold what is to be saved, and the sink can
--- take what is to be printed
+-- whatever parts are decided of the texts, after however many looks, the shelf can hold what is to
+-- be saved, and the sink can take what is to be printed
 abbrev pub CanHandOut : Reading → (texts : List (List ℕ)) → (can_hold : List ℕ → ℕ → Type 0)
     → (can_take : ℕ → Type 0) → Type 0
 CanHandOut reading texts can_hold can_take =
-    (parts : List AnswerPart) → AreDecided reading texts parts → PartsFit can_hold can_take parts
+    (looks : ℕ) (parts : List AnswerPart) → AreDecided reading texts looks parts
+    → PartsFit can_hold can_take parts
 
 -- What is answered, unless memory ran out:
 -- - of words that are no command line, their refusal;
 -- - of a task to solve, a plan, that there is none, or a stop, with falling weights too;
--- - of a valid certificate or a journal of the task, that it is accepted;
+-- - of a valid certificate or a journal of the task, that it is accepted, or a stop of grounding;
 -- - of a task that is to be made, what a search answers.
-abbrev pub IsAnswered : Reading → (texts : List (List ℕ)) → (status : ℕ) → Type 0
-IsAnswered (Refused fault) texts status = (status ≡ 64) ⊎ (status ≡ 71)
-IsAnswered (Read (Solve solve)) texts status =
+abbrev pub IsAnswered : Reading → (texts : List (List ℕ)) → Said → Type 0
+IsAnswered (Refused fault) texts said = (said.status ≡ 64) ⊎ (said.status ≡ 71)
+IsAnswered (Read (Solve solve)) texts said =
     (parts : TaskParts) → solve_task solve texts ≡ Ok parts
-    → (status ≡ 0) ⊎ ((status ≡ 1) ⊎ ((status ≡ 2) ⊎ (status ≡ 71)))
-IsAnswered (Read (Falling falling)) texts status =
+    → (said.status ≡ 0) ⊎ ((said.status ≡ 1) ⊎ ((said.status ≡ 2) ⊎ (said.status ≡ 71)))
+IsAnswered (Read (Falling falling)) texts said =
     (parts : TaskParts) → solve_task falling.solve texts ≡ Ok parts
-    → (status ≡ 0) ⊎ ((status ≡ 1) ⊎ ((status ≡ 2) ⊎ (status ≡ 71)))
-IsAnswered (Read (Check check)) texts status =
+    → (said.status ≡ 0) ⊎ ((said.status ≡ 1) ⊎ ((said.status ≡ 2) ⊎ (said.status ≡ 71)))
+IsAnswered (Read (Check check)) texts said =
     (parts : TaskParts) (certificate : List ℕ) (verdict : Verdict)
     → check_task check texts ≡ Ok (parts, certificate)
     → IsAccepted parts certificate verdict
-    → (status ≡ 0) ⊎ (status ≡ 71)
-IsAnswered (Read (Journal journal)) texts status =
+    → (said.status ≡ 0) ⊎ (StopsTexts (Read (Check check)) texts said ⊎ (said.status ≡ 71))
+IsAnswered (Read (Journal journal)) texts said =
     (parts : TaskParts) (text : List ℕ) (events : ℕ) → journal_task journal texts ≡ Ok (parts, text)
-    → IsJournalOf parts text events → (status ≡ 0) ⊎ (status ≡ 71)
-IsAnswered (Read (Make make)) texts status =
-    (status ≡ 0) ⊎ ((status ≡ 1) ⊎ ((status ≡ 2) ⊎ (status ≡ 71)))
+    → IsJournalOf parts text events
+    → (said.status ≡ 0) ⊎ (StopsTexts (Read (Journal journal)) texts said ⊎ (said.status ≡ 71))
+IsAnswered (Read (Make make)) texts said =
+    (said.status ≡ 0) ⊎ ((said.status ≡ 1) ⊎ ((said.status ≡ 2) ⊎ (said.status ≡ 71)))
 
 -- The shelf's files are known, and it can load those that the words name. Whatever is answered of
 -- their texts can be handed out.
@@ -68,11 +71,12 @@ CanServe reading (Some told) can_load can_hold can_take =
     × ((texts : List (List ℕ)) → loads_of told (files_of reading) ≡ Some texts
     → CanHandOut reading texts can_hold can_take)
 
--- these texts have an answer, and the status is its own if its parts fit
-pub record AnswersIfPartsFit (reading : Reading) (texts : List (List ℕ)) (status : ℕ)
+-- these texts have an answer with so many looks, and the status is its own if its parts fit
+pub record AnswersIfPartsFit (reading : Reading) (texts : List (List ℕ)) (status looks : ℕ)
     (can_hold : List ℕ → ℕ → Type 0) (can_take : ℕ → Type 0) : Type 0 where
   pub said : Said
   pub answers : AnswersReading reading texts said
+  pub looks_is : looks ≡ said.looks
   pub parts : List AnswerPart
   pub parts_are : AreAllParts reading texts said parts
   pub if_they_fit : PartsFit can_hold can_take parts → status ≡ said.status
@@ -87,36 +91,37 @@ pub record PartsDoNotFit (reading : Reading) (texts : List (List ℕ)) (status :
 
 -- It is so of these texts, unless memory ran out: the status is that of an answer if its parts fit,
 -- or first parts don't fit.
-abbrev pub HandsOutIfPartsFit : Reading → (texts : List (List ℕ)) → (status : ℕ)
+abbrev pub HandsOutIfPartsFit : Reading → (texts : List (List ℕ)) → (status looks : ℕ)
     → (can_hold : List ℕ → ℕ → Type 0) → (can_take : ℕ → Type 0) → Type 0
-HandsOutIfPartsFit reading texts status can_hold can_take =
+HandsOutIfPartsFit reading texts status looks can_hold can_take =
     (status ≡ 71)
-    ⊎ (AnswersIfPartsFit reading texts status can_hold can_take
+    ⊎ (AnswersIfPartsFit reading texts status looks can_hold can_take
     ⊎ PartsDoNotFit reading texts status can_hold can_take)
 
 -- What is answered of the texts of these files fits: unless memory ran out, they have one answer
 -- that is handed out if the shelf can hold what it saves and the sink can take its report. So what
 -- is asked of both is the length of that answer alone. Where more than one part is asked for, it
 -- may break off at parts that don't fit.
-abbrev pub IsHandedOutIfItFits : Reading → Files → (status : ℕ) → (can_hold : List ℕ → ℕ → Type 0)
-    → (can_take : ℕ → Type 0) → Type 0
-IsHandedOutIfItFits reading told status can_hold can_take =
+abbrev pub IsHandedOutIfItFits : Reading → Files → (status looks : ℕ)
+    → (can_hold : List ℕ → ℕ → Type 0) → (can_take : ℕ → Type 0) → Type 0
+IsHandedOutIfItFits reading told status looks can_hold can_take =
     (status ≡ 71)
     ⊎ ((texts : List (List ℕ)) × (loads_of told (files_of reading) ≡ Some texts)
-    × (AnswersIfPartsFit reading texts status can_hold can_take
+    × (AnswersIfPartsFit reading texts status looks can_hold can_take
     ⊎ PartsDoNotFit reading texts status can_hold can_take))
 
 -- It is so if the shelf's files are known, and it can load those that the words name.
-abbrev pub AnswersWhatFits : Reading → (status : ℕ) → Option Files → (can_load : List ℕ → Type 0)
-    → (can_hold : List ℕ → ℕ → Type 0) → (can_take : ℕ → Type 0) → Type 0
-AnswersWhatFits reading status None can_load can_hold can_take = ⊤
-AnswersWhatFits reading status (Some told) can_load can_hold can_take =
+abbrev pub AnswersWhatFits : Reading → (status looks : ℕ) → Option Files
+    → (can_load : List ℕ → Type 0) → (can_hold : List ℕ → ℕ → Type 0) → (can_take : ℕ → Type 0)
+    → Type 0
+AnswersWhatFits reading status looks None can_load can_hold can_take = ⊤
+AnswersWhatFits reading status looks (Some told) can_load can_hold can_take =
     CanLoad can_load (files_of reading)
-    → IsHandedOutIfItFits reading told status can_hold can_take
+    → IsHandedOutIfItFits reading told status looks can_hold can_take
 
 -- If the shelf's files are known and the named ones are there, there is an answer to their texts,
 -- or memory ran out.
-abbrev pub IsComplete : Reading → Option Files → (status : ℕ) → Type 0
-IsComplete reading files status =
+abbrev pub IsComplete : Reading → Option Files → Said → Type 0
+IsComplete reading files said =
     IfSome files (λ told. (texts : List (List ℕ)) → loads_of told (files_of reading) ≡ Some texts
-    → IsAnswered reading texts status)
+    → IsAnswered reading texts said)

@@ -12,41 +12,40 @@ use Rattle.pb_run.specs.Contents.{SavesIn, LeavesPart, KeepsUnnamed}
 use Rattle.pb_run.specs.Served.{IsAnswered, CanServe, AnswersWhatFits, IsComplete}
 use Rattle.pb_run.specs.Parted.{asks_one_part}
 use Rattle.pb_run.specs.Course.{DoesSince}
-use Rattle.pb_run.specs.Outcome.{Outcome, IsAnswer}
+use Rattle.pb_run.specs.Outcome.{Outcome, outcome, IsAnswer}
 
 -- - `in_order`: the calls are a beginning of one sequence, so no other call can provoke a failure.
 -- - `shelf_fault`, `sink_fault`: 73 and 74 come if and only if a call on the shelf, or on the sink,
 --   failed.
 -- - `answered`: if no call failed, there is an answer to the loaded texts, or memory ran out.
 -- - `named`: files are begun only under names of the command line, in its order.
-pub record CallsHold (words : List (List ℕ)) (status : ℕ) (shelf shelf' sink sink' : List Call)
-    : Type 0 where
-  pub in_order : DoesSince (reading_of_words words) status shelf shelf' sink sink'
+pub record CallsHold (words : List (List ℕ)) (status looks : ℕ)
+    (shelf shelf' sink sink' : List Call) : Type 0 where
+  pub in_order : DoesSince (reading_of_words words) status looks shelf shelf' sink sink'
   pub shelf_fault : status ≡ 73 ↔ IsTrue (have_failed (calls_since shelf shelf'))
   pub sink_fault : status ≡ 74 ↔ IsTrue (have_failed (calls_since sink sink'))
   pub answered : have_failed (calls_since shelf shelf') ≡ false
       → have_failed (calls_since sink sink') ≡ false
-      → IsAnswered (reading_of_words words) (loaded_texts (calls_since shelf shelf')) status
+      → IsAnswered (reading_of_words words) (loaded_texts (calls_since shelf shelf'))
+      (outcome words status looks shelf shelf' sink sink').said
   pub named : AreSomeOf (map (λ (o : Output). o.name) (outputs_in (calls_since shelf shelf')))
       (saved_names (reading_of_words words))
 
 -- There is an answer, or memory ran out. If the files are known and the named ones are there, it is
 -- an answer to their texts.
-pub record IsServed (words : List (List ℕ)) (status : ℕ) (files : Option Files) : Type 0 where
-  pub complete : IsComplete (reading_of_words words) files status
-  pub answered : IsAnswer status ⊎ (status ≡ 71)
+pub record IsServed (it : Outcome) (files : Option Files) : Type 0 where
+  pub complete : IsComplete it.asked files it.said
+  pub answered : IsAnswer it.said.status ⊎ (it.said.status ≡ 71)
 
 -- - `served`: it is so if the shelf can load the named files, can hold whatever may be answered of
 --   their texts, and the sink can take whatever may be printed.
 -- - `fits`: if the shelf can load them, it is enough that both can do this of the one answer that
 --   these texts get. A journal that is saved is then as long as its own events, and not as those
 --   that the budget allows (`saved_journals_are_short`).
-pub record AnswersIfServed (words : List (List ℕ)) (status : ℕ) (files : Option Files)
-    (can_load : List ℕ → Type 0) (can_hold : List ℕ → ℕ → Type 0) (can_take : ℕ → Type 0)
-    : Type 0 where
-  pub served : CanServe (reading_of_words words) files can_load can_hold can_take
-      → IsServed words status files
-  pub fits : AnswersWhatFits (reading_of_words words) status files can_load can_hold can_take
+pub record AnswersIfServed (it : Outcome) (files : Option Files) (can_load : List ℕ → Type 0)
+    (can_hold : List ℕ → ℕ → Type 0) (can_take : ℕ → Type 0) : Type 0 where
+  pub served : CanServe it.asked files can_load can_hold can_take → IsServed it files
+  pub fits : AnswersWhatFits it.asked it.said.status it.said.looks files can_load can_hold can_take
 
 -- Where nothing is answered: if one part is asked for, nothing is printed at 71 and 73, and nothing
 -- is saved at 71. The shelf's count of faults rises at 73 and the sink's at 74, and none ever
@@ -76,7 +75,7 @@ pub record ContentsHold (it : Outcome) (files files' : Option Files)
   pub kept : asks_one_part it.asked ≡ true → it.said.status ≡ 71 → IfTold files files' KeepsAll
   pub left : it.said.status ≡ 73 → IfTold files files'
       (λ before after. (KeepsAll before after × (it.said.report ≡ []))
-      ⊎ LeavesPart it.asked it.texts it.said.report before after)
+      ⊎ LeavesPart it.asked it.texts it.said.looks it.said.report before after)
   pub others : IfTold files files' (KeepsUnnamed it.asked)
   pub printed : IfTold written written'
       (λ before after. Appends before after it.said.report)

@@ -15,15 +15,15 @@ use pb_grid::swamp_changes_marks_alone;
 use pb_journal::{journal_texts_are_short, written_journals_are_accepted};
 
 /// A call saves the certificate of a plan, or of there being none. Another call that checks it for
-/// the same input, row, swamp and grounding accepts it. This follows from the clauses `solve`,
-/// `certified` and `check` of both.
+/// the same input, row, swamp and grounding accepts it, unless its grounding is stopped. This
+/// follows from the clauses `solve`, `certified` and `check` of both.
 pub fn saved_certificates_are_accepted()
     ensures { SavedCertificatesAreAccepted }
 {}
 
 /// The journal that one call saves of a search by leases is accepted by another call that judges it
-/// for the same input and grounding. This follows from the clauses `solve`, `certified`, `stopped`
-/// and `journal` of both.
+/// for the same input and grounding, unless its grounding is stopped. This follows from the clauses
+/// `solve`, `certified`, `stopped` and `journal` of both.
 pub fn saved_journals_are_accepted()
     ensures { SavedJournalsAreAccepted }
 {
@@ -72,16 +72,17 @@ pub fn certificates_state_their_pattern()
     solve_reads_options();
 }
 
-/// A `check` of a valid certificate is served, so it answers 0 or memory ran out. This needs a line
-/// of room in the sink, and on the shelf room for what `--rewrite` saves.
+/// A `check` of a valid certificate is served, so it answers 0, or its grounding is stopped, or
+/// memory ran out. This needs a line of room in the sink, and on the shelf room for what `--rewrite`
+/// saves.
 pub fn checks_are_served()
     ensures { ChecksAreServed }
 {
     bounds_are_least();
 }
 
-/// A `journal` of a legal journal is served, so it answers 0 or memory ran out. This needs a line
-/// of room in the sink.
+/// A `journal` of a legal journal is served, so it answers 0, or its grounding is stopped, or
+/// memory ran out. This needs a line of room in the sink.
 pub fn journals_are_served()
     ensures { JournalsAreServed }
 {}

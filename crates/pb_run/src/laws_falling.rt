@@ -23,8 +23,8 @@ pub fn falling_holds_by_kind()
 }
 
 /// Each certificate that a call with falling weights saved whole is accepted by another call that
-/// checks it for the same input, row, swamp and grounding. This follows from the clauses `falling`
-/// and `check` of both.
+/// checks it for the same input, row, swamp and grounding, unless its grounding is stopped. This
+/// follows from the clauses `falling` and `check` of both.
 pub fn saved_claims_are_accepted()
     ensures { SavedClaimsAreAccepted }
 {}

@@ -20,5 +20,6 @@ mod top;
 
 pub use laws::saved_certificates_are_accepted;
 pub use memory::run_in_memory;
+pub use pb_strips::{Looks, MOST_LOOKS};
 pub use start::{report_unread_words, words_of};
 pub use top::run;

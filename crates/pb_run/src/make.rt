@@ -40,18 +40,21 @@ fn report_made(alloc: Global, answer: &MadeAnswer) -> Result<Report, AllocError>
 }
 
 /// Makes a task of the words' kind, seed and size, solves it, checks the certificate, and says what
-/// came out. Nothing is saved. An error is out of memory.
+/// came out. Nothing is saved. The answer counts the given looks: a made task is grounded without
+/// them. An error is out of memory.
 pub fn make_task<'a, R: Threads + Wait + Sync, G: Gate>(
     rt: &R,
     alloc: Global,
     make: MakeCommand,
     gate: &G,
+    looks: u64,
 ) -> Result<Answer<'a>, AllocError>
     requires { IsInRange (Make (make_meant make)) }
-    ensures { IfOk result (λ a. IsMade (make_meant make) (said_of a)) }
+    ensures made { IfOk result (λ a. IsMade (make_meant make) (said_of a)) }
+    ensures looks { IfOk result (λ a. (said_of a).looks ≡ looks) }
 {
     let workers = make.workers as u32;
     let answer = solve_made(rt, alloc, make.kind, make.seed, make.size, workers, gate)?;
     let report = report_made(alloc, &answer)?;
-    Ok(Answer::without_files(status_of(&answer), report))
+    Ok(Answer::without_files(status_of(&answer), report, looks))
 }

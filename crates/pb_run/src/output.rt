@@ -131,13 +131,13 @@ pub fn hand_out_at_once<H: Shelf, K: Sink>(
     requires { IsAnswer (said_of answer.now).status }
     ensures hands { (reading : Reading) (texts : List (List ℕ))
         → IsOnePart reading texts (said_of answer.now)
-        → HandsOutTexts reading texts (number_of result) (H.files shelf.old) (H.files shelf.new)
-        (H.calls shelf.old) (H.calls shelf.new) (K.calls out.old) (K.calls out.new)
-        (K.written out.old) (K.written out.new) }
+        → HandsOutTexts reading texts (number_of result) (said_of answer.now).looks
+        (H.files shelf.old) (H.files shelf.new) (H.calls shelf.old) (H.calls shelf.new)
+        (K.calls out.old) (K.calls out.new) (K.written out.old) (K.written out.new) }
     ensures fits { (reading : Reading) (texts : List (List ℕ))
         → IsOnePart reading texts (said_of answer.now) → IsSome (H.files shelf.old)
-        → HandsOutIfPartsFit reading texts (number_of result) (H.can_hold shelf.old)
-        (K.can_take out.old) }
+        → HandsOutIfPartsFit reading texts (number_of result) (said_of answer.now).looks
+        (H.can_hold shelf.old) (K.can_take out.old) }
     ensures shelf_fault { number_of result ≡ 73 → Rose (H.faults shelf.old) (H.faults shelf.new) }
     ensures sink_fault { number_of result ≡ 74 → Rose (K.faults out.old) (K.faults out.new) }
     ensures shelf_later { H.faults shelf.old ≤ H.faults shelf.new }

@@ -21,6 +21,7 @@ use crate::output::hand_out_at_once;
 use pb_answer::{SearchedStore, Status};
 use pb_grid::read_as_spelled;
 use pb_outside::{Gate, Shelf, Sink};
+use pb_strips::Looks;
 use pb_tiles::readings_are_spelled;
 use std::alloc::{AllocError, Global};
 use std::sync::Wait;
@@ -32,6 +33,9 @@ use std::thread::Threads;
 /// time before one is renewed or comes back. Of owners, and of workers that check a certificate, it
 /// is told before and after each part. No clause says so.
 ///
+/// `looks` counts the rows that grounding looks at. At 2^30 grounding is stopped. With
+/// `Looks::new()` the count begins at 0, so it is that of this call.
+///
 /// The clauses speak of the calls that this call made on the shelf and the sink, and so of any
 /// shelf and sink. What they say of contents, if these are known, is last.
 pub fn run<R: Threads + Wait + Sync, H: Shelf, K: Sink, G: Gate>(
@@ -41,71 +45,96 @@ pub fn run<R: Threads + Wait + Sync, H: Shelf, K: Sink, G: Gate>(
     shelf: &mut H,
     out: &mut K,
     gate: &G,
+    looks: &mut Looks,
 ) -> u8
     // The next eight clauses, and `solve`, speak of `solve` without `--falling`.
     // Status 0: what is printed is a plan of the task, with its cost and bound.
     ensures plan { PlanIsPlan (outcome (map string_bytes words.now) result
-        (H.calls shelf.old) (H.calls shelf.new) (K.calls out.old) (K.calls out.new)) }
+        looks.new.taken (H.calls shelf.old) (H.calls shelf.new) (K.calls out.old)
+        (K.calls out.new)) }
     // No plan costs less than that cost divided by the weight.
     ensures cheapest { NoneIsCheaper (outcome (map string_bytes words.now) result
-        (H.calls shelf.old) (H.calls shelf.new) (K.calls out.old) (K.calls out.new)) }
+        looks.new.taken (H.calls shelf.old) (H.calls shelf.new) (K.calls out.old)
+        (K.calls out.new)) }
     // The saved certificate is valid, and has that plan, or claims that there is none.
     ensures certified { CertificateHolds (outcome (map string_bytes words.now) result
-        (H.calls shelf.old) (H.calls shelf.new) (K.calls out.old) (K.calls out.new)) }
+        looks.new.taken (H.calls shelf.old) (H.calls shelf.new) (K.calls out.old)
+        (K.calls out.new)) }
     // Status 1: no plan exists.
     ensures none { NoneMeansNone (outcome (map string_bytes words.now) result
-        (H.calls shelf.old) (H.calls shelf.new) (K.calls out.old) (K.calls out.new)) }
-    // Status 2: the budget was used up. Nothing is claimed.
+        looks.new.taken (H.calls shelf.old) (H.calls shelf.new) (K.calls out.old)
+        (K.calls out.new)) }
+    // Status 2: the budget was used up, or grounding was stopped. Nothing is claimed.
     ensures stopped { StopHasCause (outcome (map string_bytes words.now) result
-        (H.calls shelf.old) (H.calls shelf.new) (K.calls out.old) (K.calls out.new)) }
+        looks.new.taken (H.calls shelf.old) (H.calls shelf.new) (K.calls out.old)
+        (K.calls out.new)) }
     // The same for each kind of task in its own words: cells, tiles, names of facts and actions.
     ensures maps { MapsHold (outcome (map string_bytes words.now) result
-        (H.calls shelf.old) (H.calls shelf.new) (K.calls out.old) (K.calls out.new)) }
+        looks.new.taken (H.calls shelf.old) (H.calls shelf.new) (K.calls out.old)
+        (K.calls out.new)) }
     ensures boards { BoardsHold (outcome (map string_bytes words.now) result
-        (H.calls shelf.old) (H.calls shelf.new) (K.calls out.old) (K.calls out.new)) }
+        looks.new.taken (H.calls shelf.old) (H.calls shelf.new) (K.calls out.old)
+        (K.calls out.new)) }
     ensures named { NamedHolds (outcome (map string_bytes words.now) result
-        (H.calls shelf.old) (H.calls shelf.new) (K.calls out.old) (K.calls out.new)) }
+        looks.new.taken (H.calls shelf.old) (H.calls shelf.new) (K.calls out.old)
+        (K.calls out.new)) }
     // With falling weights: the same for each claim, the costs of which never rise. With status 0
     // no plan is cheaper than the last one. If nothing more is answered, what is out.
     ensures falling { FallingsHold (outcome (map string_bytes words.now) result
-        (H.calls shelf.old) (H.calls shelf.new) (K.calls out.old) (K.calls out.new)) }
+        looks.new.taken (H.calls shelf.old) (H.calls shelf.new) (K.calls out.old)
+        (K.calls out.new)) }
     // And for each kind of task in its own words.
     ensures falling_maps { FallingMapsHold (outcome (map string_bytes words.now) result
-        (H.calls shelf.old) (H.calls shelf.new) (K.calls out.old) (K.calls out.new)) }
+        looks.new.taken (H.calls shelf.old) (H.calls shelf.new) (K.calls out.old)
+        (K.calls out.new)) }
     ensures falling_boards { FallingBoardsHold (outcome (map string_bytes words.now) result
-        (H.calls shelf.old) (H.calls shelf.new) (K.calls out.old) (K.calls out.new)) }
+        looks.new.taken (H.calls shelf.old) (H.calls shelf.new) (K.calls out.old)
+        (K.calls out.new)) }
     ensures falling_named { FallingNamedHold (outcome (map string_bytes words.now) result
-        (H.calls shelf.old) (H.calls shelf.new) (K.calls out.old) (K.calls out.new)) }
+        looks.new.taken (H.calls shelf.old) (H.calls shelf.new) (K.calls out.old)
+        (K.calls out.new)) }
     // What else each command promises, and what is refused.
     ensures solve { SolvesHold (outcome (map string_bytes words.now) result
-        (H.calls shelf.old) (H.calls shelf.new) (K.calls out.old) (K.calls out.new)) }
+        looks.new.taken (H.calls shelf.old) (H.calls shelf.new) (K.calls out.old)
+        (K.calls out.new)) }
     ensures check { ChecksHold (outcome (map string_bytes words.now) result
-        (H.calls shelf.old) (H.calls shelf.new) (K.calls out.old) (K.calls out.new)) }
+        looks.new.taken (H.calls shelf.old) (H.calls shelf.new) (K.calls out.old)
+        (K.calls out.new)) }
     ensures journal { JournalsHold (outcome (map string_bytes words.now) result
-        (H.calls shelf.old) (H.calls shelf.new) (K.calls out.old) (K.calls out.new)) }
+        looks.new.taken (H.calls shelf.old) (H.calls shelf.new) (K.calls out.old)
+        (K.calls out.new)) }
     ensures make { MakesHold (outcome (map string_bytes words.now) result
-        (H.calls shelf.old) (H.calls shelf.new) (K.calls out.old) (K.calls out.new)) }
+        looks.new.taken (H.calls shelf.old) (H.calls shelf.new) (K.calls out.old)
+        (K.calls out.new)) }
     ensures refused { RefusalHolds (outcome (map string_bytes words.now) result
-        (H.calls shelf.old) (H.calls shelf.new) (K.calls out.old) (K.calls out.new)) }
+        looks.new.taken (H.calls shelf.old) (H.calls shelf.new) (K.calls out.old)
+        (K.calls out.new)) }
     // The calls on files and output: in which order they come, and what a failure means. If the
     // shelf can load and hold what is asked for and the sink can take it, there is an answer.
-    ensures calls { CallsHold (map string_bytes words.now) result
+    ensures calls { CallsHold (map string_bytes words.now) result looks.new.taken
         (H.calls shelf.old) (H.calls shelf.new) (K.calls out.old) (K.calls out.new) }
-    ensures answered { AnswersIfServed (map string_bytes words.now) result (H.files shelf.old)
-        (H.can_load shelf.old) (H.can_hold shelf.old) (K.can_take out.old) }
+    ensures answered { AnswersIfServed (outcome (map string_bytes words.now) result
+        looks.new.taken (H.calls shelf.old) (H.calls shelf.new) (K.calls out.old)
+        (K.calls out.new))
+        (H.files shelf.old) (H.can_load shelf.old) (H.can_hold shelf.old) (K.can_take out.old) }
+    // Grounding counts its looks upwards, in the same count.
+    ensures since { looks.new.since ≡ looks.old.since }
+    ensures rising { looks.old.taken ≤ looks.new.taken }
     // If nothing is answered: what is left out, and the counts of faults.
     ensures broken { BreaksOnlyBy (outcome (map string_bytes words.now) result
-        (H.calls shelf.old) (H.calls shelf.new) (K.calls out.old) (K.calls out.new))
+        looks.new.taken (H.calls shelf.old) (H.calls shelf.new) (K.calls out.old)
+        (K.calls out.new))
         (H.faults shelf.old) (H.faults shelf.new) (K.faults out.old) (K.faults out.new) }
     // If contents are known: they agree with the calls, and all other files stay.
     ensures contents { ContentsHold (outcome (map string_bytes words.now) result
-        (H.calls shelf.old) (H.calls shelf.new) (K.calls out.old) (K.calls out.new))
+        looks.new.taken (H.calls shelf.old) (H.calls shelf.new) (K.calls out.old)
+        (K.calls out.new))
         (H.files shelf.old) (H.files shelf.new) (K.written out.old) (K.written out.new) }
 {
     read_as_spelled();
     readings_are_spelled();
     let mut kept = None;
-    let status = carry_out(rt, alloc, words, shelf, out, gate, &mut kept);
+    let status = carry_out(rt, alloc, words, shelf, out, gate, &mut kept, looks);
     status.number()
 }
 
@@ -120,15 +149,18 @@ fn carry_out<'a, R: Threads + Wait + Sync, H: Shelf, K: Sink, G: Gate>(
     out: &mut K,
     gate: &G,
     kept: &'a mut Option<SearchedStore>,
+    looks: &mut Looks,
 ) -> Status
     ensures goes { Goes (reading_of_words (map string_bytes words.now)) (number_of result)
-        (H.files shelf.old) (H.files shelf.new) (H.calls shelf.old) (H.calls shelf.new)
-        (K.calls out.old) (K.calls out.new) }
+        looks.new.taken (H.files shelf.old) (H.files shelf.new) (H.calls shelf.old)
+        (H.calls shelf.new) (K.calls out.old) (K.calls out.new) }
+    ensures since { looks.new.since ≡ looks.old.since }
+    ensures rising { looks.old.taken ≤ looks.new.taken }
     ensures written { WritesPut (K.written out.old) (K.written out.new) (K.calls out.old)
         (K.calls out.new) }
     ensures fits { AnswersWhatFits (reading_of_words (map string_bytes words.now))
-        (number_of result) (H.files shelf.old) (H.can_load shelf.old) (H.can_hold shelf.old)
-        (K.can_take out.old) }
+        (number_of result) looks.new.taken (H.files shelf.old) (H.can_load shelf.old)
+        (H.can_hold shelf.old) (K.can_take out.old) }
     ensures shelf_count { number_of result ≡ 73 → Rose (H.faults shelf.old) (H.faults shelf.new) }
     ensures sink_count { number_of result ≡ 74 → Rose (K.faults out.old) (K.faults out.new) }
     ensures shelf_later { H.faults shelf.old ≤ H.faults shelf.new }
@@ -142,7 +174,7 @@ fn carry_out<'a, R: Threads + Wait + Sync, H: Shelf, K: Sink, G: Gate>(
         Ok(texts) => texts,
         Err(fault) => return fault.status(),
     };
-    let Ok(answer) = answer_asked(rt, alloc, &asked, &texts, gate, kept) else {
+    let Ok(answer) = answer_asked(rt, alloc, &asked, &texts, gate, kept, looks) else {
         return Status::OutOfMemory;
     };
     match answer {

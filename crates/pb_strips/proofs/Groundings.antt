@@ -72,6 +72,7 @@ tells_fault domain problem (errors.TooManyAtoms n) told =
     first_round domain problem (reaching.TooManyAtoms n) told.0 ((refusal_is_first (lifted_of domain problem) (reaching.TooManyAtoms n)).1 told.1)
 tells_fault domain problem errors.TooManyActions told =
     first_round domain problem reaching.TooManyActions told.0 ((refusal_is_first (lifted_of domain problem) reaching.TooManyActions).1 told.1)
+tells_fault domain problem errors.Stopped told = tt
 tells_fault domain problem errors.Memory told = tt
 
 pub all_tell : {X : Type 0} (domain : Domain) (problem : Problem) (r : Result X StripsError) → IfErr r (TellsReached domain problem) → IfErr r (Tells (fault_with Reachable domain problem))

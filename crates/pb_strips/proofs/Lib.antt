@@ -10,6 +10,7 @@ mod Packed
 mod PlansAgree
 mod StatesAgree
 mod StepsAgree
+mod Stopping
 mod TaskParts
 mod ReachedTask
 mod Words

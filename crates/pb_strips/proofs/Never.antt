@@ -1,5 +1,5 @@
 -- What is well typed and within the limits is not refused.
-use Rattle.std.proofs.Common.{◌≡◌, ℕ, cond, nat_lt, length, Option, Some, None, Result, Ok, Err, refl, ap, ◌∙◌, subst}
+use Rattle.std.proofs.Common.{◌≡◌, ℕ, cond, nat_lt, length, Option, Some, None, Result, Ok, Err, ap, ◌∙◌, subst}
 use Rattle.std.proofs.lemmas.Bool.{le-ltb}
 use Rattle.std.specs.Prelude.{IfErr}
 use Rattle.pb_packed.specs.Sizes.{most_atoms}
@@ -15,7 +15,7 @@ use Rattle.pb_ground.specs.Actions.{ground_actions}
 use Rattle.pb_ground.specs.Errors as ground
 use Rattle.pb_strips.specs.declared.error.StripsError.{StripsError}
 use Rattle.pb_strips.specs.declared.error.StripsError.TheVariants as errors
-use Rattle.pb_strips.specs.Refusals.{or_too_many, first_fault, Tells, IsWithinLimits}
+use Rattle.pb_strips.specs.Refusals.{or_too_many, first_fault, Tells, IsNoFault, IsWithinLimits}
 
 pub within_limits : (domain : Domain) (problem : Problem) → first_refusal domain problem ≡ None → IsWithinLimits domain problem → first_fault domain problem ≡ None
 within_limits domain problem none limits =
@@ -30,12 +30,13 @@ within_limits domain problem none limits =
 pub no_fault : (domain : Domain) (problem : Problem) → IsWellTyped domain problem → IsWithinLimits domain problem → first_fault domain problem ≡ None
 no_fault domain problem typed limits = within_limits domain problem (well_typed_is_accepted domain problem typed) limits
 
-memory_alone : (e : StripsError) → Tells None e → e ≡ errors.Memory
-memory_alone (errors.Refused refusal) told = cc
-memory_alone (errors.TooManyAtoms n) told = cc
-memory_alone errors.TooManyActions told = cc
-memory_alone errors.Memory told = refl
+is_no_fault : (e : StripsError) → Tells None e → IsNoFault e
+is_no_fault (errors.Refused refusal) told = cc
+is_no_fault (errors.TooManyAtoms n) told = cc
+is_no_fault errors.TooManyActions told = cc
+is_no_fault errors.Stopped told = tt
+is_no_fault errors.Memory told = tt
 
-pub only_memory : {X : Type 0} (r : Result X StripsError) (fault : Option StripsError) → IfErr r (Tells fault) → fault ≡ None → IfErr r (λ e. e ≡ errors.Memory)
-only_memory (Ok x) fault told none = tt
-only_memory (Err e) fault told none = memory_alone e (subst (λ (f : Option StripsError). Tells f e) none told)
+pub never_refused : {X : Type 0} (r : Result X StripsError) (fault : Option StripsError) → IfErr r (Tells fault) → fault ≡ None → IfErr r IsNoFault
+never_refused (Ok x) fault told none = tt
+never_refused (Err e) fault told none = is_no_fault e (subst (λ (f : Option StripsError). Tells f e) none told)

@@ -1,5 +1,5 @@
 -- The task of what is reached, and why there is none.
-use Rattle.std.proofs.Common.{◌≡◌, List, Some, None, Result, Ok, Err, refl, sym, ap, ◌∙◌, subst}
+use Rattle.std.proofs.Common.{◌≡◌, List, Some, None, Result, Ok, Err, sym, ap, ◌∙◌, subst}
 use Rattle.std.specs.Prelude.{IfErr}
 use Rattle.pb_pddl.specs.declared.tree.Domain.{Domain}
 use Rattle.pb_pddl.specs.declared.tree.Problem.{Problem}
@@ -23,7 +23,7 @@ use Rattle.pb_strips.specs.declared.error.StripsError.{StripsError}
 use Rattle.pb_strips.specs.declared.error.StripsError.TheVariants as errors
 use Rattle.pb_strips.specs.Grounding.{strips_by, reached_strips}
 use Rattle.pb_strips.specs.Packing.{of_lifted, of_reach}
-use Rattle.pb_strips.specs.Refusals.{TellsReached}
+use Rattle.pb_strips.specs.Refusals.{IsNoFault, TellsReached}
 
 -- parts over the atoms that are reached are the task's
 pub reached_parts : (domain : Domain) (problem : Problem) (lifted : Lifted) (atoms : List GroundAtom) (parts : StripsParts) → first_refusal domain problem ≡ None → lifted ≡ lifted_of domain problem
@@ -43,6 +43,7 @@ pub tells_reach : (domain : Domain) (problem : Problem) (lifted : Lifted) (e : R
     → TellsReached domain problem (of_reach e)
 tells_reach domain problem lifted (reaching.TooManyAtoms n) none same told = (none, subst (λ (l : Lifted). IsFirst l (reaching.TooManyAtoms n)) same told)
 tells_reach domain problem lifted reaching.TooManyActions none same told = (none, subst (λ (l : Lifted). IsFirst l reaching.TooManyActions) same told)
+tells_reach domain problem lifted reaching.Stopped none same told = tt
 tells_reach domain problem lifted reaching.Memory none same told = tt
 
 -- ---- what is well typed and within the limits is not refused
@@ -50,14 +51,15 @@ tells_reach domain problem lifted reaching.Memory none same told = tt
 not_first : {A : Type 0} (lifted : Lifted) (e : ReachError) → IsWithin lifted → IsFirst lifted e → A
 not_first lifted e within first = let no : Some e ≡ None = sym first.1 ∙ within first.0 in cc
 
-memory_alone : (domain : Domain) (problem : Problem) (e : StripsError) → IsWellTyped domain problem → IsWithin (lifted_of domain problem) → TellsReached domain problem e → e ≡ errors.Memory
-memory_alone domain problem (errors.Refused refusal) typed within told =
+is_no_fault : (domain : Domain) (problem : Problem) (e : StripsError) → IsWellTyped domain problem → IsWithin (lifted_of domain problem) → TellsReached domain problem e → IsNoFault e
+is_no_fault domain problem (errors.Refused refusal) typed within told =
     let no : Some refusal ≡ None = sym told ∙ well_typed_is_accepted domain problem typed in cc
-memory_alone domain problem (errors.TooManyAtoms n) typed within told = not_first (lifted_of domain problem) (reaching.TooManyAtoms n) within told.1
-memory_alone domain problem errors.TooManyActions typed within told = not_first (lifted_of domain problem) reaching.TooManyActions within told.1
-memory_alone domain problem errors.Memory typed within told = refl
+is_no_fault domain problem (errors.TooManyAtoms n) typed within told = not_first (lifted_of domain problem) (reaching.TooManyAtoms n) within told.1
+is_no_fault domain problem errors.TooManyActions typed within told = not_first (lifted_of domain problem) reaching.TooManyActions within told.1
+is_no_fault domain problem errors.Stopped typed within told = tt
+is_no_fault domain problem errors.Memory typed within told = tt
 
-pub only_memory : {X : Type 0} (domain : Domain) (problem : Problem) (r : Result X StripsError) → IfErr r (TellsReached domain problem) → IsWellTyped domain problem
-    → IsWithin (lifted_of domain problem) → IfErr r (λ e. e ≡ errors.Memory)
-only_memory domain problem (Ok x) told typed within = tt
-only_memory domain problem (Err e) told typed within = memory_alone domain problem e typed within told
+pub never_refused : {X : Type 0} (domain : Domain) (problem : Problem) (r : Result X StripsError) → IfErr r (TellsReached domain problem) → IsWellTyped domain problem
+    → IsWithin (lifted_of domain problem) → IfErr r IsNoFault
+never_refused domain problem (Ok x) told typed within = tt
+never_refused domain problem (Err e) told typed within = is_no_fault domain problem e typed within told

@@ -28,9 +28,11 @@ of_lifted lifted.Memory = errors.Memory
 abbrev pub of_ground : GroundError → StripsError
 of_ground (grounding.TooManyAtoms n) = errors.TooManyAtoms n
 of_ground grounding.TooManyActions = errors.TooManyActions
+of_ground grounding.Stopped = errors.Stopped
 of_ground grounding.Memory = errors.Memory
 
 abbrev pub of_reach : ReachError → StripsError
 of_reach (reaching.TooManyAtoms n) = errors.TooManyAtoms n
 of_reach reaching.TooManyActions = errors.TooManyActions
+of_reach reaching.Stopped = errors.Stopped
 of_reach reaching.Memory = errors.Memory

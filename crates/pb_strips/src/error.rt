@@ -10,7 +10,7 @@ use std::alloc::{AllocError, AllocFailed};
 /// Why a domain and a problem are no task: the first cause. If all ground atoms have numbers, the
 /// causes come in the order of these variants. If only what is reached has numbers, `Refused` comes
 /// first too, and then it goes round by round: too many actions of a round, or else too many atoms
-/// after it.
+/// after it. `Stopped` and `Memory` are no faults.
 #[derive(Clone, Copy)]
 pub enum StripsError {
     /// A name or a cost is at fault, or there are too many objects.
@@ -21,6 +21,9 @@ pub enum StripsError {
     TooManyAtoms { n: u64 },
     /// There are more than 65,536 ground actions, or a round takes more.
     TooManyActions,
+    /// No look is left. It says nothing of the texts but that no fault comes before it: nothing is
+    /// `Refused` and, if all ground atoms have numbers, there aren't too many of these.
+    Stopped,
     /// Memory ran out.
     Memory,
 }
@@ -43,6 +46,7 @@ impl From<GroundError> for StripsError {
         match error {
             GroundError::TooManyAtoms { n } => StripsError::TooManyAtoms { n },
             GroundError::TooManyActions => StripsError::TooManyActions,
+            GroundError::Stopped => StripsError::Stopped,
             GroundError::Memory => StripsError::Memory,
         }
     }
@@ -55,6 +59,7 @@ impl From<ReachError> for StripsError {
         match error {
             ReachError::TooManyAtoms { n } => StripsError::TooManyAtoms { n },
             ReachError::TooManyActions => StripsError::TooManyActions,
+            ReachError::Stopped => StripsError::Stopped,
             ReachError::Memory => StripsError::Memory,
         }
     }

@@ -1,17 +1,17 @@
 ghost use Rattle.std.specs.Prelude.{◌≡◌, ◌≤◌, length, None, OnOk, IfOk, IfErr};
 ghost use Rattle.pb_packed.specs.Sizes.{most_atoms};
+ghost use Rattle.pb_task.specs.declared.grounding.Grounding.TheVariants.{All};
 ghost use Rattle.pb_task.specs.declared.parts.TaskParts.TheVariants.{Strips};
 ghost use Rattle.pb_strips.specs.Grounding.{strips_of};
 ghost use Rattle.pb_lifted.specs.Lifted.{lifted_of};
 ghost use Rattle.pb_lifted.specs.Refusals.{first_refusal};
 ghost use Rattle.pb_lifted.specs.Typing.{IsWellTyped};
 ghost use Rattle.pb_ground.specs.Atoms.{ground_atoms};
-ghost use Rattle.pb_strips.specs.declared.error.StripsError.TheVariants.{Memory};
-ghost use Rattle.pb_strips.specs.Refusals.{first_fault, Tells, IsWithinLimits};
+ghost use Rattle.pb_strips.specs.Refusals.{first_fault, Tells, TellsStop, IsNoFault, IsWithinLimits};
 
 use crate::error::StripsError;
 use crate::parts::parts_of;
-use pb_ground::{Atoms, ground_actions, ground_atoms, is_never};
+use pb_ground::{Atoms, Looks, ground_actions, ground_atoms, is_never};
 use pb_lifted::{Lifted, resolve};
 use pb_pddl::{Domain, Problem};
 use pb_task::{Grounding, Task};
@@ -24,6 +24,7 @@ fn task_by(
     problem: &Problem,
     lifted: &Lifted,
     atoms: &Atoms,
+    looks: &mut Looks,
 ) -> Result<Task, StripsError>
     requires resolved { first_refusal domain.now problem.now ≡ None }
     requires lifted { lifted.now ≡ lifted_of domain.now problem.now }
@@ -32,8 +33,11 @@ fn task_by(
     ensures accepted { OnOk result (first_fault domain.now problem.now ≡ None) }
     ensures task { IfOk result (λ task. task ≡ Strips (strips_of domain.now problem.now)) }
     ensures refused { IfErr result (Tells (first_fault domain.now problem.now)) }
+    ensures stopped { IfErr result (TellsStop All domain.now problem.now looks.new) }
+    ensures since { looks.new.since ≡ looks.old.since }
+    ensures rising { looks.old.taken ≤ looks.new.taken }
 {
-    let actions = ground_actions(alloc, lifted, atoms)?;
+    let actions = ground_actions(alloc, lifted, atoms, looks)?;
     let never = is_never(alloc, lifted)?;
     let actions = actions.as_slice();
     let parts = parts_of(
@@ -49,14 +53,22 @@ fn task_by(
     Ok(Task::of_strips(parts))
 }
 
-fn task_of(alloc: Global, domain: &Domain, problem: &Problem) -> Result<Task, StripsError>
+fn task_of(
+    alloc: Global,
+    domain: &Domain,
+    problem: &Problem,
+    looks: &mut Looks,
+) -> Result<Task, StripsError>
     ensures accepted { OnOk result (first_fault domain.now problem.now ≡ None) }
     ensures task { IfOk result (λ task. task ≡ Strips (strips_of domain.now problem.now)) }
     ensures refused { IfErr result (Tells (first_fault domain.now problem.now)) }
+    ensures stopped { IfErr result (TellsStop All domain.now problem.now looks.new) }
+    ensures since { looks.new.since ≡ looks.old.since }
+    ensures rising { looks.old.taken ≤ looks.new.taken }
 {
     let lifted = resolve(alloc, domain, problem)?;
     let atoms = ground_atoms(alloc, &lifted)?;
-    task_by(alloc, domain, problem, &lifted, &atoms)
+    task_by(alloc, domain, problem, &lifted, &atoms, looks)
 }
 
 /// The task of a domain and a problem. Its atoms are the ground atoms in their order. Its actions
@@ -64,18 +76,29 @@ fn task_of(alloc: Global, domain: &Domain, problem: &Problem) -> Result<Task, St
 ///
 /// Else the error is the first fault: a fault of a name, of a cost or of too many objects, then too
 /// many atoms, then too many actions. Both limits are looked at before the atoms or actions are
-/// built. `Memory` says nothing of the texts.
-pub fn ground(alloc: Global, domain: &Domain, problem: &Problem) -> Result<Task, StripsError>
+/// built. `Memory` says nothing of the texts. `Stopped` comes if no look is left; it is in the place
+/// of too many actions.
+pub fn ground(
+    alloc: Global,
+    domain: &Domain,
+    problem: &Problem,
+    looks: &mut Looks,
+) -> Result<Task, StripsError>
     // The domain and the problem are a task.
     ensures accepted { OnOk result (first_fault domain.now problem.now ≡ None) }
     // It is this task.
     ensures task { IfOk result (λ task. task ≡ Strips (strips_of domain.now problem.now)) }
-    // The error is the first fault, unless memory ran out.
+    // The error is the first fault, unless memory or looks ran out.
     ensures refused { IfErr result (Tells (first_fault domain.now problem.now)) }
-    // A well-typed task within the numbers of atoms and actions is never refused, unless memory
-    // runs out.
+    // A well-typed task within the numbers of atoms and actions is never refused, unless memory or
+    // looks run out.
     ensures never { IsWellTyped domain.now problem.now → IsWithinLimits domain.now problem.now
-        → IfErr result (λ e. e ≡ Memory) }
+        → IfErr result IsNoFault }
+    // A stop comes only if no look is left, and no fault comes before it.
+    ensures stopped { IfErr result (TellsStop All domain.now problem.now looks.new) }
+    // The looks that were taken stay taken, in the same count.
+    ensures since { looks.new.since ≡ looks.old.since }
+    ensures rising { looks.old.taken ≤ looks.new.taken }
 {
-    task_of(alloc, domain, problem)
+    task_of(alloc, domain, problem, looks)
 }

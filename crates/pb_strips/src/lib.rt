@@ -17,5 +17,6 @@ pub use laws::{
     groundings_are_by_names, kept_atoms_are_enough, names_are_printed, names_tell_actions,
     plans_are_lifted, reached_is_accepted, steps_are_lifted, texts_keep_names,
 };
+pub use pb_ground::{Looks, MOST_LOOKS};
 pub use reaching::ground_reached;
 pub use task::ground_with;

@@ -1,5 +1,6 @@
 ghost use Rattle.std.specs.Prelude.{◌≡◌, ◌≤◌, length, None, OnOk, IfOk, IfErr};
 ghost use Rattle.pb_packed.specs.Sizes.{most_atoms};
+ghost use Rattle.pb_task.specs.declared.grounding.Grounding.TheVariants.{Reachable};
 ghost use Rattle.pb_task.specs.declared.parts.TaskParts.TheVariants.{Strips};
 ghost use Rattle.pb_lifted.specs.Lifted.{lifted_of};
 ghost use Rattle.pb_lifted.specs.Refusals.{first_refusal};
@@ -9,11 +10,11 @@ ghost use Rattle.pb_ground.specs.Keeping.{AreKept};
 ghost use Rattle.pb_reach.specs.Limits.{IsWithin};
 ghost use Rattle.pb_reach.specs.Rounds.{is_reached};
 ghost use Rattle.pb_strips.specs.Grounding.{reached_strips};
-ghost use Rattle.pb_strips.specs.Refusals.{TellsReached};
-ghost use Rattle.pb_strips.specs.declared.error.StripsError.TheVariants.{Memory};
+ghost use Rattle.pb_strips.specs.Refusals.{TellsReached, TellsStop, IsNoFault};
 
 use crate::error::StripsError;
 use crate::parts::parts_of;
+use pb_ground::Looks;
 use pb_lifted::{Lifted, resolve};
 use pb_pddl::{Domain, Problem};
 use pb_reach::{Reached, reach};
@@ -53,14 +54,22 @@ fn task_by(
     Ok(Task::of_strips(parts))
 }
 
-fn task_of(alloc: Global, domain: &Domain, problem: &Problem) -> Result<Task, StripsError>
+fn task_of(
+    alloc: Global,
+    domain: &Domain,
+    problem: &Problem,
+    looks: &mut Looks,
+) -> Result<Task, StripsError>
     ensures accepted { OnOk result (first_refusal domain.now problem.now ≡ None) }
     ensures within { OnOk result (IsWithin (lifted_of domain.now problem.now)) }
     ensures task { IfOk result (λ task. task ≡ Strips (reached_strips domain.now problem.now)) }
     ensures refused { IfErr result (TellsReached domain.now problem.now) }
+    ensures stopped { IfErr result (TellsStop Reachable domain.now problem.now looks.new) }
+    ensures since { looks.new.since ≡ looks.old.since }
+    ensures rising { looks.old.taken ≤ looks.new.taken }
 {
     let lifted = resolve(alloc, domain, problem)?;
-    let reached = reach(alloc, &lifted)?;
+    let reached = reach(alloc, &lifted, looks)?;
     let task = task_by(alloc, domain, problem, &lifted, &reached)?;
     Ok(task)
 }
@@ -72,11 +81,12 @@ fn task_of(alloc: Global, domain: &Domain, problem: &Problem) -> Result<Task, St
 ///
 /// Else the error is the first fault: a fault of a name, of a cost or of too many objects, then the
 /// first round with too many actions, or too many atoms after it. `Memory` says nothing of the
-/// texts.
+/// texts. `Stopped` comes if no look is left, in whichever round.
 pub fn ground_reached(
     alloc: Global,
     domain: &Domain,
     problem: &Problem,
+    looks: &mut Looks,
 ) -> Result<Task, StripsError>
     // Nothing of the domain and the problem is refused.
     ensures accepted { OnOk result (first_refusal domain.now problem.now ≡ None) }
@@ -84,11 +94,16 @@ pub fn ground_reached(
     ensures within { OnOk result (IsWithin (lifted_of domain.now problem.now)) }
     // It is this task.
     ensures task { IfOk result (λ task. task ≡ Strips (reached_strips domain.now problem.now)) }
-    // The error is the first fault, unless memory ran out.
+    // The error is the first fault, unless memory or looks ran out.
     ensures refused { IfErr result (TellsReached domain.now problem.now) }
-    // A well-typed task within the limits is never refused, unless memory runs out.
+    // A well-typed task within the limits is never refused, unless memory or looks run out.
     ensures never { IsWellTyped domain.now problem.now
-        → IsWithin (lifted_of domain.now problem.now) → IfErr result (λ e. e ≡ Memory) }
+        → IsWithin (lifted_of domain.now problem.now) → IfErr result IsNoFault }
+    // A stop comes only if no look is left, and no fault comes before it.
+    ensures stopped { IfErr result (TellsStop Reachable domain.now problem.now looks.new) }
+    // The looks that were taken stay taken, in the same count.
+    ensures since { looks.new.since ≡ looks.old.since }
+    ensures rising { looks.old.taken ≤ looks.new.taken }
 {
-    task_of(alloc, domain, problem)
+    task_of(alloc, domain, problem, looks)
 }

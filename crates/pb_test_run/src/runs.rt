@@ -1,5 +1,5 @@
 use pb_outside::{Gate, MemShelf, MemSink, Memory, OpenGate};
-use pb_run::run;
+use pb_run::{Looks, run};
 use std::alloc::Global;
 use std::sync::Wait;
 use std::thread::Threads;
@@ -38,7 +38,8 @@ pub fn gated_outcome<R: Threads + Wait + Sync, G: Gate>(
     gate: &G,
 ) -> Result<u8, Memory> {
     let words = words(alloc, line)?;
-    Ok(run(rt, alloc, &words, shelf, sink, gate))
+    let mut looks = Looks::new();
+    Ok(run(rt, alloc, &words, shelf, sink, gate, &mut looks))
 }
 
 /// The status of a run of this command line.

@@ -2,7 +2,8 @@
 use crate::lifted::lifted_of;
 use crate::lines::Lines;
 use pb_ground::{
-    ActionInstance, GroundAtom, GroundError, goal, ground_actions, ground_atoms, is_never, start,
+    ActionInstance, GroundAtom, GroundError, Looks, goal, ground_actions, ground_atoms, is_never,
+    start,
 };
 use pb_lifted::Lifted;
 use pb_outside::Memory;
@@ -53,7 +54,7 @@ fn add_actions(lines: &mut Lines, actions: &[ActionInstance]) -> Result<(), Memo
 // Adds all but the numbers of the start and the goal. An error says why there is no ground task.
 fn add_ground(alloc: Global, lines: &mut Lines, lifted: &Lifted) -> Result<(), GroundError> {
     let atoms = ground_atoms(alloc, lifted)?;
-    let actions = ground_actions(alloc, lifted, &atoms)?;
+    let actions = ground_actions(alloc, lifted, &atoms, &mut Looks::endless())?;
     let first = start(alloc, lifted, &atoms)?;
     let wanted = goal(alloc, lifted, &atoms)?;
     let never = is_never(alloc, lifted)?;

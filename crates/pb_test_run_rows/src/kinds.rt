@@ -6,7 +6,7 @@ use pb_grid::{GridError, read_grid};
 use pb_outside::Memory;
 use pb_packed::Packed;
 use pb_report::Report;
-use pb_strips::{StripsError, ground_with};
+use pb_strips::{Looks, StripsError, ground_with};
 use pb_task::{Grounding, Task, TaskParts};
 use pb_tiles::{TilesError, read_tiles};
 use std::alloc::Global;
@@ -20,7 +20,7 @@ fn strips_of(
     let Some((domain, problem)) = trees_of(alloc, domain, problem)? else {
         return Ok(None);
     };
-    match ground_with(alloc, grounding, &domain, &problem) {
+    match ground_with(alloc, grounding, &domain, &problem, &mut Looks::endless()) {
         Ok(task) => Ok(Some(task)),
         Err(StripsError::Memory) => Err(Memory),
         Err(_) => Ok(None),

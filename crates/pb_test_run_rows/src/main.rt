@@ -1,7 +1,8 @@
 //! Does the rows of the files that the words name, and prints how many each has and what differs.
 //!
 //! The first word of a row's command line says what it is about: the readers and tasks
-//! (`readers`), searches whose workers are delayed (`delays`), or else the whole program.
+//! (`readers`), searches whose workers are delayed (`delays`), the whole program after some looks
+//! (`looked`), or else the whole program.
 #![tactic(auto)]
 
 mod delays;
@@ -10,6 +11,7 @@ mod ground;
 mod kinds;
 mod lifted;
 mod lines;
+mod looked;
 mod made;
 mod moves;
 mod names;
@@ -19,8 +21,9 @@ mod tree;
 mod trees;
 
 use crate::lines::Lines;
+use crate::looked::looked;
 use pb_outside::{MemShelf, MemSink, Memory, OpenGate, Sink};
-use pb_run::run;
+use pb_run::{Looks, run};
 use pb_test_rows::{Command, do_files};
 use std::alloc::Global;
 use std::env;
@@ -39,8 +42,10 @@ fn plan<R: Threads + Wait + Sync>(
     words: &[String],
     shelf: &mut MemShelf,
     sink: &mut MemSink,
+    looks: Looks,
 ) -> u8 {
-    run(rt, alloc, words, shelf, sink, &OpenGate)
+    let mut looks = looks;
+    run(rt, alloc, words, shelf, sink, &OpenGate, &mut looks)
 }
 
 // Prints lines. The status is that of a report, or of a refusal if there are none.
@@ -74,7 +79,10 @@ impl Command for Programs {
                     delays::right_runs(rt, alloc, runs.as_str(), seed.as_str()),
                 )
             }
-            _ => plan(rt, alloc, words, shelf, sink),
+            _ => {
+                let (looks, words) = looked(words);
+                plan(rt, alloc, words, shelf, sink, looks)
+            }
         }
     }
 }

@@ -4,7 +4,7 @@ use crate::lines::Lines;
 use crate::trees::trees_of;
 use pb_outside::Memory;
 use pb_pddl::{Name, Problem, Text, Typed};
-use pb_strips::{StripsError, ground};
+use pb_strips::{Looks, StripsError, ground};
 use pb_task::{Task, TaskParts};
 use std::alloc::{AllocError, Global};
 
@@ -62,7 +62,7 @@ pub(crate) fn lines_beside(
     };
     add_object(alloc, &mut problem, name)?;
     let mut lines = Lines::new(alloc);
-    match ground(alloc, &domain, &problem) {
+    match ground(alloc, &domain, &problem, &mut Looks::endless()) {
         Ok(task) => add_task(alloc, &mut lines, &task)?,
         Err(StripsError::Memory) => return Err(Memory),
         Err(_) => return Ok(None),

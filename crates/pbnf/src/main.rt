@@ -2,13 +2,13 @@
 //! a certificate of that and a journal of the search. It also checks certificates and journals, and
 //! makes tasks.
 //!
-//! `main` gives `run` of `pb_run` the system's files and standard output. `run` is the whole
-//! program over any shelf, sink and gate.
+//! `main` gives `run` of `pb_run` the system's files and standard output, and a count of looks that
+//! begins at 0. `run` is the whole program over any shelf, sink and gate.
 #![tactic(auto)]
 
 use pb_answer::Status;
 use pb_outside::{FileShelf, OpenGate, OutSink};
-use pb_run::{report_unread_words, run, words_of};
+use pb_run::{Looks, report_unread_words, run, words_of};
 use std::alloc::AllocError;
 use std::process::ExitCode;
 use std::{env, io};
@@ -19,7 +19,16 @@ fn main(rt: HostRuntime) -> ExitCode {
         Ok(args) => match words_of(rt.alloc(), args) {
             Ok(words) => {
                 let mut shelf = FileShelf::new(&rt);
-                run(&rt, rt.alloc(), &words, &mut shelf, &mut out, &OpenGate)
+                let mut looks = Looks::new();
+                run(
+                    &rt,
+                    rt.alloc(),
+                    &words,
+                    &mut shelf,
+                    &mut out,
+                    &OpenGate,
+                    &mut looks,
+                )
             }
             Err(AllocError) => Status::OutOfMemory.number(),
         },

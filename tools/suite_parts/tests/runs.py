@@ -14,7 +14,7 @@ class Limits(Case):
 
     COLUMNS = {"good": "", "endless": "--lot 2001", "greedy": "--lot 2002", "killed": "--lot 2003",
                "wrong": "--lot 2004", "stopped": "--budget 1", "faulty": "--nonsense",
-               "hda": "--engine hda"}
+               "ungrounded": "--lot 2006", "hda": "--engine hda"}
 
     def test_ends_are_told_apart(self) -> None:
         columns = [word for name, options in self.COLUMNS.items()
@@ -27,7 +27,11 @@ class Limits(Case):
         answers = {name: line["answer"] for name, line in found.items()}
         self.assertEqual(answers, {
             "good": "plan", "endless": "time", "greedy": "memory", "killed": "signal",
-            "wrong": "plan", "stopped": "stopped", "faulty": "refused", "hda": "plan"})
+            "wrong": "plan", "stopped": "stopped", "faulty": "refused", "ungrounded": "stopped",
+            "hda": "plan"})
+        text = self.call("show", self.out, "--tasks").stdout
+        self.assertRegex(text, r"four-moves +stopped +budget +")
+        self.assertRegex(text, r"four-moves +ungrounded +grounding +")
         self.assertGreater(found["greedy"]["mib"], 100)
         self.assertTrue(found["good"]["certified"] and found["hda"]["certified"])
         self.assertFalse(found["wrong"]["certified"])

@@ -1,4 +1,4 @@
-use Rattle.std.proofs.Common.{◌<◌, ℕ, Some, refl, subst}
+use Rattle.std.proofs.Common.{◌<◌, ◌++◌, ℕ, Some, refl, subst}
 use Rattle.std.proofs.lemmas.List.Elements.{All-from_recursion}
 use Rattle.pb_model.specs.Plan.{IsBound}
 use Rattle.pb_task.specs.Parts.{space_of, greatest_cost}
@@ -55,7 +55,13 @@ returns g c =
     c.bound_of-bound.result
     (subst (λ n. IsBound (weight_asked solve) n c.bound_of-bound.result) c.cost.ensures
     c.bound_of-bound.ensures)
-    _ refl c.in_ok-report.ensures.report c.in_ok-report.ensures.fits
+    (record {
+      status = 0;
+      report = c.in_ok-report.report;
+      outputs = certificates_of c.in_ok-certificate.certificate ++ journal;
+      looks = 0;
+    })
+    refl c.in_ok-report.ensures.report c.in_ok-report.ensures.fits
     (certifies solve parts homes store journal c.requires.quiet (Some c.in_ok-plan.plan)
     (certificates_of c.in_ok-certificate.certificate) best (c.in_ok-certificate.ensures
     (can_be_stated solve parts homes store journal c.requires.quiet (Some c.in_ok-plan.plan) best)))

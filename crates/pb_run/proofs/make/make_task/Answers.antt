@@ -1,11 +1,11 @@
-use Rattle.std.proofs.Common.{refl}
+use Rattle.std.proofs.Common.{refl, ap}
 use Rattle.pb_command.specs.Causes.{make_meant}
 use Rattle.pb_run.proofs.MadeTasks.{made_at, said_is}
 use Rattle.pb_run.proofs.make.make_task.Goals as goal
 
-pub returns : goal.returns
-returns g c =
-    made_at (make_meant c.args.make) c.args.make.kind refl
+pub returns-clause-made : goal.returns-clause-made
+returns-clause-made g c =
+    made_at (make_meant c.args.make) c.args.looks c.args.make.kind refl
     c.in_ok-answer.answer
     (record {
       plan = c.in_ok-answer.ensures.plan;
@@ -17,5 +17,5 @@ returns g c =
       stopped = c.in_ok-answer.ensures.stopped;
     })
     _
-    (said_is c.in_ok-answer.answer _ c.status_of.result c.in_ok-report.report
+    (said_is c.in_ok-answer.answer _ c.status_of.result c.in_ok-report.report c.args.looks
     c.without_files.ensures c.status_of.ensures c.in_ok-report.ensures)

@@ -1,4 +1,5 @@
 use Rattle.std.proofs.Common.{◌≡◌, ◌≤◌, length, List, All, sym, subst, ap, ◌∙◌}
+use Rattle.std.proofs.lemmas.Result.{err_from_is_err_and}
 use Rattle.pb_packed.specs.Sizes.{most_atoms}
 use Rattle.pb_lifted.specs.declared.lifted.Lifted.{Lifted}
 use Rattle.pb_lifted.specs.Lifted.{lifted_of}
@@ -14,6 +15,7 @@ use Rattle.pb_task.specs.Strips.{IsStrips}
 use Rattle.pb_strips.specs.Packing.{HasAtoms}
 use Rattle.pb_strips.proofs.Below.{actions_have, have_below, is_strips}
 use Rattle.pb_strips.proofs.Never.{within_limits}
+use Rattle.pb_strips.proofs.Stopping.{ground_stops}
 use Rattle.pb_strips.proofs.TaskParts.{all_parts}
 use Rattle.pb_strips.proofs.grounding.task_by.Goals as goal
 
@@ -58,3 +60,11 @@ returns-clause-task c =
     ∙ ap (λ (parts : StripsParts). Strips parts)
     (all_parts c.args.domain.now c.args.problem.now c.args.lifted.now c.args.atoms.now c.in_ok-parts.parts c.requires.lifted c.requires.atoms
     (c.in_ok-parts.ensures (keep_all c.args.lifted.now) (c.as_slice-actions.ensures ∙ c.in_ok-actions.ensures.actions) c.in_ok-never.ensures))
+
+pub returns-in_err-actions-clause-stopped : goal.returns-in_err-actions-clause-stopped
+returns-in_err-actions-clause-stopped c =
+    let p = err_from_is_err_and c.from_residual.result c.from_residual.ensures.1 in
+    let task = lifted_of c.args.domain.now c.args.problem.now in
+    rw (p.1, p.2)
+    (ground_stops groundings.All c.args.domain.now c.args.problem.now c.ground_actions.new.looks c.in_err-actions.field-0.0
+    (c.requires.resolved, few_atoms c.args.lifted.now task c.requires.lifted c.requires.few) c.in_err-actions.ensures.stopped)

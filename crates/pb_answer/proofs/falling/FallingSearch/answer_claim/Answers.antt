@@ -50,7 +50,7 @@ returns c before machine falling =
     IsBound (weight_now v) c.args.plan.now.cost c.bound-bound.result) (sym c.self.view_is)
     c.bound-bound.ensures in
     let outputs = certificates_of c.in_ok-certificate.certificate in
-    let said : Said = record { status = 0; report = c.in_ok-report.report; outputs = outputs ++ [] } in
+    let said : Said = record { status = 0; report = c.in_ok-report.report; outputs = outputs ++ []; looks = 0 } in
     subst (λ (v : FallingValue). SaysClaimNow before machine v said) c.self.view_is
     (claim_said before machine _ f solve words c.claims_hold.ensures c.args.plan.now plan_is
     c.bound-bound.result bounded said refl

@@ -38,7 +38,7 @@ returns c before machine falling =
     let quiet = subst (λ (v : FallingValue). v.graph.table.end ≡ Some Quiet) (sym c.self.view_is)
     c.requires.quiet in
     let outputs = certificates_of c.in_ok-certificate.certificate in
-    let said : Said = record { status = 1; report = c.in_ok-report.report; outputs = outputs ++ [] } in
+    let said : Said = record { status = 1; report = c.in_ok-report.report; outputs = outputs ++ []; looks = 0 } in
     subst (λ (v : FallingValue). SaysNoneNow before v said) c.self.view_is
     (none_said before machine _ f solve words none quiet said refl c.in_ok-report.ensures outputs refl
     (certified solve c.deref.result.now (arc_value c.self.inside.task) c.deref.ensures None None refl
