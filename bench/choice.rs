@@ -173,7 +173,7 @@ fn processor_time() -> f64 {
 }
 
 fn main() {
-    println!("blocks | ns before | keys first | tree of winners | ratios");
+    println!("blocks | ns each block | keys first | tree of winners | ratios");
     for count in [256, 512, 4096] {
         let mut best = [f64::MAX; 3];
         let mut sums = [0u64; 3];
