@@ -1,30 +1,27 @@
-#!/usr/bin/env python3
-"""Lists lemmas of proofs/ that say the same, and those that say what a lemma of std says.
-
-Usage: tools/repeated-lemmas [--least N] [--wide] [CRATE ..]
+"""Lemmas that say the same as each other, or as a lemma of std.
 
 Two statements are the same if they are equal but for white space, the names of variables, which
 arguments are implicit, and ways to write a test: `a ≢ b` is `a ≡ b → ⊥`, and `nat_eq a b` and
 `eqb a b` are `a == b`. Names are told apart by the crates' modules that they come from.
 
 Looked at are the signatures of crates/*/proofs, with those after `where`; goals, abbreviations and
-values aren't lemmas. Each group has its count, its statement and its places, the greatest first. A
-group that std has too needs one place, any other N (2 if it isn't given). With names of crates, a
-group has a place in one of these. Without --wide long statements are cut.
+values aren't lemmas. Of those that say the same, each but the first is a finding; if std has the
+lemma too, the first is one as well. `--show` prints whole groups, the greatest first, and with
+`--wide` whole statements.
 
 Std's lemmas are read from the kit's pages, beside the one that `rt doc` names. What the pages lack,
-as Rattle.std.proofs.Math, isn't compared; `rt lemma` finds it. It is no part of the gate.
+as Rattle.std.proofs.Math, isn't compared; `rt lemma` finds it. Without `rt` the rule is left out.
 """
 
-import argparse
 import collections
+import functools
 import glob
 import os
 import re
 import subprocess
-import sys
 
-ROOT = os.path.dirname(os.path.dirname(os.path.abspath(__file__)))
+from .repository import Finding, is_in
+
 IMPORT = re.compile(r"^(?:pub )?use (Rattle(?:\.[\w-]+)+)\.\{([^}]*)\}", re.M)
 ALIAS = re.compile(r"^use Rattle[\w.-]* as (\w+)", re.M)
 SIGNATURE = re.compile(r"^( *)((?:(?:pub|abbrev|unfoldable) )*)([^\s(){}:]+) : (.*)")
@@ -34,7 +31,8 @@ CLOSING = {"(": ")", "{": "}", "[": "]"}
 SAME = {"nat_eq": "eqb", "nat_lt": "ltb", "nat_le": "leb"}
 SAYS = ("→", "≡", "≢", "<", "≤", "↔", "⊥")
 
-Lemma = collections.namedtuple("Lemma", "name statement place")
+# A lemma of ours has a path and a line, and one of std a module.
+Lemma = collections.namedtuple("Lemma", "name statement path line")
 
 
 def signatures(text):
@@ -167,79 +165,74 @@ class Reader:
         return " ".join(self.read(tokens))
 
 
-def lemmas_of(text, name_place):
-    """The lemmas of a text, each with what it says. A place is made of a name and a line."""
+def lemmas_of(text, path):
+    """The lemmas of a text, each with what it says."""
     sources, aliases = sources_of(text), ALIAS.findall(text)
     for name, said, line in signatures(text):
         is_goal = any(re.search(rf"(?<![\w.-]){alias}\.", said) for alias in aliases)
         if not is_goal and any(word in said for word in SAYS):
-            yield Lemma(name, said, name_place(name, line)), Reader(sources).statement(said)
+            yield Lemma(name, said, path, line), Reader(sources).statement(said)
 
 
+@functools.lru_cache(maxsize=None)
 def std_lemmas():
-    """The lemmas of std's pages by what they say; none without rt."""
+    """The lemmas of std's pages by what they say; nothing without rt."""
     found = collections.defaultdict(list)
     try:
         ran = subprocess.run(["rt", "doc"], capture_output=True, text=True, check=True)
     except (OSError, subprocess.CalledProcessError):
-        return found
+        return None
     folder = os.path.join(os.path.dirname(ran.stdout.split("\n")[0]), "rattle", "std", "lemmas")
     for page in sorted(glob.glob(os.path.join(folder, "**", "*.md"), recursive=True)):
         with open(page, encoding="utf-8") as it:
             text = it.read()
         module = re.search(r"Import with `use ([\w.]+)\.\{NAME\}`", text)
         for block in re.findall(r"^```text\n(.*?)^```", text, re.M | re.S) if module else ():
-            for lemma, key in lemmas_of(block, lambda name, _: f"{module[1]}.{{{name}}}"):
+            for lemma, key in lemmas_of(block, module[1]):
                 found[key].append(lemma)
     return found
 
 
-def our_lemmas():
+def lacks():
+    """What the rule needs and doesn't find."""
+    return None if std_lemmas() is not None else "there is no rt, whose pages have std's lemmas"
+
+
+def our_lemmas(repository):
     """The lemmas of all crates by what they say."""
     found = collections.defaultdict(list)
-    form = os.path.join(ROOT, "crates", "*", "proofs", "**", "*.antt")
-    for file in sorted(glob.glob(form, recursive=True)):
-        with open(file, encoding="utf-8") as it:
-            text = it.read()
-        path = os.path.relpath(file, ROOT)
-        for lemma, key in lemmas_of(text, lambda _, line: f"{path}:{line}"):
+    for path in repository.files(parts=("proofs",)):
+        for lemma, key in lemmas_of(repository.read(path), path):
             found[key].append(lemma)
     return found
 
 
-def main():
-    parser = argparse.ArgumentParser(
-        description=__doc__, formatter_class=argparse.RawDescriptionHelpFormatter
-    )
-    parser.add_argument("--least", type=int, default=2, help="the least count of a group (2)")
-    parser.add_argument("--wide", action="store_true", help="long statements aren't cut")
-    parser.add_argument("crates", nargs="*", metavar="CRATE", help="show groups of these crates")
-    asked = parser.parse_args()
-    ours, stds = our_lemmas(), std_lemmas()
-    groups = [
-        (len(lemmas), key, lemmas)
-        for key, lemmas in ours.items()
-        if key in stds or len(lemmas) >= asked.least
-    ]
-    groups.sort(key=lambda group: (-group[0], -len(group[1]), group[1]))
-    shown = repeats = of_std = 0
-    for count, key, lemmas in groups:
-        crates = {lemma.place.split("/")[1] for lemma in lemmas}
-        if asked.crates and not crates & set(asked.crates):
-            continue
-        said = lemmas[0].statement
-        print(f"{count}: {said if asked.wide or len(said) <= 150 else said[:149] + '…'}")
-        for lemma in stds.get(key, [])[:2]:
-            print(f"    std: {lemma.place}")
-        for lemma in lemmas:
-            print(f"    {lemma.place}: {lemma.name}")
-        shown, of_std = shown + 1, of_std + (count if key in stds else 0)
-        repeats += count - (key not in stds)
-    print(f"{shown} groups, {repeats} lemmas that aren't needed, {of_std} of them std's")
+def groups(repository):
+    """The lemmas that say the same, with those of std that do; the greatest groups first."""
+    stds = std_lemmas() or {}
+    found = [(key, lemmas, stds.get(key, [])) for key, lemmas in our_lemmas(repository).items()
+             if key in stds or len(lemmas) > 1]
+    yield from sorted(found, key=lambda group: (-len(group[1]), -len(group[0]), group[1]))
 
 
-if __name__ == "__main__":
-    try:
-        main()
-    except BrokenPipeError:
-        sys.stderr.close()
+def cut(text, wide):
+    return text if wide or len(text) <= 150 else f"{text[:149]}…"
+
+
+def find(repository):
+    for _, lemmas, stds in groups(repository):
+        for number, lemma in enumerate(lemmas):
+            if stds:
+                text = f"{lemma.name} is {stds[0].name} of {stds[0].path}"
+                yield Finding(lemma.path, lemma.line, text)
+            elif number:
+                text = f"{lemma.name} is {lemmas[0].name} of {lemmas[0].path}"
+                yield Finding(lemma.path, lemma.line, text)
+
+
+def show(repository, names, wide):
+    for _, lemmas, stds in groups(repository):
+        if any(is_in(lemma.path, names) for lemma in lemmas):
+            yield f"{len(lemmas)}: {cut(lemmas[0].statement, wide)}"
+            yield from (f"    std: {lemma.path}.{{{lemma.name}}}" for lemma in stds[:2])
+            yield from (f"    {lemma.path}:{lemma.line}: {lemma.name}" for lemma in lemmas)
