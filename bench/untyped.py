@@ -16,7 +16,7 @@ from typing import Callable, Iterator, NamedTuple, Sequence
 ROOT = Path(__file__).resolve().parent.parent
 sys.path.insert(0, str(ROOT / "tools"))
 
-from picture_parts.pddl import Lifted  # noqa: E402 (it lies beside the tools)
+from pddl_parts.strips import Lifted  # noqa: E402 (it lies beside the tools)
 
 Drawn = random.Random
 Objects = Sequence["tuple[str, Sequence[str]]"]
@@ -294,25 +294,25 @@ def untyped(domain: str, problem: str) -> tuple[str, str]:
     predicates = [f"(is-{kind} ?x)" for kind in kinds]
     predicates += [f"({' '.join([name, *(f'?x{at}' for at in range(len(own)))])})"
                    for name, own in lifted.predicates.items()]
-    functions = "(:functions (total-cost))\n" * lifted.domain.has_cost
+    functions = "(:functions (total-cost))\n" * lifted.has_cost
     facts = [f"(is-{kind} {name})" for name, own in lifted.objects.items() for kind in kinds
              if lifted.fits(own, kind)]
-    facts += [f"({' '.join(atom)})" for atom in lifted.problem.init]
-    metric = "\n(:metric minimize (total-cost))" * (lifted.problem.metric is not None)
-    actions = "\n".join(map(untyped_action, lifted.domain.actions))
-    return (f"(define (domain {lifted.domain.name})\n(:predicates {filled(predicates)})\n"
+    facts += [f"({' '.join(atom)})" for atom in lifted.init]
+    metric = "\n(:metric minimize (total-cost))" * lifted.has_metric
+    actions = "\n".join(map(untyped_action, lifted.actions.values()))
+    return (f"(define (domain {lifted.domain})\n(:predicates {filled(predicates)})\n"
             f"{functions}{actions})\n",
-            f"(define (problem made) (:domain {lifted.domain.name})\n"
+            f"(define (problem made) (:domain {lifted.domain})\n"
             f"(:objects {filled(list(lifted.objects))})\n(:init {filled(facts)})\n"
-            f"(:goal (and {filled([f'({chr(32).join(atom)})' for atom in lifted.problem.goal])}))"
+            f"(:goal (and {filled([f'({chr(32).join(atom)})' for atom in lifted.goals])}))"
             f"{metric})\n")
 
 
 def untyped_action(action) -> str:
-    needs = [f"(is-{kind} {name})" for name, kind in action.params if kind not in (None, "object")]
+    needs = [f"(is-{kind} {name})" for name, kind in action.params if kind != "object"]
     needs += [f"({' '.join(atom)})" for atom in action.needs]
     effects = [f"(not ({' '.join(atom)}))" if is_deleted else f"({' '.join(atom)})"
                for atom, is_deleted in action.effects]
-    effects += [f"(increase (total-cost) {cost.number})" for cost in action.costs]
+    effects += [f"(increase (total-cost) {action.cost})"] * (action.cost is not None)
     return (f"(:action {action.name} :parameters ({' '.join(name for name, _ in action.params)})\n"
             f" :precondition (and {filled(needs)})\n :effect (and {filled(effects)}))")

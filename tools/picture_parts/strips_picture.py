@@ -2,8 +2,9 @@
 
 import re
 
+from pddl_parts.strips import Lifted
+
 from . import canvas
-from .pddl import Lifted
 from .reading import Refused, read_report
 
 COLUMN, ROW, SIZE = 24, 22, 13
@@ -88,7 +89,7 @@ def draw_strips(options):
     top = max(len(step) + 1 + len(str(len(steps))) for step in [*steps, "at first"]) * mono + 12
     width, height = left + len(states) * COLUMN + 2, top + len(facts) * ROW + 2
     page = canvas.Page(width, 1.0, options.colours)
-    page.title(f"{lifted.domain.name}, {lifted.problem.name}")
+    page.title(f"{lifted.domain}, {lifted.problem}")
     page.facts(report.headline()[0].upper() + report.headline()[1:] + ".")
     if not steps:
         page.facts("No step is drawn.")

@@ -8,11 +8,11 @@ import subprocess
 from random import Random
 from typing import Optional
 
+from pddl_parts.task import read_task
 from picture_parts.reading import Refused, Report
 from task_parts import written
 from task_parts.brute_force import Search, TooLarge
 from task_parts.drawn import problem
-from task_parts.original import read_task
 from task_parts.prepare import Preparation
 
 

@@ -5,8 +5,8 @@ from __future__ import annotations
 import re
 from typing import Iterator, Sequence
 
+from pddl_parts.task import Task, holds, shown
 from picture_parts.reading import GRID_MOVES, lines_of, load, read_grid, read_tiles
-from task_parts.original import Task, holds, shown
 
 
 class NoPlan(Exception):

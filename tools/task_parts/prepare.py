@@ -11,9 +11,9 @@ import itertools
 import math
 from typing import Iterable, Iterator, NoReturn, Optional
 
-from picture_parts.pddl import MOST_COST, RESERVED
-from task_parts.forms import Text
-from task_parts.original import Action, Atom, Literal, Parameter, Task
+from pddl_parts.forms import Text
+from pddl_parts.strips import MOST_COST
+from pddl_parts.task import RESERVED, Action, Atom, Literal, Parameter, Task
 
 MOST_MULTIPLIER = 10_000
 MOST_FACTS = 200_000

@@ -7,8 +7,8 @@ import json
 import pathlib
 from typing import Iterable, Optional
 
+from pddl_parts.task import Atom, Parameter
 from picture_parts.reading import Refused, Report, load
-from task_parts.original import Atom, Parameter
 from task_parts.prepare import Preparation, Schema
 
 DOMAIN, PROBLEM, BACK = "domain.pddl", "problem.pddl", "back.json"

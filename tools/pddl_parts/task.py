@@ -1,7 +1,8 @@
 """A task of the PDDL that prepare-pddl reads, with its own meaning: states, steps and costs.
 
 Beside what docs/PDDL.md reads there are static functions in costs, costs of zero, `=`, negative
-preconditions and goals, and `either`. Everything else is refused by its place.
+preconditions and goals, and `either`. Each text keeps where it has these. Everything else is
+refused by its place.
 """
 
 from __future__ import annotations
@@ -11,12 +12,12 @@ import itertools
 import re
 from typing import Callable, Iterable, Iterator, Union
 
-from picture_parts.pddl import Name
-from task_parts.forms import Form, Part, Text
+from pddl_parts.forms import Form, Name, Part, Text
 
 Atom = tuple[str, ...]
-LEFT_OUT = {"or", "imply", "exists", "forall", "when", "decrease", "assign", "scale-up",
-            "scale-down"}
+# Heads that no atom has.
+RESERVED = {"and", "or", "not", "imply", "exists", "forall", "when", "=", "increase", "decrease",
+            "assign", "scale-up", "scale-down"}
 MOST_PARAMETERS = 16
 
 
@@ -47,9 +48,16 @@ class Action:
     at: int
     parameters: tuple[Parameter, ...]
     needs: tuple[Literal, ...]
-    adds: tuple[Atom, ...]
-    deletes: tuple[Atom, ...]
+    effects: tuple[tuple[Atom, bool], ...]  # each with whether it is deleted
     cost: Cost
+
+    @property
+    def adds(self) -> tuple[Atom, ...]:
+        return tuple(atom for atom, is_deleted in self.effects if not is_deleted)
+
+    @property
+    def deletes(self) -> tuple[Atom, ...]:
+        return tuple(atom for atom, is_deleted in self.effects if is_deleted)
 
 
 @dataclasses.dataclass
@@ -66,7 +74,7 @@ class Task:
     predicates: dict[str, tuple[Parameter, ...]] = dataclasses.field(default_factory=dict)
     functions: dict[str, tuple[Parameter, ...]] = dataclasses.field(default_factory=dict)
     actions: dict[str, Action] = dataclasses.field(default_factory=dict)
-    init: set[Atom] = dataclasses.field(default_factory=set)
+    init: dict[Atom, None] = dataclasses.field(default_factory=dict)  # (in their order)
     values: dict[Atom, int] = dataclasses.field(default_factory=dict)
     goal: tuple[Literal, ...] = ()
     has_metric: bool = False
@@ -91,7 +99,7 @@ class Task:
     def fluent(self) -> set[str]:
         """The predicates that some effect names."""
         return {atom[0] for action in self.actions.values()
-                for atom in action.adds + action.deletes}
+                for atom, _ in action.effects}
 
     def start(self) -> frozenset[Atom]:
         return frozenset(self.init)
@@ -166,7 +174,7 @@ class Scope:
     def atom(self, form: Form, known: dict[str, tuple[Parameter, ...]], what: str) -> Atom:
         """An atom of a declared predicate, or a declared function, with terms of its types."""
         head = self.text.as_name(form[0] if form else form, f"a {what}")
-        if head in LEFT_OUT or head in ("and", "not", "increase"):
+        if head in RESERVED:
             self.text.refuse(f"`{head}` isn't read there", head.at)
         if head not in known:
             self.text.refuse(f"`{head}` is no {what}", head.at)
@@ -189,6 +197,7 @@ class Scope:
                 yield from self.literals(inner)
         elif form.head() == "not":
             inner = self.text.as_list(self.text.single(form[1:], "one atom", form), "an atom")
+            self.text.beyond.append((form.at, "`not` in a condition"))
             yield dataclasses.replace(self.positive(inner), holds=False, at=form.at)
         else:
             yield self.positive(form)
@@ -198,23 +207,23 @@ class Scope:
             return Literal(self.atom(form, self.task.predicates, "predicate"), True, form.at)
         if len(form) != 3:
             self.text.refuse("`=` has two terms", form.at)
+        self.text.beyond.append((form.at, "`=`"))
         return Literal(("=", self.term(form[1]), self.term(form[2])), True, form.at)
 
-    def effects(self, part: Part, adds: list[Atom], deletes: list[Atom],
-                costs: list[Cost]) -> None:
+    def effects(self, part: Part, found: list[tuple[Atom, bool]], costs: list[Cost]) -> None:
         form = self.text.as_list(part, "an effect")
         if form.head() == "and":
             for inner in form[1:]:
-                self.effects(inner, adds, deletes, costs)
+                self.effects(inner, found, costs)
         elif form.head() == "not":
             inner = self.text.as_list(self.text.single(form[1:], "one atom", form), "an atom")
-            deletes.append(self.atom(inner, self.task.predicates, "predicate"))
+            found.append((self.atom(inner, self.task.predicates, "predicate"), True))
         elif form.head() == "increase":
             if costs:
                 self.text.refuse("a second `increase` of an action", form.at)
             costs.append(self.increase(form))
         elif form:
-            adds.append(self.atom(form, self.task.predicates, "predicate"))
+            found.append((self.atom(form, self.task.predicates, "predicate"), False))
 
     def increase(self, form: Form) -> Cost:
         if len(form) != 3:
@@ -224,6 +233,7 @@ class Scope:
             self.text.refuse("only `total-cost`, declared in `:functions`, can be increased",
                              total.at)
         if isinstance(form[2], Form):
+            self.text.beyond.append((form[2].at, "a function as a cost"))
             return self.atom(form[2], {name: parameters for name, parameters
                                        in self.task.functions.items() if name != "total-cost"},
                              "static function")
@@ -260,6 +270,7 @@ def alternatives(text: Text, part: Part) -> Iterator[Name]:
         return
     if part.head() != "either" or len(part) < 2:
         text.refuse("expected a type, or `(either ..)`", part.at)
+    text.beyond.append((part.at, "`either`"))
     yield from (text.as_name(kind, "a type") for kind in part[1:])
 
 
@@ -297,6 +308,9 @@ class Builder:
             key = text.as_list(section, "a section").head()
             if key not in known:
                 text.refuse(f"the section `{key}` isn't read", section.at)
+            for part in section[1:] if key == ":requirements" else []:
+                if not isinstance(part, Name) or not part.startswith(":"):
+                    text.refuse("a requirement begins with `:`", part.at)
             if key == ":action":
                 found.setdefault(key, []).append(section)
             elif key in found:
@@ -361,12 +375,18 @@ class Builder:
 
     def read_functions(self, parts: list[Part]) -> None:
         text, declared, rest = self.task.domain_text, [], iter(parts)
+        is_typed = True
         for part in rest:
             if part != "-" or isinstance(part, Form):
                 declared.append(part)
-            elif next(rest, None) != "number":
+                is_typed = False
+            elif is_typed or next(rest, None) != "number":
                 text.refuse("a function is of the type `number`", part.at)
+            else:
+                is_typed = True
         self.read_declared(declared, self.task.functions)
+        text.beyond += [(part.at, "a function other than `total-cost`") for part in declared
+                        if list(part) != ["total-cost"]]
 
     def read_action(self, form: Form) -> None:
         text, task = self.task.domain_text, self.task
@@ -387,11 +407,11 @@ class Builder:
         for at, parameter in enumerate(names):
             if parameter in names[:at]:
                 text.refuse(f"`{name}` has two parameters {parameter}", name.at)
-        scope, adds, deletes, costs = Scope(task, text, parameters), [], [], []
+        scope, effects, costs = Scope(task, text, parameters), [], []
         needs = tuple(scope.literals(parts.get(":precondition", empty)))
-        scope.effects(parts.get(":effect", empty), adds, deletes, costs)
-        task.actions[str(name)] = Action(str(name), name.at, parameters, needs, tuple(adds),
-                                         tuple(deletes), costs[0] if costs else None)
+        scope.effects(parts.get(":effect", empty), effects, costs)
+        task.actions[str(name)] = Action(str(name), name.at, parameters, needs, tuple(effects),
+                                         costs[0] if costs else None)
 
     def read_problem(self, given: dict[str, list[Part]]) -> None:
         task, text = self.task, self.task.problem_text
@@ -404,7 +424,7 @@ class Builder:
             if form.head() == "=":
                 self.read_value(scope, form)
             else:
-                task.init.add(scope.atom(form, task.predicates, "predicate"))
+                task.init.setdefault(scope.atom(form, task.predicates, "predicate"))
         task.goal = tuple(scope.literals(text.single(given[":goal"], "one goal", end)))
         task.has_metric = ":metric" in given
         if task.has_metric:

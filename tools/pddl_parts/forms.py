@@ -1,11 +1,27 @@
-"""Reads PDDL as nested lists of names with their places, over the tokens of picture_parts."""
+"""Reads PDDL as nested lists of names with their places, by the tokens of docs/PDDL.md."""
 
 from __future__ import annotations
 
+import re
 from typing import NoReturn, Sequence, Union
 
-from picture_parts.pddl import Name, Reader
-from picture_parts.reading import Refused
+from picture_parts.reading import Refused, load
+
+SPACE = re.compile(rb"(?:[ \t\r\n\f]+|;[^\n]*)*")
+TOKEN = re.compile(rb"[()=-]|[?:]?[A-Za-z0-9][A-Za-z0-9_-]*")
+DEEPEST = 32
+
+
+class Name(str):
+    """A token other than a parenthesis, in lower case, with its byte."""
+
+    at = 0
+
+    @staticmethod
+    def of(text: str, at: int) -> Name:
+        name = Name(text)
+        name.at = at
+        return name
 
 
 class Form(list):
@@ -23,8 +39,17 @@ class Form(list):
 Part = Union[Name, Form]
 
 
-class Text(Reader):
-    """A text of PDDL; what is refused is told by line and column, from 1."""
+class Text:
+    """A text of PDDL. What is refused is reported by line and column, from 1. `beyond` has what was
+    read that is no STRIPS with types and costs: the byte, and what it is."""
+
+    def __init__(self, name: str) -> None:
+        self.name, self.data = name, load(name)
+        self.beyond: list[tuple[int, str]] = []
+        self.opened: list[int] = []
+        self.at = self.end = 0
+        self.token = ""
+        self.advance()
 
     def refuse(self, fault: str, at: int | None = None) -> NoReturn:
         at = self.at if at is None else at
@@ -32,19 +57,35 @@ class Text(Reader):
         column = at - (self.data.rfind(b"\n", 0, at) + 1) + 1
         raise Refused(self.name, f"line {line}, column {column}", fault)
 
+    def advance(self) -> None:
+        self.at = SPACE.match(self.data, self.end).end()
+        found = TOKEN.match(self.data, self.at)
+        if found:
+            self.token, self.end = found.group().decode().lower(), found.end()
+        elif self.at == len(self.data):
+            self.token, self.end = "", self.at
+        else:
+            self.refuse("these bytes begin no token")
+
     def form(self) -> Form:
         """The form that begins here."""
+        if self.token != "(":
+            self.refuse(f"expected `(`, and not `{self.token}`" if self.token else "no form")
+        if len(self.opened) == DEEPEST:
+            self.refuse(f"a `(` inside {DEEPEST} others")
         found = Form(self.at)
-        self.open()
+        self.opened.append(self.at)
+        self.advance()
         while self.token != ")":
             if self.token == "":
-                self.expected("`)`")
+                self.refuse("the text ends, and this `(` is open", self.opened[-1])
             if self.token == "(":
                 found.append(self.form())
             else:
                 found.append(Name.of(self.token, self.at))
                 self.advance()
-        self.close()
+        self.opened.pop()
+        self.advance()
         return found
 
     def whole(self) -> Form:
