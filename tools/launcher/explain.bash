@@ -128,7 +128,7 @@ explain_refusal() {
   refusal=$(${with_launcher[@]+"${with_launcher[@]}"} "$program" "$@" 2>/dev/null) && return
   for flag in --swamp --reachable; do [ -z "${value_of[$flag]-}" ] || options+=("$flag"); done
   [ -z "$judged" ] || options+=(--judged "$judged")
-  python3 "$root/tools/explain-refusal" ${options[@]+"${options[@]}"} \
+  python3 "$root/tools/launcher/explain-refusal" ${options[@]+"${options[@]}"} \
     "${refusal%%$'\n'*}" "$kind" "${value_of[--row]:-0}" "${inputs[@]}" >&2 2>/dev/null
 }
 
