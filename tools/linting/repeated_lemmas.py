@@ -223,11 +223,13 @@ def find(repository):
     for _, lemmas, stds in groups(repository):
         for number, lemma in enumerate(lemmas):
             if stds:
-                text = f"{lemma.name} is {stds[0].name} of {stds[0].path}"
-                yield Finding(lemma.path, lemma.line, text)
+                other = stds[0]
             elif number:
-                text = f"{lemma.name} is {lemmas[0].name} of {lemmas[0].path}"
-                yield Finding(lemma.path, lemma.line, text)
+                other = lemmas[0]
+            else:
+                continue
+            more = f", as {other.name} of {other.path}"
+            yield Finding(lemma.path, lemma.line, f"{lemma.name} is a repeated lemma", more)
 
 
 def show(repository, names, wide):

@@ -7,19 +7,19 @@ import os
 import re
 import subprocess
 
-# A finding in a file: its line (0 if it is about the whole file), and what is wrong.
-Finding = collections.namedtuple("Finding", "path line text")
+# A finding in a file: its line (0 if it is about the whole file), what is wrong, and perhaps more.
+Finding = collections.namedtuple("Finding", "path line text more", defaults=[""])
 SOURCES = (("src", "rt"), ("specs", "antt"), ("proofs", "antt"))
 
 
 def shown(finding):
     """A finding as it is printed."""
     place = f"{finding.path}:{finding.line}" if finding.line else finding.path
-    return f"{place}: {finding.text}"
+    return f"{place}: {finding.text}{finding.more}"
 
 
 def as_known(finding):
-    """A finding as a list of known ones has it: without its line, which often changes."""
+    """A finding as a list of known ones has it: without its line and `more`, which often change."""
     return f"{finding.path}: {finding.text}"
 
 
