@@ -1,8 +1,8 @@
 -- How many lines state tables and traps.
-use Rattle.std.proofs.Common.{◌≡◌, ℕ, suc, ◌+◌, List, [], ◌∷◌, length, map, drop, codes, Ok, subst, refl, ap, ◌∙◌, arith, length-append}
+use Rattle.std.proofs.Common.{◌≡◌, ℕ, suc, ◌+◌, ◌*◌, ◌^◌, ◌<◌, ◌≤◌, All, List, [], ◌∷◌, length, map, drop, codes, Ok, subst, refl, ap, ◌∙◌, arith, length-append}
 use Rattle.std.specs.List.{flat_map}
 use Rattle.std.proofs.lemmas.List.Concat.{flat_map-append}
-use Rattle.pb_tables.specs.Tables.{TrapValue, TableValue, TablesValue}
+use Rattle.pb_tables.specs.Tables.{TrapValue, TableValue, TablesValue, IsTable, AreTables}
 use Rattle.pb_table_lines.specs.Lines.{image_lines, listing_lines, table_listing, trap_listing, tables_lines}
 use Rattle.pb_table_lines.specs.Reading.{StatedCounts, line_at, counts_in, lists_at, tables_at, lines_of_lists, of_trap, trap_of}
 
@@ -32,6 +32,37 @@ lines_counted digits tables =
     let second = traps_counted digits tables.traps in
     let both = ap length (flat_map-append (listing_lines digits) (map (table_listing tables.sums) tables.tables) (map trap_listing tables.traps)) ∙ length-append (flat_map (listing_lines digits) (map (table_listing tables.sums) tables.tables)) (flat_map (listing_lines digits) (map trap_listing tables.traps)) in
     omega (arith, first, second, both)
+
+-- ---- how few they are
+
+tables_few : (sums : ℕ) (tables : List TableValue) → All (IsTable sums) tables → lines_of_lists tables ≤ length tables * 2 ^ 63
+tables_few sums [] are = omega arith
+tables_few sums (table ∷ tables) are =
+    let first = (are 0 table (omega arith)).listed_few in
+    let others = tables_few sums tables (λ k d within. are (suc k) d (omega (arith, within))) in
+    omega (arith, first, others)
+
+traps_few : (traps : List TrapValue) → All (λ trap. length trap.listed < 2 ^ 63) traps → lines_of_lists (map of_trap traps) ≤ length traps * 2 ^ 63
+traps_few [] are = omega arith
+traps_few (trap ∷ traps) are =
+    let first = are 0 trap (omega arith) in
+    let others = traps_few traps (λ k d within. are (suc k) d (omega (arith, within))) in
+    omega (arith, first, others)
+
+-- there are 8,192 lists at most, each of at most 2^63 lines
+pub few_lines : (digits : ℕ) (tables : TablesValue) → AreTables tables → length (tables_lines digits tables) < 2 ^ 78
+few_lines digits tables are =
+    let all = lines_counted digits tables in
+    let first = tables_few tables.sums tables.tables are.each in
+    let second = traps_few tables.traps are.traps_listed_few in
+    let some = are.tables_few in
+    let others = are.traps_few in
+    omega (arith, all, first, second, some, others)
+
+pub some_lines : (digits : ℕ) (tables : TablesValue) → 1 ≤ length (tables_lines digits tables)
+some_lines digits tables = omega arith
+
+-- ---- reading
 
 -- a trap that was read is the trap
 pub traps_again : (traps : List TrapValue) → map trap_of (map of_trap traps) ≡ traps

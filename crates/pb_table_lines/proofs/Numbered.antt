@@ -1,9 +1,8 @@
 -- The number of a line of a table or trap is that of the line itself.
-use Rattle.std.proofs.Common.{◌≡◌, ℕ, zero, suc, ◌+◌, ◌-◌, ◌<◌, ◌≤◌, Some, List, [], ◌∷◌, ◌++◌, length, take, slice_get, refl, sym, subst, ap, ◌∙◌, arith}
+use Rattle.std.proofs.Common.{◌≡◌, ℕ, zero, suc, ◌+◌, ◌-◌, ◌<◌, Some, List, [], ◌∷◌, ◌++◌, length, take, slice_get, refl, subst, arith}
 use Rattle.std.specs.List.{flat_map}
 use Rattle.pb_print.proofs.Callers.{get_right}
-use Rattle.pb_tables.specs.Tables.{TablesValue}
-use Rattle.pb_table_lines.specs.Lines.{Listing, listings, listing_at, listing_lines, counts_line, tables_lines, lines_of, line_number}
+use Rattle.pb_table_lines.specs.Lines.{Listing, listings, listing_at, listing_lines, counts_line, lines_of, line_number}
 use Rattle.pb_table_lines.specs.Numbered.{line_of_listing, LinesHaveTheirNumbers}
 use Rattle.pb_table_lines.proofs.Counted.{images_counted}
 use Rattle.pb_table_lines.proofs.Written.{image_get}

@@ -1,11 +1,11 @@
 -- Tables are read line by line, up to the first line with which nothing goes on.
-use Rattle.std.proofs.Common.{◌≡◌, ℕ, zero, suc, ◌+◌, ◌*◌, ◌^◌, ◌<◌, ◌≤◌, Bool, true, false, cond, eqb, leb, List, [], ◌∷◌, ◌++◌, All, length, map, take, drop, codes, Result, Ok, Err, refl, sym, ap, ◌∙◌, subst, arith, append_assoc, lit<}
+use Rattle.std.proofs.Common.{◌≡◌, ℕ, zero, suc, ◌+◌, ◌^◌, ◌<◌, Bool, true, false, cond, eqb, leb, List, [], ◌∷◌, ◌++◌, All, length, map, take, drop, codes, Result, Ok, Err, refl, ap, subst, arith, lit<}
 use Rattle.std.proofs.Math.Nat.{one-le-pow}
 use Rattle.std.proofs.Math.ListN.{replicate}
 use Rattle.std.proofs.lemmas.List.{length-replicate}
 use Rattle.std.proofs.lemmas.List.Elements.{All-replicate}
 use Rattle.pb_lines.specs.Words.{part, behind, number_of, has_none}
-use Rattle.pb_tables.specs.Tables.{TrapValue, TableValue, TablesValue}
+use Rattle.pb_tables.specs.Tables.{TableValue, TablesValue}
 use Rattle.pb_table_lines.specs.Words.{state_of, word_of, behind_word}
 use Rattle.pb_table_lines.specs.Lines.{image_line, list_line, counts_line, tables_lines}
 use Rattle.pb_table_lines.specs.Reading.{◌>>=◌, wanted, line_at, StatedCounts, counted, are_few, counts_in, list_in, value_in, values_in, image_in, StatedImages, images_at, list_at, lists_at, lines_of_lists, of_trap, trap_of, tables_at}

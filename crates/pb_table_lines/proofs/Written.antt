@@ -86,12 +86,12 @@ flat_put old new digits (first ∷ all) (suc list) j within puts =
     puts_right old new (listing_lines digits first) (flat_map (listing_lines digits) all) (lines_of (take (suc list) (first ∷ all)) + j) (lines_of (take list all) + j) (omega (arith, one)) (omega (arith, one))
     (flat_put old new digits all list j (omega (arith, within)) puts)
 
-pub lists_put : (old new : List ℕ) (digits : ℕ) (tables : TablesValue) (list start at : ℕ) → list < length (listings tables) → start ≡ lines_before tables list → start ≤ at
-    → PutsLine old new (listing_lines digits (listing_at (listings tables) list)) (at - start) → PutsLine old new (tables_lines digits tables) at
-lists_put old new digits tables list start at within start_is le puts =
+pub lists_put : (old new : List ℕ) (digits : ℕ) (tables : TablesValue) (list line at : ℕ) → list < length (listings tables) → at ≡ lines_before tables list + line
+    → PutsLine old new (listing_lines digits (listing_at (listings tables) list)) line → PutsLine old new (tables_lines digits tables) at
+lists_put old new digits tables list line at within is puts =
     let all : List Listing = listings tables in
     let head : List ℕ = counts_line tables.sums (length tables.tables) (length tables.traps) in
-    puts_right old new (head ∷ []) (flat_map (listing_lines digits) all) at (lines_of (take list all) + (at - start)) (omega (arith, start_is, le)) (omega (arith, start_is, le)) (flat_put old new digits all list (at - start) within puts)
+    puts_right old new (head ∷ []) (flat_map (listing_lines digits) all) at (lines_of (take list all) + line) (omega (arith, is)) (omega (arith, is)) (flat_put old new digits all list line within puts)
 
 pub counts_put : (old new : List ℕ) (digits : ℕ) (tables : TablesValue) (at : ℕ) → at ≡ 0 → (sums some traps : ℕ) → sums ≡ tables.sums → some ≡ length tables.tables → traps ≡ length tables.traps
     → new ≡ old ++ line (counts_line sums some traps) → length new ≤ length old + longest_line → PutsLine old new (tables_lines digits tables) at
@@ -108,27 +108,37 @@ each_more tables starts starts' at list is long each at_is =
     (ap (λ (ns : List ℕ). get_or ns list 0) is ∙ get_or_push starts at 0 list long ∙ at_is)
 
 -- the last of them is how many lines there are
-pub last_start : (digits : ℕ) (tables : TablesValue) (starts : List ℕ) → AreStarts tables starts → get_or starts (length starts - 1) 0 ≡ length (tables_lines digits tables)
-last_start digits tables starts are =
+pub last_start : (tables : TablesValue) (starts : List ℕ) → AreStarts tables starts → get_or starts (length starts - 1) 0 ≡ lines_before tables (length (listings tables))
+last_start tables starts are =
     let e : length starts - 1 ≡ length (listings tables) = (let l = are.long in omega (arith, l)) in
-    ap (λ k. get_or starts k 0) e ∙ are.each (length (listings tables)) (omega arith) ∙ sym (all_counted digits tables)
+    ap (λ k. get_or starts k 0) e ∙ are.each (length (listings tables)) (omega arith)
+
+-- how many lines there are, in the place that is as great as how many lists there are
+pub count_start : (digits : ℕ) (tables : TablesValue) (starts : List ℕ) (count : ℕ) → AreStarts tables starts → count ≡ length (listings tables) → get_or starts count 0 ≡ length (tables_lines digits tables)
+count_start digits tables starts count are is = ap (λ k. get_or starts k 0) is ∙ are.each (length (listings tables)) (omega arith) ∙ sym (all_counted digits tables)
 
 pub first_start : (tables : TablesValue) (starts : List ℕ) (at : ℕ) → AreStarts tables starts → 1 ≤ at → get_or starts 0 0 ≤ at
 first_start tables starts at are some = let first = are.each 0 (omega arith) in omega (arith, first, some)
 
-pub two_starts : (digits : ℕ) (tables : TablesValue) (starts : List ℕ) (at : ℕ) → AreStarts tables starts → 1 ≤ at → at < length (tables_lines digits tables) → 2 ≤ length starts
-two_starts digits tables starts at are some within =
-    let all = all_counted digits tables in
-    let one = some_list (listings tables) at some (omega (arith, all, within)) in
+pub two_starts : (tables : TablesValue) (starts : List ℕ) (at : ℕ) → AreStarts tables starts → 1 ≤ at → at < lines_before tables (length (listings tables)) → 2 ≤ length starts
+two_starts tables starts at are some within =
+    let one = some_list (listings tables) at some within in
     let long = are.long in
     omega (arith, one, long)
 
--- the line of a number is one of the list that begins before it, if the next begins behind it
-pub within_list : (tables : TablesValue) (starts : List ℕ) (at list : ℕ) → AreStarts tables starts → list + 1 < length starts → get_or starts list 0 ≤ at → at < get_or starts (list + 1) 0
-    → at - get_or starts list 0 ≤ length (listing_at (listings tables) list).listed
-within_list tables starts at list are inside from to =
-    let long = are.long in
-    let here = are.each list (omega (arith, long, inside)) in
-    let there = are.each (list + 1) (omega (arith, long, inside)) in
-    let next = before_next tables list (omega (arith, long, inside)) in
-    omega (arith, here, there, next, from, to)
+module _ (tables : TablesValue) (starts : List ℕ) (at list : ℕ) (are : AreStarts tables starts) (inside : list + 1 < length starts) (from : get_or starts list 0 ≤ at) where
+  -- the line of a number in the list that begins before it
+  pub line_in : at ≡ lines_before tables list + (at - get_or starts list 0)
+  line_in =
+      let long = are.long in
+      let here = are.each list (omega (arith, long, inside)) in
+      omega (arith, here, from)
+
+  -- it is one of the list, if the next begins behind it
+  pub within_list : at < get_or starts (list + 1) 0 → at - get_or starts list 0 ≤ length (listing_at (listings tables) list).listed
+  within_list to =
+      let long = are.long in
+      let here = are.each list (omega (arith, long, inside)) in
+      let there = are.each (list + 1) (omega (arith, long, inside)) in
+      let next = before_next tables list (omega (arith, long, inside)) in
+      omega (arith, here, there, next, from, to)

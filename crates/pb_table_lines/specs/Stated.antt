@@ -1,7 +1,7 @@
 -- Tables that are written: what contracts see of them.
 use Rattle.std.specs.Prelude.{◌≡◌, ℕ, ◌+◌, ◌^◌, ◌<◌, ◌≤◌, List, length, slice_index}
 use Rattle.pb_packed.specs.Sizes.{most_digits}
-use Rattle.pb_tables.specs.Tables.{TablesValue, AreTables}
+use Rattle.pb_tables.specs.Tables.{TablesValue}
 use Rattle.pb_table_lines.specs.Lines.{listings, tables_lines, tables_text, lines_before}
 
 -- tables and traps, and how many hexadecimal digits an image has
@@ -14,13 +14,13 @@ pub record AreStarts (tables : TablesValue) (starts : List ℕ) : Type 0 where
   pub long : length starts ≡ length (listings tables) + 1
   pub each : (list : ℕ) → list ≤ length (listings tables)
       → slice_index starts list ≡ lines_before tables list
-  pub small : lines_before tables (length (listings tables)) < 2 ^ 80
+  pub small : lines_before tables (length (listings tables)) < 2 ^ 78
 
+-- the digits of an image are as many as a state may have, and the starts are those of the tables
 pub record IsIndexed (digits : ℕ) (tables : TablesValue) (starts : List ℕ) : Type 0 where
   pub some : 1 ≤ digits
   pub most : digits ≤ most_digits
   pub starts_are : AreStarts tables starts
-  pub lawful : AreTables tables
 
 abbrev pub stated_lines : StatedTables → List (List ℕ)
 stated_lines stated = tables_lines stated.digits stated.tables

@@ -10,6 +10,7 @@ mod laws;
 mod line;
 mod listing;
 mod lists;
+mod starts;
 mod tables;
 mod text;
 mod words;
@@ -22,5 +23,6 @@ pub use laws::{
 };
 pub use listing::{line_count, line_number};
 pub use lists::LinePlace;
+pub use starts::LineStarts;
 pub use tables::{read_tables, tables_at};
-pub use text::TablesText;
+pub use text::{TablesText, put_tables_line};

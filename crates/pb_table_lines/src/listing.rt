@@ -71,11 +71,13 @@ pub fn listing_at(tables: &Tables, list: usize) -> Listing<'_>
     ensures listing { result ≡ listing_at (listings tables.now) list }
     ensures long { length result.values ≡ length result.listed * result.sums }
     ensures few { result.sums ≤ 64 }
+    ensures listed { length result.listed < 2 ^ 63 }
     ensures short { length result.word ≤ 8 }
 {
+    let sums = tables.sums();
     let count = tables.tables().len();
     if list < count {
-        table_listing(tables.sums(), &tables.tables()[list])
+        table_listing(sums, &tables.tables()[list])
     } else {
         trap_listing(&tables.traps()[list - count])
     }
@@ -85,7 +87,7 @@ pub fn listing_at(tables: &Tables, list: usize) -> Listing<'_>
 fn lines_before(tables: &Tables, list: usize) -> u128
     requires { list ≤ length (listings tables.now) }
     ensures lines { result ≡ lines_before tables.now list }
-    ensures few { result ≤ 1 + list * 2 ^ 64 }
+    ensures few { result ≤ 1 + list * 2 ^ 63 }
 {
     let mut lines = 1u128;
     for number in 0..list {
@@ -97,7 +99,7 @@ fn lines_before(tables: &Tables, list: usize) -> u128
 /// How many lines state tables, at any number of digits.
 pub fn line_count(tables: &Tables) -> u128
     ensures lines { (digits : ℕ) → result ≡ length (tables_lines digits tables.now) }
-    ensures few { result < 2 ^ 80 }
+    ensures few { result < 2 ^ 78 }
 {
     lines_before(tables, count(tables))
 }
@@ -105,10 +107,10 @@ pub fn line_count(tables: &Tables) -> u128
 /// The number of a line of a table or trap, among all lines from 1 on. The tables are numbered from
 /// 0, the traps after them. Line 0 of a list is that of its tracked atoms, and line 1 that of its
 /// first image, as in `TablesFault::Line`.
-pub fn line_number(tables: &Tables, list: usize, line: usize) -> u64
-    requires list { list ≤ length (listings tables.now) }
-    requires few { line_number tables.now list line < 2 ^ 64 }
+pub fn line_number(tables: &Tables, list: usize, line: usize) -> u128
     ensures { result ≡ line_number tables.now list line }
 {
-    (lines_before(tables, list) + line as u128 + 1) as u64
+    let lists = count(tables);
+    let before = lines_before(tables, if list <= lists { list } else { lists });
+    before + line as u128 + 1
 }

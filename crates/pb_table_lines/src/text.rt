@@ -1,13 +1,13 @@
 //! Tables and traps are written, line by line.
-ghost use Rattle.std.specs.Prelude.{◌≡◌, ◌≤◌, ◌+◌, ◌-◌, ◌*◌, ◌<◌, ◌^◌, ◌++◌, ⊤, IfOk, length, slice_index, slice_index_or, take, drop};
+ghost use Rattle.std.specs.Prelude.{◌≡◌, ◌≤◌, ◌+◌, ◌*◌, ◌<◌, ◌++◌, ⊤, IfOk, length, slice_index, take, drop};
 ghost use Rattle.pb_packed.specs.Sizes.{most_digits};
 ghost use Rattle.pb_model.specs.Texts.{line};
 ghost use Rattle.pb_print.specs.Saved.{longest_line, PutsLine};
-ghost use Rattle.pb_tables.specs.Tables.{AreTables};
-ghost use Rattle.pb_table_lines.specs.Lines.{values_text, image_line, list_line, counts_line, listing_lines, listings, tables_lines};
+ghost use Rattle.pb_table_lines.specs.Lines.{values_text, image_line, list_line, counts_line, listing_lines, tables_lines};
 ghost use Rattle.pb_table_lines.specs.Stated.{AreStarts, stated_lines, stated_text};
 
-use crate::listing::{self, Listing, listing_at};
+use crate::listing::{Listing, listing_at};
+use crate::starts::LineStarts;
 use pb_packed::Packed;
 use pb_print::{NumberedLines, Piece};
 use pb_tables::Tables;
@@ -113,40 +113,37 @@ fn put_listing(listing: &Listing<'_>, digits: u32, at: u128, out: &mut Piece)
     }
 }
 
-// Where the lines of each table and trap begin, and how many lines there are.
-fn starts_of(alloc: Global, tables: &Tables) -> Result<Vec<u128>, AllocError>
-    ensures { IfOk result (λ starts. AreStarts tables.now starts.items) }
+// Puts a line of a table or trap at the piece's end.
+fn put_list_line(tables: &Tables, digits: u32, starts: &LineStarts, at: u128, out: &mut Piece)
+    requires some { 1 ≤ digits }
+    requires most { digits ≤ most_digits }
+    requires starts { AreStarts tables.now starts.now }
+    requires behind { 1 ≤ at }
+    requires within { at < length (tables_lines digits tables.now) }
+    requires room { length out.old + longest_line ≤ 4096 }
+    ensures { PutsLine out.old out.new (tables_lines digits tables.now) at }
 {
-    let mut starts = Vec::new(alloc);
-    let mut at = 1u128;
-    for list in 0..listing::count(tables) {
-        starts.push(at)?;
-        at += 1 + listing_at(tables, list).listed.len() as u128;
-    }
-    starts.push(at)?;
-    Ok(starts)
+    let (list, line) = starts.place_of(tables, at);
+    put_listing(&listing_at(tables, list), digits, line, out);
 }
 
-// The number before the last one that is above this one.
-fn last_from(starts: &[u128], at: u128) -> usize
-    requires some { 2 ≤ length starts.now }
-    requires first { slice_index starts.now 0 ≤ at }
-    requires last { at < slice_index starts.now (length starts.now - 1) }
-    ensures within { result + 1 < length starts.now }
-    ensures from { slice_index starts.now result ≤ at }
-    ensures to { at < slice_index starts.now (result + 1) }
+/// Puts the line of this number, counted from 0, at the piece's end, with its line feed. Images have
+/// so many digits. The table or trap of the line is found by halving.
+pub fn put_tables_line(tables: &Tables, digits: u32, starts: &LineStarts, at: u128, out: &mut Piece)
+    requires some { 1 ≤ digits }
+    requires most { digits ≤ most_digits }
+    requires starts { AreStarts tables.now starts.now }
+    requires within { at < length (tables_lines digits tables.now) }
+    requires room { length out.old + longest_line ≤ 4096 }
+    ensures { PutsLine out.old out.new (tables_lines digits tables.now) at }
 {
-    let mut low = 0;
-    let mut high = starts.len() - 1;
-    while low + 1 < high {
-        let middle = low + (high - low) / 2;
-        if starts[middle] <= at {
-            low = middle;
-        } else {
-            high = middle;
-        }
+    if at == 0 {
+        let count = tables.tables().len() as u64;
+        let traps = tables.traps().len() as u64;
+        put_counts(tables.sums() as u64, count, traps, out);
+    } else {
+        put_list_line(tables, digits, starts, at, out);
     }
-    low
 }
 
 /// The text of tables and traps. Contracts see the tables, and how many hexadecimal digits an image
@@ -155,8 +152,7 @@ fn last_from(starts: &[u128], at: u128) -> usize
 pub struct TablesText<'a> {
     tables: &'a Tables,
     digits: u32,
-    // the number of the first line of each table and trap, and how many lines there are
-    starts: Vec<u128>,
+    starts: LineStarts,
 }
 
 impl<'a> Model for TablesText<'a> {
@@ -166,7 +162,7 @@ impl<'a> Model for TablesText<'a> {
 
     ghost view = { λ t. record { digits = t.digits; tables = t.tables.now } };
 
-    ghost invariant = { λ t. IsIndexed t.digits t.tables.now t.starts.items };
+    ghost invariant = { λ t. IsIndexed t.digits t.tables.now t.starts };
 }
 
 impl<'a> TablesText<'a> {
@@ -177,26 +173,12 @@ impl<'a> TablesText<'a> {
         requires most { digits ≤ most_digits }
         ensures { IfOk result (λ text. text ≡ record { digits = digits; tables = tables.now }) }
     {
-        let _ = tables.sums();
-        let starts = starts_of(alloc, tables)?;
+        let starts = LineStarts::of(alloc, tables)?;
         Ok(TablesText {
             tables,
             digits,
             starts,
         })
-    }
-
-    // Puts a line of a table or trap at the piece's end.
-    fn put_lists(&self, at: u128, out: &mut Piece)
-        requires some { 1 ≤ at }
-        requires within { at < length (stated_lines self.now) }
-        requires room { length out.old + longest_line ≤ 4096 }
-        ensures { PutsLine out.old out.new (stated_lines self.now) at }
-    {
-        let starts = self.starts.as_slice();
-        let list = last_from(starts, at);
-        let listing = listing_at(self.tables, list);
-        put_listing(&listing, self.digits, at - starts[list], out);
     }
 }
 
@@ -209,17 +191,10 @@ impl NumberedLines for TablesText<'_> {
     ghost begins = { λ t at begin. ⊤ };
 
     fn count(&self) -> u128 {
-        let starts = self.starts.as_slice();
-        starts[starts.len() - 1]
+        self.starts.count(self.tables)
     }
 
     fn put_line(&self, at: u128, _begin: &mut usize, out: &mut Piece) {
-        if at == 0 {
-            let tables = self.tables.tables().len() as u64;
-            let traps = self.tables.traps().len() as u64;
-            put_counts(self.tables.sums() as u64, tables, traps, out);
-        } else {
-            self.put_lists(at, out);
-        }
+        put_tables_line(self.tables, self.digits, &self.starts, at, out);
     }
 }

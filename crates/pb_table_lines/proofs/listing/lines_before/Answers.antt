@@ -11,5 +11,5 @@ loop-number-preserved c =
     let next = before_next c.args.tables.now c.loop-number.number (omega (arith, c.loop-number-test.true, c.requires)) in
     record {
       lines_are = omega (arith, inv.lines_are, one, same, next);
-      small = omega (arith, inv.small, c.listing_at-in-loop-number.ranges);
+      small = omega (arith, inv.small, one, c.listing_at.ensures.listed);
     }

@@ -5,5 +5,5 @@ use Rattle.pb_table_lines.proofs.listing.lines_before.Given as goal
 abbrev pub invariant-loop-number : goal.invariant-loop-number
 invariant-loop-number l = record {
   lines_are : l.lines ≡ lines_before l.tables l.number;
-  small : l.lines ≤ 1 + l.number * 2 ^ 64;
+  small : l.lines ≤ 1 + l.number * 2 ^ 63;
 }
