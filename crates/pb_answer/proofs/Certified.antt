@@ -6,8 +6,9 @@ use Rattle.pb_model.specs.Plan.{Plan, NoneCheaper, IncumbentHolds, IsBound}
 use Rattle.pb_model.specs.Certificate.{IsBackedBy}
 use Rattle.pb_task.specs.declared.parts.TaskParts.{TaskParts}
 use Rattle.pb_task.specs.Parts.{space_of, IsTask}
-use Rattle.pb_estimate.specs.Spelling.{spelling_of}
-use Rattle.pb_estimate.specs.Estimates.{suits, choice_with}
+use Rattle.pb_estimate.specs.Spelling.{IsSpelling, spelling_of}
+use Rattle.pb_estimate.specs.Estimates.{suits}
+use Rattle.pb_estimate.specs.Choices.{choice_with}
 use Rattle.pb_lists.specs.Store.{IsQuietEnd}
 use Rattle.pb_cert.specs.Stated.{SpelledCertificate, text_of}
 use Rattle.pb_cert.specs.Found.{IsPlanOf}
@@ -35,7 +36,8 @@ module _ (solve : SolveMeaning) (parts : TaskParts) (homes : ℕ → ℕ) (store
     (end : IsQuietEnd (space_of parts) (guide_asked solve parts homes) store)
     (weight : store.weight ≡ weight_asked solve) where
   -- a certificate that was made of the rows
-  pub is_certificate : IsTask parts → IsSolveInRange solve → (c : SpelledCertificate)
+  pub is_certificate : IsTask parts → IsSolveInRange solve
+      → IsSpelling (spelling_of parts (choice_asked solve)) → (c : SpelledCertificate)
       (plan : Option Plan) (name : List ℕ) → solve.certificate ≡ Some name
       → c.spelling ≡ spelling_of parts (choice_asked solve)
       → c.certificate.weight ≡ store.weight → c.certificate.plan ≡ plan
@@ -45,7 +47,7 @@ module _ (solve : SolveMeaning) (parts : TaskParts) (homes : ℕ → ℕ) (store
       → CanBeCertified parts store plan
       → IsCertificate solve.certificate parts (choice_asked solve) (weight_asked solve)
       (guide_asked solve parts homes) store plan (output name (text_of c) ∷ [])
-  is_certificate lawful range c plan name named spelling w p count lines valid stated =
+  is_certificate lawful range known c plan name named spelling w p count lines valid stated =
       let num : solve.settings.num ≤ 1000 = range.settings.weight.small in
       let den : solve.settings.den ≤ solve.settings.num = range.settings.weight.at_least_one in
       subst (λ (n : Option (List ℕ)). IsCertificate n parts (choice_asked solve) (weight_asked solve)
@@ -54,7 +56,7 @@ module _ (solve : SolveMeaning) (parts : TaskParts) (homes : ℕ → ℕ) (store
         text_of c,
         quiet.states_certificate parts (guide_asked solve parts homes) store end lawful
             (choice_asked solve) refl
-            (choice_suits parts solve.settings.pattern range.settings.pattern)
+            (choice_suits parts solve.settings.pattern range.settings.pattern) known
             (weight_asked solve) weight (omega (arith, num)) (omega (arith, num, den)) c plan
             (text_of c) refl spelling w p count lines valid stated.is_plan stated.backed
             stated.fits,

@@ -7,7 +7,7 @@ use Rattle.pb_model.specs.Store.{Store}
 use Rattle.pb_model.specs.Plan.{Plan}
 use Rattle.pb_machine.specs.Machine.{Machine}
 use Rattle.pb_task.specs.declared.parts.TaskParts.{TaskParts}
-use Rattle.pb_estimate.specs.declared.choice.Choice.{Choice}
+use Rattle.pb_estimate.specs.Choices.{Choice}
 use Rattle.pb_abstract.specs.Graph.{AbstractGraph}
 use Rattle.pb_falling.specs.Falling.{Claim}
 use Rattle.pb_command.specs.Meaning.{SolveMeaning}

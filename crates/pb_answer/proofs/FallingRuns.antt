@@ -15,7 +15,7 @@ use Rattle.pb_machine.specs.Lawful.{reopened_machine, reopened_setup}
 use Rattle.pb_machine.proofs.Callers.{opening_is_lawful}
 use Rattle.pb_task.specs.declared.parts.TaskParts.{TaskParts}
 use Rattle.pb_task.specs.Parts.{space_of, greatest_cost, IsTask}
-use Rattle.pb_estimate.specs.declared.choice.Choice.{Choice}
+use Rattle.pb_estimate.specs.Choices.{Choice}
 use Rattle.pb_estimate.specs.Estimates.{estimate_by}
 use Rattle.pb_estimate.proofs.Callers.{estimates_are_admissible}
 use Rattle.pb_abstract.specs.Graph.{blocks_of}

@@ -13,7 +13,7 @@ use Rattle.pb_machine.specs.Machine.{Setup, Machine, Move, opening_machine}
 use Rattle.pb_task.specs.declared.parts.TaskParts.{TaskParts}
 use Rattle.pb_task.specs.Parts.{space_of, greatest_cost}
 use Rattle.pb_task.proofs.Callers.{tasks_are_proper}
-use Rattle.pb_estimate.specs.declared.choice.Choice.{Choice}
+use Rattle.pb_estimate.specs.Choices.{Choice}
 use Rattle.pb_estimate.specs.Estimates.{estimate_by}
 use Rattle.pb_lists.specs.Store.{guide_with, IsQuietEnd}
 use Rattle.pb_abstract.specs.Graph.{home_of}

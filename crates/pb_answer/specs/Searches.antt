@@ -3,7 +3,7 @@
 use Rattle.pb_model.specs.Weight.{Weight}
 use Rattle.pb_machine.specs.declared.settings.Settings.{Settings}
 use Rattle.pb_machine.specs.Settings.{weight_of}
-use Rattle.pb_estimate.specs.declared.choice.Choice.{Choice}
+use Rattle.pb_estimate.specs.Choices.{Choice}
 use Rattle.pb_search.specs.Ends.{choice_of}
 use Rattle.pb_command.specs.Meaning.{SolveMeaning}
 

@@ -176,6 +176,7 @@ pub fn answer_check<'a, R: Threads + Sync, G: Gate>(
     ensures since { looks.new.since ≡ looks.old.since }
     ensures rising { looks.old.taken ≤ looks.new.taken }
 {
+    // Texts are left out from the first on that is too long.
     let Some(certificate) = texts.get(0) else {
         return Ok(refuse_input(Report::of_line(alloc, b"input TooLong")?, looks));
     };
@@ -206,6 +207,7 @@ pub fn answer_journal<'a>(
     ensures since { looks.new.since ≡ looks.old.since }
     ensures rising { looks.old.taken ≤ looks.new.taken }
 {
+    // Texts are left out from the first on that is too long.
     let Some(text) = texts.get(0) else {
         return Ok(refuse_input(Report::of_line(alloc, b"input TooLong")?, looks));
     };

@@ -59,6 +59,7 @@ pub fn judge<'a, R: Threads + Sync, G: Gate>(
                 report,
                 certificate: rewrite(task, &command, certificate),
                 journal: None,
+                // `answer_check` adds the looks.
                 looks: 0,
             })
         }

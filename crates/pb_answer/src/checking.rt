@@ -16,8 +16,8 @@ use pb_task::Task;
 use std::alloc::{AllocError, Global};
 use std::thread::Threads;
 
-// As many estimators as there are workers. They share the table of the pattern, if the choice has
-// one.
+// As many estimators as there are workers. They share the table of the pattern or the tables, if the
+// choice has any.
 fn estimators_for(
     alloc: Global,
     task: &Task,
@@ -34,6 +34,7 @@ fn estimators_for(
     let mut estimators = Vec::with_capacity(alloc, workers as usize)?;
     for _ in 0..workers {
         let estimator = Estimator::by(alloc, task, choice, table)?;
+        // There is room for it, so this takes no memory.
         estimators.push_reserved(estimator);
     }
     Ok(estimators)
@@ -57,7 +58,9 @@ pub fn verdict_by<R: Threads + Sync, G: Gate>(
     ensures claim { IfOk result (λ verdict. ShowsClaim task.now certificate.now verdict) }
     ensures holds { IfOk result (λ verdict. VerdictHolds (space_of task.now) verdict) }
 {
-    let choice = stated_choice(certificate);
+    // The head is read first: estimators are made by the choice that it states.
+    let choice = stated_choice(alloc, task, certificate)?;
+    // One worker needs no thread.
     if workers <= 1 {
         let mut estimator = Estimator::of(alloc, task, &choice)?;
         return check(alloc, task, &mut estimator, certificate);

@@ -36,6 +36,7 @@ pub fn report_stop<'a>(
         report: Report::of_stop(alloc, solve.settings.budget)?,
         certificate: None,
         journal,
+        // `answer_solve` adds the looks.
         looks: 0,
     })
 }
@@ -83,6 +84,7 @@ fn report_plan<'a, S: Store>(
     requires known { (cost : ℕ) × (S.incumbent store.now ≡ Some cost) }
     ensures { IfOk result (λ a. IsSolved (solve_meant solve.now) task.now (said_of a)) }
 {
+    // Called for its clause `lawful`: the proof asks for a lawful task.
     let _lawful = task.max_degree();
     let plan = trace(alloc, task, store)?;
     let bound = bound_of(solve.settings.num, solve.settings.den, plan.cost());
@@ -146,6 +148,7 @@ pub(crate) fn certify<'a, S: Store>(
         (store_with (S.rows store.now) (S.weight store.now) (S.incumbent store.now)) plan
         (certificates_of saved)) }
 {
+    // Called for its clause `lawful`, as above.
     let _lawful = task.max_degree();
     match solve.certificate {
         Some(name) => {
@@ -165,6 +168,7 @@ pub(crate) fn bound_of(num: u64, den: u64, cost: u64) -> u64
     requires num { num ≤ 1000 }
     ensures { IsBound (record { num = num; den = den }) cost result }
 {
+    // The product may need more than 64 bits; the quotient is at most the cost.
     let least = (u128::from(den) * u128::from(cost) + (u128::from(num) - 1)) / u128::from(num);
     least as u64
 }

@@ -88,6 +88,7 @@ impl<'a> FallingSearch<'a> {
         ensures falling { IfOk result (λ s. (machine : Machine) × IsFalling [] machine s) }
     {
         let graph = search(rt, alloc, task, falling.solve.settings, gate)?;
+        // Called for its clause `lawful`: the proof asks for a lawful graph.
         let _lawful = graph.abstraction();
         let task = Arc::clone(task)?;
         FallingSearch::after_run(alloc, task, falling.solve, falling.steps, 0, graph, None)
@@ -122,10 +123,13 @@ impl<'a> FallingSearch<'a> {
         let num = numerator_at(solve.settings.num, solve.settings.den, steps, run + 1);
         let again = match graph.reopen(num, solve.settings.den) {
             Ok(again) => again,
+            // The graph comes back with the error, and is let go.
             Err((error, _)) => return Err(error),
         };
+        // The table of a pattern isn't kept between runs.
         let made = again.choice().table(alloc, &task)?;
         let last = search_on(rt, alloc, &task, again, gate, made.as_ref())?;
+        // Called for its clause `lawful`, as above.
         let _lawful = last.abstraction();
         FallingSearch::after_run(alloc, task, solve, steps, run + 1, last, plan)
     }
@@ -143,6 +147,7 @@ impl<'a> FallingSearch<'a> {
             None => match self.graph.end() {
                 Some(End::Quiet) => self.answer_none(alloc),
                 Some(End::Budget) => self.answer_stop(alloc),
+                // A run has no other end: that memory ran out is an error.
                 Some(End::Memory) | None => unreachable!(),
             },
         }
@@ -232,11 +237,13 @@ impl<'a> FallingSearch<'a> {
         ensures { (before : List Claim) (machine : Machine) → IsFalling before machine self.now
             → IfOk result (λ a. SaysClaimNow before machine self.now (said_of a)) }
     {
+        // A law that the proof cites.
         claims_hold();
         let words = self.words();
         let bound = self.bound(plan);
         let settings = words.settings;
         let report = Report::of_claim(alloc, settings.num, settings.den, &self.task, plan, bound)?;
+        // The certificate owns its plan, and the search keeps one for the next claim.
         let stated = copy_plan(alloc, plan)?;
         let certificate = certify(alloc, &self.task, &words, Some(stated), &self.graph)?;
         Ok(Answer {
@@ -275,6 +282,7 @@ impl<'a> FallingSearch<'a> {
         ensures { (before : List Claim) (machine : Machine) → IsFalling before machine self.now
             → IfOk result (λ a. SaysStopNow before self.now (said_of a)) }
     {
+        // A law that the proof cites.
         claims_hold();
         let report = Report::of_stop(alloc, self.solve.settings.budget)?;
         Ok(Answer::without_files(Status::Stopped, report, 0))

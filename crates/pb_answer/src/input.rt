@@ -34,6 +34,7 @@ pub enum NoTask {
     Memory,
 }
 
+// By hand, so that a clause can say which error `?` makes.
 impl From<AllocError> for NoTask {
     ghost use Rattle.std.specs.Prelude.{◌≡◌};
     ghost use Rattle.pb_answer.specs.declared.input.NoTask.TheVariants.{Memory};

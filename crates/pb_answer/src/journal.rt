@@ -37,6 +37,7 @@ pub fn judge_journal<'a>(alloc: Global, task: &Task, text: &[u8]) -> Result<Answ
 fn count_events(alloc: Global, task: &Task, text: &[u8]) -> Result<u64, JournalError>
     ensures { GivesJournal task.now text.now result }
 {
+    // The header first: the number of blocks is in it.
     let journal = open_journal(text)?;
     let settings = journal.settings();
     let abstraction = AbsGraph::of(alloc, task, settings.wish)?;

@@ -33,6 +33,7 @@ pub fn claimed_plan(
     requires fits { PlanFitsIfAny before }
     ensures { IfOk result (KeepsPlan task.now graph.now before) }
 {
+    // Called for its clause `lawful`: the proof asks for a lawful task.
     let _lawful = task.max_degree();
     match graph.end() {
         Some(End::Quiet) => match graph.incumbent() {
@@ -43,6 +44,7 @@ pub fn claimed_plan(
             None => Ok(None),
         },
         Some(End::Budget) => Ok(None),
+        // By the clause `ended` there is no other end.
         Some(End::Memory) | None => unreachable!(),
     }
 }
@@ -53,6 +55,7 @@ fn cheaper_plan(before: Option<Plan>, traced: Plan) -> Plan
 {
     match before {
         Some(before) => {
+            // At the same cost the traced plan is taken, to which this run's rows lead.
             if before.cost() < traced.cost() {
                 before
             } else {

@@ -42,10 +42,12 @@ pub fn solve_by_leases<'a, R: Threads + Wait + Sync, G: Gate>(
 {
     let settings = solve.settings;
     let graph = search(rt, alloc, task, settings, gate)?;
+    // The caller keeps the graph, since the answer borrows it.
     let graph = keep_leases(kept, graph);
     match graph.end() {
         Some(End::Quiet) => answer_end(alloc, task, &solve, graph),
         Some(End::Budget) => answer_stop(alloc, task, &solve, graph),
+        // `search` gives no other end: that memory ran out is its error.
         Some(End::Memory) | None => unreachable!(),
     }
 }

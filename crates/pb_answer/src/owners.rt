@@ -41,10 +41,12 @@ pub fn solve_by_owners<'a, R: Threads + Wait + Sync, G: Gate>(
 {
     let settings = solve.settings;
     let (end, owners) = search_by_owners(rt, alloc, task, settings, gate)?;
+    // The caller keeps the owners, since the answer borrows them.
     let owners = keep_owners(kept, owners);
     match end {
         End::Quiet => answer_end(alloc, task, &solve, owners),
         End::Budget => answer_stop(alloc, task, &solve, owners),
+        // That memory ran out is an error of the search.
         End::Memory => unreachable!(),
     }
 }

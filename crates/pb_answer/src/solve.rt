@@ -31,6 +31,7 @@ pub fn solve_task<'a, R: Threads + Wait + Sync, G: Gate>(
     requires names { NamesTell task }
     ensures { IfOk result (λ a. IsFound (solve_meant solve.entry) task (said_of a)) }
 {
+    // Workers share the task.
     let task = Arc::new(alloc, task)?;
     match solve.engine {
         Engine::Leases => solve_by_leases(rt, alloc, &task, solve, gate, kept),

@@ -18,6 +18,7 @@ pub enum SearchedStore {
 pub fn keep_leases<'a>(kept: &'a mut Option<SearchedStore>, graph: LeaseGraph) -> &'a LeaseGraph
     ensures { result.now ≡ graph }
 {
+    // `insert` lends what it was just given, so the other variant can't come.
     match kept.insert(SearchedStore::Leases(graph)) {
         SearchedStore::Leases(graph) => graph,
         SearchedStore::Owners(_) => unreachable!(),
@@ -28,6 +29,7 @@ pub fn keep_leases<'a>(kept: &'a mut Option<SearchedStore>, graph: LeaseGraph) -
 pub fn keep_owners<'a>(kept: &'a mut Option<SearchedStore>, owners: Owners) -> &'a Owners
     ensures { result.now ≡ owners }
 {
+    // `insert` lends what it was just given, so the other variant can't come.
     match kept.insert(SearchedStore::Owners(owners)) {
         SearchedStore::Owners(owners) => owners,
         SearchedStore::Leases(_) => unreachable!(),

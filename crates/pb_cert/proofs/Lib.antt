@@ -5,6 +5,7 @@ mod Distinct
 mod Goals
 mod LineTexts
 mod Respelled
+mod GoodLines
 mod LinesAnew
 mod Parts
 mod Sorted

@@ -1,5 +1,5 @@
 -- The lines of a certificate's text, by their numbers and one after another.
-use Rattle.std.proofs.Common.{◌≡◌, ℕ, zero, suc, ◌+◌, ◌-◌, ◌<◌, ◌≤◌, Option, None, Some, List, [], ◌∷◌, ◌++◌, map, length, slice_get, get_or, refl, sym, subst, ap, arith, ◌∙◌, append_assoc, append-nil, codes}
+use Rattle.std.proofs.Common.{◌≡◌, ◌⊎◌, inl, inr, ℕ, zero, suc, ◌+◌, ◌-◌, ◌<◌, ◌≤◌, Option, None, Some, List, [], ◌∷◌, ◌++◌, map, length, slice_get, get_or, refl, sym, subst, ap, arith, ◌∙◌, append_assoc, append-nil, codes}
 use Rattle.std.proofs.lemmas.List.{length-append, length-map}
 use Rattle.std.proofs.lemmas.Option.{slice_get-get_or}
 use Rattle.std.specs.Fmt.{decimal}
@@ -12,10 +12,11 @@ use Rattle.pb_print.proofs.Callers.{lines-append, lines-last, puts_left, puts_ri
 use Rattle.pb_estimate.specs.declared.spelling.Spelling.{Spelling}
 use Rattle.pb_estimate.specs.declared.spelling.Version.{Version}
 use Rattle.pb_estimate.specs.declared.spelling.Version.TheVariants.{One, Two, Three, Four}
-use Rattle.pb_estimate.specs.declared.choice.Choice.{Choice}
-use Rattle.pb_estimate.specs.declared.choice.Choice.TheVariants.{Plain, Pattern}
+use Rattle.pb_estimate.specs.Choices.{Choice, Plain, Pattern, Tables}
 use Rattle.pb_estimate.specs.declared.spelling.Stated.{Stated}
-use Rattle.pb_estimate.specs.Spelling.{IsWidthOf, IsSpelling, version_line, kind_line, width_text, choice_text, grounding_line, estimate_line, stated_text, head_of, head_lines}
+use Rattle.pb_estimate.specs.Spelling.{IsWidthOf, IsSpelling, version_line, kind_line, width_text, choice_text, grounding_line, plain_line, pattern_line, estimate_text, stated_text, head_of, head_lines}
+use Rattle.pb_tables.specs.Tables.{TablesValue}
+use Rattle.pb_table_lines.specs.Lines.{tables_lines}
 use Rattle.pb_cert.specs.Stated.{SpelledCertificate, text_of, first_lines, plan_lines, rows_lines, weight_line, lines_of}
 
 -- ---- a first line, a line for each element of a list, and a last line
@@ -90,19 +91,19 @@ module _ (old new : List ℕ) (spelling : Spelling) (at : ℕ) where
   pub width_put : 2 ≤ at → PutsLine old new (width_text spelling.version spelling.width) (at - 2) → PutsLine old new (head_of spelling) at
   width_put past puts =
       let width = width_text spelling.version spelling.width in
-      let stated = stated_text spelling.version spelling.stated in
+      let stated = stated_text spelling.version spelling.width spelling.stated in
       puts_right old new (version_line spelling.version ∷ kind_line spelling.kind ∷ []) (width ++ stated) at (at - 2) past refl (puts_left old new width stated (at - 2) puts)
 
-  pub stated_put : (widths : ℕ) → widths ≡ length (width_text spelling.version spelling.width) → 2 + widths ≤ at → PutsLine old new (stated_text spelling.version spelling.stated) (at - 2 - widths) → PutsLine old new (head_of spelling) at
+  pub stated_put : (widths : ℕ) → widths ≡ length (width_text spelling.version spelling.width) → 2 + widths ≤ at → PutsLine old new (stated_text spelling.version spelling.width spelling.stated) (at - 2 - widths) → PutsLine old new (head_of spelling) at
   stated_put widths counted past puts =
       let width = width_text spelling.version spelling.width in
-      let stated = stated_text spelling.version spelling.stated in
+      let stated = stated_text spelling.version spelling.width spelling.stated in
       puts_right old new (version_line spelling.version ∷ kind_line spelling.kind ∷ []) (width ++ stated) at (at - 2) (omega (arith, past)) refl
       (puts_right old new width stated (at - 2) (at - 2 - widths) (omega (arith, counted, past)) (omega (arith, counted)) puts)
 
 -- how many lines come before the weight
-pub head_counted : (spelling : Spelling) → head_lines spelling ≡ 2 + length (width_text spelling.version spelling.width) + length (stated_text spelling.version spelling.stated)
-head_counted spelling = let both = length-append (width_text spelling.version spelling.width) (stated_text spelling.version spelling.stated) in omega (arith, both)
+pub head_counted : (spelling : Spelling) → head_lines spelling ≡ 2 + length (width_text spelling.version spelling.width) + length (stated_text spelling.version spelling.width spelling.stated)
+head_counted spelling = let both = length-append (width_text spelling.version spelling.width) (stated_text spelling.version spelling.width spelling.stated) in omega (arith, both)
 
 -- the line that says how many digits a state has, if there is one
 pub no_width_put : (old new : List ℕ) (version : Version) (width at : ℕ) → version ≡ One → at < length (width_text version width) → PutsLine old new (width_text version width) at
@@ -136,9 +137,9 @@ one_width_put old new Three width at number same within e short = one_number_put
 one_width_put old new Four width at number same within e short = one_number_put old new (codes "width") width at number same within e short
 
 -- the line that says the number of a pattern in version 3, if there is one
-pub no_pattern_put : (old new : List ℕ) (choice : Choice) (at : ℕ) → choice ≡ Plain → at < length (choice_text choice) → PutsLine old new (choice_text choice) at
-no_pattern_put old new choice at is within =
-    let none : at < 0 = subst (λ c. at < length (choice_text c)) is within in absurd (omega (arith, none))
+pub no_pattern_put : (old new : List ℕ) (choice other : Choice) (at : ℕ) → choice ≡ other → choice_text other ≡ [] → at < length (choice_text choice) → PutsLine old new (choice_text choice) at
+no_pattern_put old new choice other at is none within =
+    let long : length (choice_text choice) ≡ 0 = ap (λ c. length (choice_text c)) is ∙ ap length none in absurd (omega (arith, within, long))
 
 pub pattern_put : (old new : List ℕ) (choice : Choice) (number at : ℕ) → choice ≡ Pattern number → at < length (choice_text choice) → new ≡ old ++ line (spaced (codes "pattern") (decimal number)) → length new ≤ length old + longest_line
     → PutsLine old new (choice_text choice) at
@@ -146,22 +147,43 @@ pattern_put old new choice number at is within e short =
     subst (λ c. PutsLine old new (choice_text c) at) (sym is)
     (one_number_put old new (codes "pattern") number at number refl (subst (λ c. at < length (choice_text c)) is within) e short)
 
--- the lines of what version 4 states besides
-module _ (old new : List ℕ) (stated : Stated) (at : ℕ) where
-  pub grounding_put : at ≡ 0 → new ≡ old ++ line (grounding_line stated.grounding) → length new ≤ length old + longest_line → PutsLine old new (stated_text Four stated) at
-  grounding_put zeroth e short =
-      (grounding_line stated.grounding, subst (λ n. slice_get (stated_text Four stated) n ≡ Some (grounding_line stated.grounding)) (sym zeroth) refl, e, short)
+-- a line that says the choice of an estimate in version 4
+module _ (old new : List ℕ) (width : ℕ) (choice : Choice) (at : ℕ) where
+  pub plain_put : choice ≡ Plain → at < length (estimate_text width choice) → new ≡ old ++ line plain_line → PutsLine old new (estimate_text width choice) at
+  plain_put is within e =
+      let one : at < 1 = subst (λ c. at < length (estimate_text width c)) is within in
+      let zeroth : at ≡ 0 = omega (arith, one) in
+      subst (λ c. PutsLine old new (estimate_text width c) at) (sym is)
+      (plain_line, subst (λ n. slice_get (plain_line ∷ []) n ≡ Some plain_line) (sym zeroth) refl, e, short_enough old new (line plain_line) e (omega arith))
 
-  pub estimate_put : (at ≡ 0 → ⊥) → at < length (stated_text Four stated) → new ≡ old ++ line (estimate_line stated.choice) → length new ≤ length old + longest_line → PutsLine old new (stated_text Four stated) at
-  estimate_put other within e short =
-      let first : at ≡ 1 = grind (arith, other, within) in
-      (estimate_line stated.choice, subst (λ n. slice_get (stated_text Four stated) n ≡ Some (estimate_line stated.choice)) (sym first) refl, e, short)
+  pub number_put : (number : ℕ) → choice ≡ Pattern number → at < length (estimate_text width choice) → new ≡ old ++ line (pattern_line number) → length new ≤ length old + longest_line → PutsLine old new (estimate_text width choice) at
+  number_put number is within e short =
+      subst (λ c. PutsLine old new (estimate_text width c) at) (sym is)
+      (one_number_put old new (codes "estimate pattern") number at number refl (subst (λ c. at < length (estimate_text width c)) is within) e short)
+
+  pub tables_put : (tables : TablesValue) → choice ≡ Tables tables → PutsLine old new (tables_lines width tables) at → PutsLine old new (estimate_text width choice) at
+  tables_put tables is puts = subst (λ c. PutsLine old new (estimate_text width c) at) (sym is) puts
+
+-- the lines of what version 4 states besides
+module _ (old new : List ℕ) (width : ℕ) (stated : Stated) (at : ℕ) where
+  pub grounding_put : at ≡ 0 → new ≡ old ++ line (grounding_line stated.grounding) → length new ≤ length old + longest_line → PutsLine old new (stated_text Four width stated) at
+  grounding_put zeroth e short =
+      (grounding_line stated.grounding, subst (λ n. slice_get (stated_text Four width stated) n ≡ Some (grounding_line stated.grounding)) (sym zeroth) refl, e, short)
+
+  pub estimate_put : (at ≡ 0 → ⊥) → PutsLine old new (estimate_text width stated.choice) (at - 1) → PutsLine old new (stated_text Four width stated) at
+  estimate_put other puts = puts_right old new (grounding_line stated.grounding ∷ []) (estimate_text width stated.choice) at (at - 1) (grind (arith, other)) refl puts
 
 -- what a version states besides, where it is known
-module _ (old new : List ℕ) (version : Version) (stated : Stated) (at : ℕ) where
-  pub one_put : (other : Version) → version ≡ other → (at < length (stated_text other stated) → PutsLine old new (stated_text other stated) at) → at < length (stated_text version stated) → PutsLine old new (stated_text version stated) at
-  one_put other is puts within =
-      subst (λ v. PutsLine old new (stated_text v stated) at) (sym is) (puts (subst (λ v. at < length (stated_text v stated)) is within))
+module _ (old new : List ℕ) (version : Version) (width : ℕ) (stated : Stated) (at : ℕ) where
+  pub one_put : (other : Version) → version ≡ other → PutsLine old new (stated_text other width stated) at → PutsLine old new (stated_text version width stated) at
+  one_put other is puts = subst (λ v. PutsLine old new (stated_text v width stated) at) (sym is) puts
+
+-- versions 1 and 2 state nothing besides
+pub none_stated : (version : Version) (width : ℕ) (stated : Stated) (at : ℕ) → (version ≡ One) ⊎ (version ≡ Two) → at < length (stated_text version width stated) → ⊥
+none_stated version width stated at (inl one) within =
+    let none : at < 0 = subst (λ v. at < length (stated_text v width stated)) one within in omega (arith, none)
+none_stated version width stated at (inr two) within =
+    let none : at < 0 = subst (λ v. at < length (stated_text v width stated)) two within in omega (arith, none)
 
 module _ (old new : List ℕ) (spelled : SpelledCertificate) (at : ℕ) where
   first_counted : length (first_lines spelled) ≡ head_lines spelled.spelling + 1

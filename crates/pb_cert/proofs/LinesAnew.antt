@@ -1,42 +1,34 @@
 -- A certificate that was read, line by line as it is saved anew.
-use Rattle.std.proofs.Common.{lit<, ◌≡◌, ◌≢◌, ◌⊎◌, inl, inr, ℕ, zero, suc, ◌+◌, ◌-◌, ◌/◌, ◌%◌, ◌^◌, ◌<◌, ◌≤◌, Bool, true, false, Option, None, Some, List, [], ◌∷◌, ◌++◌, length, drop, take, map, codes, slice_get, get_or, Result, Ok, Err, refl, sym, ap, ◌∙◌, subst, arith}
-use Rattle.std.specs.Prelude.{if◌then◌else◌, option_map, All}
+use Rattle.std.proofs.Common.{◌≡◌, ◌≢◌, ◌⊎◌, inl, inr, ℕ, zero, suc, ◌+◌, ◌-◌, ◌^◌, ◌<◌, ◌≤◌, true, Option, None, Some, List, [], ◌∷◌, ◌++◌, length, drop, take, map, codes, slice_get, get_or, Result, Ok, Err, refl, sym, ap, ◌∙◌, subst, arith}
+use Rattle.std.specs.Prelude.{option_map, All}
 use Rattle.std.specs.List.{AllByRecursion}
 use Rattle.std.specs.Fmt.{decimal}
-use Rattle.std.proofs.lemmas.Nat.{mod_below}
 use Rattle.std.proofs.lemmas.Bool.Decides.{nat_tests}
 use Rattle.std.proofs.lemmas.List.{append_assoc, length-append, length-map, length-drop, drop_at, drop_more, take-append-drop, take_all}
 use Rattle.std.proofs.lemmas.List.Elements.{recursion_from_All}
 use Rattle.std.proofs.lemmas.Option.{slice_get-map, slice_get-get_or, same_Some}
-use Rattle.pb_packed.specs.Digits.{hex_digit, hex_digits}
 use Rattle.pb_packed.specs.Sizes.{most_digits}
-use Rattle.pb_packed.proofs.Callers.{no_digits, one_more, digits_are_hex}
-use Rattle.pb_model.specs.Plan.{Plan}
-use Rattle.pb_model.specs.Weight.{Weight}
-use Rattle.pb_model.specs.Certificate.{Line, Certificate}
-use Rattle.pb_model.specs.Texts.{line, lines, spaced, line_text}
+use Rattle.pb_model.specs.Certificate.{Certificate}
+use Rattle.pb_model.specs.Texts.{line, lines, spaced}
 use Rattle.pb_task.specs.declared.kind.Kind.{Kind}
 use Rattle.pb_task.specs.declared.kind.Kind.TheVariants.{Grid, Tiles, Strips}
 use Rattle.pb_task.specs.declared.grounding.Grounding.{Grounding}
-use Rattle.pb_task.specs.declared.grounding.Grounding.TheVariants as groundings
 use Rattle.pb_task.specs.declared.parts.TaskParts.{TaskParts}
 use Rattle.pb_task.specs.Parts.{IsTask}
 use Rattle.pb_task.specs.Widths.{width_of, StatesFitTheirWidth}
-use Rattle.pb_estimate.specs.declared.choice.Choice.{Choice}
-use Rattle.pb_estimate.specs.declared.choice.Choice.TheVariants.{Plain, Pattern}
-use Rattle.pb_estimate.specs.declared.spelling.Stated.{Stated}
+use Rattle.pb_estimate.specs.Choices.{Choice, Plain, Pattern, Tables}
 use Rattle.pb_estimate.specs.declared.spelling.Spelling.{Spelling}
 use Rattle.pb_estimate.specs.declared.spelling.Version.{Version}
 use Rattle.pb_estimate.specs.declared.spelling.Version.TheVariants.{One, Two, Three, Four}
 use Rattle.pb_estimate.specs.Spelling.{IsWidthOf, StatesChoice, StatesGrounding, IsVersionFor, IsSpelling}
-use Rattle.pb_estimate.specs.Spelling.{version_line, kind_line, width_text, choice_text, grounding_line, estimate_line, stated_text, head_of}
+use Rattle.pb_estimate.specs.Spelling.{version_line, kind_line, width_text, stated_text}
 use Rattle.pb_lines.specs.Words.{part, behind, has_none, line_feeds}
-use Rattle.pb_lines.proofs.Callers.{part_again, none_both, number_none, one_feed, behind_again}
+use Rattle.pb_lines.proofs.Callers.{part_again, one_feed, behind_again}
 use Rattle.pb_print.specs.Saved.{longest_line, PutsLine}
 use Rattle.pb_check.specs.declared.fault.Verdict.{Verdict}
 use Rattle.pb_check.specs.Reading.{Text}
 use Rattle.pb_check.specs.Reading as reading
-use Rattle.pb_check.specs.Spelling.{Fits, IsNumber, PlanFitsIfAny, IsSpelled, ReadAsSpelled, HasWidthOf}
+use Rattle.pb_check.specs.Spelling.{Fits, IsSpelled, ReadAsSpelled, HasWidthOf}
 use Rattle.pb_check.specs.Shown.{IsAccepted}
 use Rattle.pb_check.specs.declared.fault.CertificateFault.{CertificateFault}
 use Rattle.pb_check.specs.declared.fault.CheckError.TheVariants as errors
@@ -45,145 +37,8 @@ use Rattle.pb_check.proofs.Callers.{gives_accepted}
 use Rattle.pb_cert.specs.Stated.{SpelledCertificate, lines_of, weight_line, plan_lines, rows_lines}
 use Rattle.pb_cert.specs.Rewritten.{version_anew, saved_anew, text_anew, rewritten_text, respelled_line, lines_anew, lines_read, Rewritten, CanBeRewritten, lines_before, Begins}
 use Rattle.pb_cert.proofs.LineTexts.{lines_are_text}
-use Rattle.pb_cert.proofs.Respelled.{RowFits, rest_lines, rest_respelled, kept, number_short, spaced_long, numbered_short, weight_short}
-
--- ---- lines without a line feed that fit a piece
-
-abbrev pub IsGood : List ℕ → Type 0
-IsGood text = (has_none 10 text ≡ true) × (length text + 1 ≤ longest_line)
-
-abbrev pub AreGood : List (List ℕ) → Type 0
-AreGood texts = AllByRecursion IsGood texts
-
-both_good : (texts others : List (List ℕ)) → AreGood texts → AreGood others → AreGood (texts ++ others)
-both_good [] others are also = also
-both_good (text ∷ texts) others are also = (are.0, both_good texts others are.1 also)
-
-no_line : (text : List ℕ) → ◌≡◌ {A = Option (List ℕ)} None (Some text) → ⊥
-no_line text e = cc
-
-some_line : (a b : List ℕ) → ◌≡◌ {A = Option (List ℕ)} (Some a) (Some b) → a ≡ b
-some_line a b e = cc
-
-good_at : (texts : List (List ℕ)) (at : ℕ) (text : List ℕ) → AreGood texts → slice_get texts at ≡ Some text → IsGood text
-good_at [] at text are found = absurd (no_line text found)
-good_at (first ∷ texts) zero text are found = subst IsGood (some_line first text found) are.0
-good_at (first ∷ texts) (suc at) text are found = good_at texts at text are.1 found
-
-digit_none : (digit : ℕ) → digit < 16 → has_none 10 (hex_digit digit ∷ []) ≡ true
-digit_none digit small = grind (arith, nat_tests)
-
-digits_none : (count n : ℕ) → has_none 10 (hex_digits count n) ≡ true
-digits_none zero n = ap (has_none 10) (no_digits n)
-digits_none (suc count) n =
-    ap (has_none 10) (one_more count n)
-    ∙ none_both 10 (hex_digits count (n / 16)) (hex_digit (n % 16) ∷ []) (digits_none count (n / 16)) (digit_none (n % 16) (mod_below n 16 (lit< tt)))
-
-numbered_good : (word : List ℕ) (n : ℕ) → has_none 10 word ≡ true → length word ≤ 16 → IsNumber n → IsGood (spaced word (decimal n))
-numbered_good word n none few small = (
-  none_both 10 word (32 ∷ decimal n) none (number_none 10 n (omega arith) small),
-  (let long = numbered_short word n few small in omega (arith, long)),
-)
-
-number_good : (n : ℕ) → IsNumber n → IsGood (decimal n)
-number_good n small = (number_none 10 n (omega arith) small, (let long = number_short n small in omega (arith, long)))
-
-weight_good : (weight : Weight) → IsNumber weight.num → IsNumber weight.den → IsGood (weight_line weight)
-weight_good weight num den = (
-  none_both 10 (codes "weight") (32 ∷ spaced (decimal weight.num) (decimal weight.den)) refl
-      (none_both 10 (decimal weight.num) (32 ∷ decimal weight.den) (number_none 10 weight.num (omega arith) num) (number_none 10 weight.den (omega arith) den)),
-  (let long = weight_short weight num den in omega (arith, long)),
-)
-
-version_good : (version : Version) → IsGood (version_line version)
-version_good One = (refl, omega arith)
-version_good Two = (refl, omega arith)
-version_good Three = (refl, omega arith)
-version_good Four = (refl, omega arith)
-
-kind_good : (kind : Kind) → IsGood (kind_line kind)
-kind_good Grid = (refl, omega arith)
-kind_good Tiles = (refl, omega arith)
-kind_good Strips = (refl, omega arith)
-
-width_good : (version : Version) (width : ℕ) → width ≤ most_digits → AreGood (width_text version width)
-width_good One width most = tt
-width_good Two width most = (numbered_good (codes "width") width refl (omega arith) (omega (arith, most)), tt)
-width_good Three width most = (numbered_good (codes "width") width refl (omega arith) (omega (arith, most)), tt)
-width_good Four width most = (numbered_good (codes "width") width refl (omega arith) (omega (arith, most)), tt)
-
-grounding_good : (grounding : Grounding) → IsGood (grounding_line grounding)
-grounding_good groundings.All = (refl, omega arith)
-grounding_good groundings.Reachable = (refl, omega arith)
-
-estimate_good : (choice : Choice) → StatesChoice Four choice → IsGood (estimate_line choice)
-estimate_good Plain states = (refl, omega arith)
-estimate_good (Pattern number) states = numbered_good (codes "estimate pattern") number refl (omega arith) states
-
-choice_good : (choice : Choice) → StatesChoice Three choice → AreGood (choice_text choice)
-choice_good Plain states = tt
-choice_good (Pattern number) states = (numbered_good (codes "pattern") number refl (omega arith) states, tt)
-
-stated_good : (version : Version) (stated : Stated) → StatesChoice version stated.choice → AreGood (stated_text version stated)
-stated_good One stated states = tt
-stated_good Two stated states = tt
-stated_good Three stated states = choice_good stated.choice states
-stated_good Four stated states = (grounding_good stated.grounding, (estimate_good stated.choice states, tt))
-
-actions_good : (actions : List ℕ) → AllByRecursion IsNumber actions → AreGood (map decimal actions)
-actions_good [] all = tt
-actions_good (action ∷ actions) all = (number_good action all.0, actions_good actions all.1)
-
-plan_good : (plan : Option Plan) → PlanFitsIfAny plan → AreGood (plan_lines plan)
-plan_good None fits = ((refl, omega arith), tt)
-plan_good (Some plan) fits = (
-  numbered_good (codes "plan") (length plan.actions) refl (omega arith) fits.count,
-  both_good (map decimal plan.actions) (spaced (codes "cost") (decimal plan.cost) ∷ [])
-      (actions_good plan.actions (recursion_from_All IsNumber plan.actions fits.actions)) (numbered_good (codes "cost") plan.cost refl (omega arith) fits.cost, tt),
-)
-
-abbrev closed_word : Bool → List ℕ
-closed_word is_closed = if is_closed then codes "closed" else codes "cut"
-
-closed_none : (is_closed : Bool) → has_none 10 (closed_word is_closed) ≡ true
-closed_none true = refl
-closed_none false = refl
-
-closed_long : (is_closed : Bool) → length (closed_word is_closed) ≤ 6
-closed_long true = omega arith
-closed_long false = omega arith
-
-row_good : (width : ℕ) (row : Line) → width ≤ most_digits → IsNumber row.g → IsGood (line_text width row)
-row_good width row most small = (
-  none_both 10 (hex_digits width row.state) (32 ∷ spaced (decimal row.g) (closed_word row.is_closed)) (digits_none width row.state)
-      (none_both 10 (decimal row.g) (32 ∷ closed_word row.is_closed) (number_none 10 row.g (omega arith) small) (closed_none row.is_closed)),
-  (
-      let digits = (digits_are_hex width row.state).0 in
-      let all = spaced_long (hex_digits width row.state) (spaced (decimal row.g) (closed_word row.is_closed)) in
-      let rest = spaced_long (decimal row.g) (closed_word row.is_closed) in
-      let number = number_short row.g small in
-      let last = closed_long row.is_closed in
-      omega (arith, digits, all, rest, number, last, most)
-      ),
-)
-
-all_good : (width : ℕ) (rows : List Line) → width ≤ most_digits → AllByRecursion (λ row. (row.state < 16 ^ width) × IsNumber row.g) rows → AreGood (map (line_text width) rows)
-all_good width [] most all = tt
-all_good width (row ∷ rows) most all = (row_good width row most all.0.1, all_good width rows most all.1)
-
-pub lines_good : (spelled : SpelledCertificate) → spelled.spelling.width ≤ most_digits → StatesChoice spelled.spelling.version spelled.spelling.stated.choice → Fits spelled.spelling.width spelled.certificate → AreGood (lines_of spelled)
-unfolding lines_of
-lines_good spelled most states fits =
-    let c : Certificate = spelled.certificate in
-    let s : Spelling = spelled.spelling in
-    let head : AreGood (head_of s) = (version_good s.version, (kind_good s.kind, both_good (width_text s.version s.width) (stated_text s.version s.stated) (width_good s.version s.width most) (stated_good s.version s.stated states))) in
-    let first : AreGood (head_of s ++ weight_line c.weight ∷ []) = both_good (head_of s) (weight_line c.weight ∷ []) head (weight_good c.weight fits.weight.0 fits.weight.1, tt) in
-    let rows : AreGood (rows_lines s.width c) = (
-      numbered_good (codes "rows") (length c.lines) refl (omega arith) fits.count,
-      both_good (map (line_text s.width) c.lines) (codes "end" ∷ [])
-          (all_good s.width c.lines most (recursion_from_All (λ (row : Line). (row.state < 16 ^ s.width) × IsNumber row.g) c.lines fits.lines)) ((refl, omega arith), tt),
-    ) in
-    both_good ((head_of s ++ weight_line c.weight ∷ []) ++ plan_lines c.plan) (rows_lines s.width c) (both_good (head_of s ++ weight_line c.weight ∷ []) (plan_lines c.plan) first (plan_good c.plan fits.plan)) rows
+use Rattle.pb_cert.proofs.GoodLines.{IsGood, AreGood, good_at, some_line, lines_good}
+use Rattle.pb_cert.proofs.Respelled.{RowFits, rest_lines, rest_respelled, kept}
 
 -- ---- a line at a place of a text
 
@@ -282,7 +137,7 @@ module _ (width : ℕ) (text : Text) (version : text.spelling.version ≡ One) (
 
   rest_read : drop 2 (lines_of (spelled_of text)) ≡ rest_lines 64 text.certificate
   unfolding lines_of
-  rest_read = λ i. (((width_text (version i) (digits i) ++ stated_text (version i) text.spelling.stated) ++ weight_line text.certificate.weight ∷ []) ++ plan_lines text.certificate.plan)
+  rest_read = λ i. (((width_text (version i) (digits i) ++ stated_text (version i) (digits i) text.spelling.stated) ++ weight_line text.certificate.weight ∷ []) ++ plan_lines text.certificate.plan)
       ++ rows_lines (digits i) text.certificate
 
   rest_saved : lines_of (in_version_2 width text) ≡ version_line Two ∷ kind_line text.spelling.kind ∷ width_line width ∷ rest_lines width text.certificate
@@ -351,13 +206,14 @@ stays Two later = refl
 stays Three later = refl
 stays Four later = refl
 
--- and states what it stated
-states_anew : (v : Version) (choice : Choice) → StatesChoice v choice → StatesChoice (version_anew v) choice
-states_anew One Plain states = tt
-states_anew One (Pattern number) states = absurd states
-states_anew Two choice states = states
-states_anew Three choice states = states
-states_anew Four choice states = states
+-- and states what it stated, if the states keep their digits. Version 1 states nothing.
+states_anew : (v : Version) (width anew : ℕ) (choice : Choice) → (v ≢ One → width ≡ anew) → StatesChoice v width choice → StatesChoice (version_anew v) anew choice
+states_anew One width anew Plain same states = tt
+states_anew One width anew (Pattern number) same states = absurd states
+states_anew One width anew (Tables tables) same states = absurd states
+states_anew Two width anew choice same states = subst (λ w. StatesChoice Two w choice) (same (λ e. cc)) states
+states_anew Three width anew choice same states = subst (λ w. StatesChoice Three w choice) (same (λ e. cc)) states
+states_anew Four width anew choice same states = subst (λ w. StatesChoice Four w choice) (same (λ e. cc)) states
 
 grounding_anew : (v : Version) (grounding : Grounding) → StatesGrounding v grounding → StatesGrounding (version_anew v) grounding
 grounding_anew One grounding states = states
@@ -409,7 +265,7 @@ module _ (bytes : List ℕ) (from : Version) (width : ℕ) (can : CanBeRewritten
   read_good = lines_good (spelled_of can.text) few_digits can.spelled.known.choice can.spelled.fits
 
   saved_good : AreGood (lines_of (saved_anew width can.text))
-  saved_good = lines_good (saved_anew width can.text) can.most (states_anew can.text.spelling.version can.text.spelling.stated.choice can.spelled.known.choice) (record {
+  saved_good = lines_good (saved_anew width can.text) can.most (states_anew can.text.spelling.version can.text.spelling.width width can.text.spelling.stated.choice (λ later. can.same (λ one. later (can.version ∙ one))) can.spelled.known.choice) (record {
     weight = can.spelled.fits.weight;
     plan = can.spelled.fits.plan;
     count = can.spelled.fits.count;
@@ -734,7 +590,7 @@ module _ (reads : ReadAsSpelled) (fitting : StatesFitTheirWidth) (parts : TaskPa
   spelled_anew = record {
     known = record {
       width = width_anew accepted.spelling.version;
-      choice = states_anew accepted.spelling.version accepted.spelling.stated.choice accepted.spelled.known.choice;
+      choice = states_anew accepted.spelling.version accepted.spelling.width (width_of parts) accepted.spelling.stated.choice (λ later. width_stays accepted.spelling.version later accepted.width) accepted.spelled.known.choice;
       grounding = grounding_anew accepted.spelling.version accepted.spelling.stated.grounding accepted.spelled.known.grounding;
       kind = kind_anew accepted.spelling.version accepted.spelling.kind accepted.spelled.known.kind;
     };

@@ -1,10 +1,8 @@
 -- What a store shows of a search that came to a quiet end: its plan and its certificate. Other crates
 -- cite this module too.
-use Rattle.std.proofs.Common.{◌≡◌, ℕ, ◌^◌, ◌<◌, ◌≤◌, IsTrue, true, leb, Option, None, Some, List, [], ◌∷◌, length, Result, Ok, Err, refl, ap, sym, ◌∙◌, subst, arith}
+use Rattle.std.proofs.Common.{◌≡◌, ℕ, ◌^◌, ◌<◌, ◌≤◌, IsTrue, true, Option, None, Some, List, [], ◌∷◌, length, Result, Ok, Err, refl, ap, sym, ◌∙◌, subst, arith}
 use Rattle.std.specs.List.{AllByRecursion}
-use Rattle.std.proofs.lemmas.Bool.{leb-true, and_parts}
 use Rattle.std.proofs.lemmas.List.Elements.{All-from_recursion}
-use Rattle.pb_packed.specs.Sizes.{most_digits}
 use Rattle.pb_model.specs.declared.row.Estimate.{Estimate}
 use Rattle.pb_model.specs.declared.row.Row.{Row}
 use Rattle.pb_model.specs.Space.{Space, IsProper}
@@ -15,22 +13,18 @@ use Rattle.pb_model.specs.Store.{Store, IsQuiet}
 use Rattle.pb_model.specs.Sound.{IsSound}
 use Rattle.pb_model.specs.Trace.{TracesBack}
 use Rattle.pb_model.specs.Certificate.{Line, Certificate, AreLinesOf, IsValid, IsPlanIfAny, IsBackedBy}
-use Rattle.pb_task.specs.declared.kind.Kind.TheVariants as kinds
 use Rattle.pb_task.specs.declared.grounding.Grounding.{Grounding}
 use Rattle.pb_task.specs.declared.grounding.Grounding.TheVariants.{All, Reachable}
 use Rattle.pb_task.specs.declared.parts.TaskParts.{TaskParts}
 use Rattle.pb_task.specs.declared.parts.TaskParts.TheVariants.{Grid, Tiles, Strips}
 use Rattle.pb_task.specs.Parts.{space_of, IsTask, greatest_cost}
-use Rattle.pb_task.specs.Kinds.{kind_of}
 use Rattle.pb_task.specs.Groundings.{grounding_of}
 use Rattle.pb_task.specs.Widths.{width_of}
 use Rattle.pb_task.proofs.Callers.{states_fit_their_width, tasks_are_proper}
-use Rattle.pb_estimate.specs.declared.choice.Choice.{Choice}
-use Rattle.pb_estimate.specs.declared.choice.Choice.TheVariants.{Plain, Pattern}
+use Rattle.pb_estimate.specs.Choices.{Choice, Plain, Pattern, Tables}
 use Rattle.pb_estimate.specs.declared.spelling.Spelling.{Spelling}
 use Rattle.pb_estimate.specs.Estimates.{estimate_by, suits}
-use Rattle.pb_estimate.specs.Spelling.{IsWidthOf, CanBeStated, StatesChoice, StatesGrounding}
-use Rattle.pb_estimate.specs.Spelling.{IsVersionFor, IsSpelling, version_of, spelling_of, spelled_text}
+use Rattle.pb_estimate.specs.Spelling.{IsSpelling, version_of, spelling_of, spelled_text}
 use Rattle.pb_lists.specs.Store.{store_with, guide_to, IsPlaced, IsSoundAt, IsQuietEnd}
 use Rattle.pb_check.specs.declared.fault.CertificateFault.{CertificateFault}
 use Rattle.pb_check.specs.declared.fault.Verdict.{Verdict}
@@ -69,76 +63,23 @@ module _ (space : Space) (most : ℕ) (proper : IsProper space most) where
       let first = proper.positive from action walk.0 walk.1 walk.3 in
       omega (arith, rest, first, walk.5)
 
--- a choice that suits can be stated, and is stated in the version in which it is written
-can_be_stated : (parts : TaskParts) (choice : Choice) → suits parts choice ≡ true
-    → CanBeStated choice
-can_be_stated parts Plain fine = tt
-can_be_stated parts (Pattern number) fine =
-    let both = and_parts (leb 1 number) (leb number 12) fine in
-    let most = leb-true number 12 both.1 in
-    omega (arith, most)
-
-states_choice : (grounding : Grounding) (choice : Choice) → CanBeStated choice
-    → StatesChoice (version_of grounding choice) choice
-states_choice All Plain can = tt
-states_choice All (Pattern number) can = can
-states_choice Reachable choice can = can
-
-states_grounding : (grounding : Grounding) (choice : Choice)
-    → StatesGrounding (version_of grounding choice) grounding
-states_grounding All Plain = refl
-states_grounding All (Pattern number) = refl
-states_grounding Reachable choice = tt
-
--- a version before 4 is for tasks of each kind
-for_strips : (grounding : Grounding) (choice : Choice)
-    → IsVersionFor (version_of grounding choice) kinds.Strips
-for_strips All Plain = tt
-for_strips All (Pattern number) = tt
-for_strips Reachable choice = refl
-
-is_for : (parts : TaskParts) (choice : Choice)
-    → IsVersionFor (version_of (grounding_of parts) choice) (kind_of parts)
-is_for (Grid grid) Plain = tt
-is_for (Grid grid) (Pattern number) = tt
-is_for (Tiles tiles) Plain = tt
-is_for (Tiles tiles) (Pattern number) = tt
-is_for (Strips strips) choice = for_strips strips.grounding choice
-
--- each version that is written says how many digits a state has
-known_width : (grounding : Grounding) (choice : Choice) (width : ℕ)
-    → (1 ≤ width) × (width ≤ most_digits) → IsWidthOf (version_of grounding choice) width
-known_width All Plain width within = within
-known_width All (Pattern number) width within = within
-known_width Reachable choice width within = within
-
+-- a certificate that is written says how many digits a state of its task has
 same_width : (parts : TaskParts) (grounding : Grounding) (choice : Choice)
     → HasWidthOf parts (version_of grounding choice) (width_of parts)
 same_width parts All Plain = refl
 same_width parts All (Pattern number) = refl
+same_width parts All (Tables tables) = refl
 same_width parts Reachable choice = refl
-
--- a certificate of a task is written in a spelling that there is
-is_spelling : (parts : TaskParts) (choice : Choice) → IsTask parts → suits parts choice ≡ true
-    → IsSpelling (spelling_of parts choice)
-is_spelling parts choice lawful fine =
-    let widths = states_fit_their_width parts lawful in
-    record {
-      width = known_width (grounding_of parts) choice (width_of parts) (widths.0, widths.1);
-      choice = states_choice (grounding_of parts) choice (can_be_stated parts choice fine);
-      grounding = states_grounding (grounding_of parts) choice;
-      kind = is_for parts choice;
-    }
 
 -- the text of a valid certificate whose numbers can be stated is accepted, if the choice that it
 -- states suits
 text_is_accepted : (parts : TaskParts) (choice : Choice) (certificate : Certificate)
-    → IsTask parts → suits parts choice ≡ true
+    → IsSpelling (spelling_of parts choice) → suits parts choice ≡ true
     → IsValid (space_of parts) (estimate_by parts choice) certificate
     → Fits (width_of parts) certificate
     → checked parts (spelled_text (spelling_of parts choice) certificate)
     ≡ Ok (verdict_of certificate.weight certificate.plan)
-text_is_accepted parts choice certificate lawful stated valid fits =
+text_is_accepted parts choice certificate known stated valid fits =
     go (checked parts bytes) refl
   where
     bytes : List ℕ
@@ -149,7 +90,7 @@ text_is_accepted parts choice certificate lawful stated valid fits =
       spelling = spelling_of parts choice;
       certificate = certificate;
       spelled = record {
-        known = is_spelling parts choice lawful stated;
+        known = known;
         text = refl;
         fits = fits;
       };
@@ -318,6 +259,7 @@ module _ (parts : TaskParts) (guide : Guide) (store : Store)
   -- costs no more than the incumbent and can be stated, whether the rows lead to it or not
   pub states_certificate : IsTask parts → (choice : Choice)
       → guide.estimate ≡ estimate_by parts choice → suits parts choice ≡ true
+      → IsSpelling (spelling_of parts choice)
       → (weight : Weight) → store.weight ≡ weight → weight.num < 2 ^ 63 → weight.den < 2 ^ 63
       → (c : SpelledCertificate) (plan : Option Plan) (text : List ℕ) → text ≡ text_of c
       → c.spelling ≡ spelling_of parts choice
@@ -325,8 +267,8 @@ module _ (parts : TaskParts) (guide : Guide) (store : Store)
       → length c.certificate.lines < 2 ^ 63 → HasLines c → IsValidFor plan c
       → IsPlanIfAny (space_of parts) plan → IsBackedBy store.incumbent plan → PlanFitsIfAny plan
       → IsCertificateOf parts choice weight guide store plan text
-  states_certificate lawful choice estimates stated weight weighs num den c plan text said spelling w
-      p count lines valid a_plan backed plan_fits =
+  states_certificate lawful choice estimates stated known weight weighs num den c plan text said
+      spelling w p count lines valid a_plan backed plan_fits =
       let made : Certificate = certificate_of weight plan c.certificate.lines in
       let same : c.certificate ≡ made = same_certificate weight c plan (w ∙ weighs) p in
       let estimate : ℕ → Estimate = estimate_by parts choice in
@@ -344,13 +286,13 @@ module _ (parts : TaskParts) (guide : Guide) (store : Store)
         valid = here;
         text_is = is;
         accepted = ap (λ (bytes : List ℕ). checked parts bytes) is
-            ∙ text_is_accepted parts choice made lawful stated here
+            ∙ text_is_accepted parts choice made known stated here
             (fits lawful estimate weight num den c plan here count lines plan_fits);
       }
 
   -- the same of a plan that the rows lead to
   pub is_certificate : IsTask parts → (choice : Choice) → guide.estimate ≡ estimate_by parts choice
-      → suits parts choice ≡ true
+      → suits parts choice ≡ true → IsSpelling (spelling_of parts choice)
       → (weight : Weight) → store.weight ≡ weight → weight.num < 2 ^ 63 → weight.den < 2 ^ 63
       → (c : SpelledCertificate) (plan : Option Plan) (text : List ℕ) → text ≡ text_of c
       → c.spelling ≡ spelling_of parts choice
@@ -358,7 +300,7 @@ module _ (parts : TaskParts) (guide : Guide) (store : Store)
       → length c.certificate.lines < 2 ^ 63 → HasLines c → IsValidFor plan c
       → IsPlanOf parts guide store plan
       → IsCertificateOf parts choice weight guide store plan text
-  is_certificate lawful choice estimates stated weight weighs num den c plan text said spelling w p
-      count lines valid best =
-      states_certificate lawful choice estimates stated weight weighs num den c plan text said
+  is_certificate lawful choice estimates stated known weight weighs num den c plan text said spelling
+      w p count lines valid best =
+      states_certificate lawful choice estimates stated known weight weighs num den c plan text said
       spelling w p count lines valid best.is_plan best.backed best.fits

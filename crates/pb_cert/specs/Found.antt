@@ -9,7 +9,7 @@ use Rattle.pb_model.specs.Plan.{Plan}
 use Rattle.pb_model.specs.Certificate.{Line, Certificate, AreLinesOf, IsBackedBy, IsPlanIfAny, IsValid}
 use Rattle.pb_task.specs.declared.parts.TaskParts.{TaskParts}
 use Rattle.pb_task.specs.Parts.{space_of}
-use Rattle.pb_estimate.specs.declared.choice.Choice.{Choice}
+use Rattle.pb_estimate.specs.Choices.{Choice}
 use Rattle.pb_estimate.specs.Estimates.{estimate_by}
 use Rattle.pb_estimate.specs.Spelling.{spelling_of, spelled_text}
 use Rattle.pb_check.specs.Judging.{checked, verdict_of}

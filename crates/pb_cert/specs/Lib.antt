@@ -17,6 +17,7 @@ pub use Rattle.pb_task.specs.Parts
 pub mod Traced
 pub mod Found
 pub mod Listed
+pub mod Starts
 pub mod Stated
 pub mod Rewritten
 pub mod Laws

@@ -6,12 +6,14 @@ ghost use Rattle.pb_model.specs.Sound.{IsSound};
 ghost use Rattle.pb_model.specs.Certificate.{AreLinesOf, IsPlanIfAny, IsBackedBy, IsValid};
 ghost use Rattle.pb_estimate.specs.Spelling.{IsSpelling};
 ghost use Rattle.pb_lists.specs.Store.{IsPlaced, store_with};
+ghost use Rattle.pb_cert.specs.Starts.{HasStarts};
 
 use crate::Plan;
 use crate::rows::{Place, parts_of, places_for};
-use pb_estimate::Spelling;
+use pb_estimate::{Choice, ChoiceCase, Spelling};
 use pb_lists::{Bundle, Store};
 use pb_packed::Packed;
+use pb_table_lines::LineStarts;
 use std::alloc::{AllocError, Global};
 use std::marker::Model;
 
@@ -36,6 +38,8 @@ impl Model for Line {
 #[derive(Drop)]
 pub struct Certificate<'a> {
     pub(crate) spelling: Spelling,
+    // Where the lines of the tables that it states begin, if it states tables.
+    pub(crate) starts: Option<LineStarts>,
     pub(crate) num: u64,
     pub(crate) den: u64,
     pub(crate) plan: Option<Plan>,
@@ -48,6 +52,7 @@ impl<'a> Model for Certificate<'a> {
     ghost use Rattle.pb_estimate.specs.Spelling.{IsSpelling};
     ghost use Rattle.pb_cert.specs.Stated.{SpelledCertificate};
     ghost use Rattle.pb_cert.specs.Listed.{line_at};
+    ghost use Rattle.pb_cert.specs.Starts.{HasStarts};
 
     ghost Value = { SpelledCertificate };
 
@@ -60,7 +65,18 @@ impl<'a> Model for Certificate<'a> {
       };
     } };
 
-    ghost invariant = { λ c. IsSpelling c.spelling };
+    ghost invariant = { λ c. IsSpelling c.spelling × HasStarts c.spelling.stated.choice c.starts };
+}
+
+// Where the lines of the tables of a choice begin, if it has tables. An error is out of memory.
+fn starts_of(alloc: Global, choice: &Choice) -> Result<Option<LineStarts>, AllocError>
+    ensures { IfOk result (λ starts. HasStarts choice.now starts) }
+{
+    match choice.case() {
+        ChoiceCase::Plain => Ok(None),
+        ChoiceCase::Pattern(_) => Ok(None),
+        ChoiceCase::Tables(tables) => Ok(Some(LineStarts::of(alloc, tables)?)),
+    }
 }
 
 impl<'a> Certificate<'a> {
@@ -92,11 +108,13 @@ impl<'a> Certificate<'a> {
             → IsPlanIfAny space plan → IsBackedBy incumbent plan
             → IsValid space guide.estimate c.certificate) }
     {
+        let starts = starts_of(alloc, &spelling.stated.choice)?;
         let (num, den) = store.weight();
         let parts = parts_of(alloc, store)?;
         let places = places_for(alloc, &parts)?;
         Ok(Certificate {
             spelling,
+            starts,
             num,
             den,
             plan,

@@ -2,17 +2,22 @@ ghost use Rattle.std.specs.Prelude.{◌≡◌, ◌+◌, ◌<◌, ◌≤◌, ◌^
 ghost use Rattle.std.specs.Fmt.{decimal};
 ghost use Rattle.pb_packed.specs.Sizes.{most_digits};
 ghost use Rattle.pb_model.specs.Texts.{line, spaced, line_text};
+ghost use Rattle.pb_table_lines.specs.Lines.{tables_lines};
 ghost use Rattle.pb_estimate.specs.declared.spelling.Version.TheVariants.{Four};
-ghost use Rattle.pb_estimate.specs.Spelling.{version_line, kind_line, width_text, head_of, head_lines};
-ghost use Rattle.pb_estimate.specs.Spelling.{choice_text, grounding_line, estimate_line, stated_text};
+ghost use Rattle.pb_estimate.specs.Choices.{Tables as TablesOf};
+ghost use Rattle.pb_estimate.specs.Spelling.{IsSpelling, version_line, kind_line, width_text, head_of, head_lines};
+ghost use Rattle.pb_estimate.specs.Spelling.{choice_text, grounding_line, estimate_text, stated_text};
 ghost use Rattle.pb_print.specs.Saved.{longest_line, PutsLine};
 ghost use Rattle.pb_cert.specs.Stated.{text_of, lines_of, first_lines, plan_lines, rows_lines, weight_line};
+ghost use Rattle.pb_cert.specs.Starts.{HasStarts};
 
 use crate::Plan;
 use crate::certificate::{Certificate, Line};
 use crate::rows::line_at;
-use pb_estimate::{Choice, Spelling, Stated, Version};
+use pb_estimate::{Choice, ChoiceCase, Spelling, Version};
 use pb_print::{NumberedLines, Piece};
+use pb_table_lines::{LineStarts, put_tables_line};
+use pb_tables::Tables;
 use pb_task::{Grounding, Kind};
 
 // Puts a line of a word and a number at the piece's end.
@@ -114,15 +119,16 @@ fn put_width(spelling: &Spelling, _at: u128, out: &mut Piece)
 }
 
 // Puts the line that says the choice of an estimate in version 3 at the piece's end, if there is
-// one. A pattern is said in one line, and the plain choice in none.
+// one. A pattern is said in one line, and the plain choice in none. Version 3 has no tables.
 fn put_choice(choice: &Choice, _at: u128, out: &mut Piece)
     requires room { length out.old + longest_line ≤ 4096 }
     ensures { _at < length (choice_text choice.now)
         → PutsLine out.old out.new (choice_text choice.now) _at }
 {
-    match choice {
-        Choice::Plain => {}
-        Choice::Pattern(number) => put_numbered(b"pattern", *number, out),
+    match choice.case() {
+        ChoiceCase::Plain => {}
+        ChoiceCase::Pattern(number) => put_numbered(b"pattern", number, out),
+        ChoiceCase::Tables(_) => {}
     }
 }
 
@@ -137,47 +143,79 @@ fn put_grounding(grounding: Grounding, out: &mut Piece)
     out.push(b"\n");
 }
 
-// Puts the line that says the choice of an estimate in version 4 at the piece's end.
-fn put_estimate(choice: &Choice, out: &mut Piece)
+// Puts a line of tables at the piece's end.
+fn put_tables(tables: &Tables, digits: u32, starts: &Option<LineStarts>, at: u128, out: &mut Piece)
+    requires some { 1 ≤ digits }
+    requires most { digits ≤ most_digits }
+    requires starts { HasStarts (TablesOf tables.now) starts.now }
+    requires within { at < length (tables_lines digits tables.now) }
     requires room { length out.old + longest_line ≤ 4096 }
-    ensures line { out.new ≡ out.old ++ line (estimate_line choice.now) }
-    ensures short { length out.new ≤ length out.old + longest_line }
+    ensures { PutsLine out.old out.new (tables_lines digits tables.now) at }
 {
-    match choice {
-        Choice::Plain => out.push(b"estimate plain\n"),
-        Choice::Pattern(number) => put_numbered(b"estimate pattern", *number, out),
+    let Some(starts) = starts else { unreachable!() };
+    put_tables_line(tables, digits, starts, at, out);
+}
+
+// Puts a line that says the choice of an estimate in version 4 at the piece's end.
+fn put_estimate(
+    choice: &Choice,
+    digits: u32,
+    starts: &Option<LineStarts>,
+    at: u128,
+    out: &mut Piece,
+)
+    requires some { 1 ≤ digits }
+    requires most { digits ≤ most_digits }
+    requires starts { HasStarts choice.now starts.now }
+    requires within { at < length (estimate_text digits choice.now) }
+    requires room { length out.old + longest_line ≤ 4096 }
+    ensures { PutsLine out.old out.new (estimate_text digits choice.now) at }
+{
+    match choice.case() {
+        ChoiceCase::Plain => out.push(b"estimate plain\n"),
+        ChoiceCase::Pattern(number) => put_numbered(b"estimate pattern", number, out),
+        ChoiceCase::Tables(tables) => put_tables(tables, digits, starts, at, out),
     }
 }
 
-// Puts a line of what version 4 states besides at the piece's end, if it is one of the two.
-fn put_stated_4(stated: &Stated, at: u128, out: &mut Piece)
+// Puts a line of what version 4 states besides at the piece's end: that of the grounding, or one of
+// the choice of an estimate.
+fn put_stated_4(spelling: &Spelling, starts: &Option<LineStarts>, at: u128, out: &mut Piece)
+    requires spelling { IsSpelling spelling.now }
+    requires starts { HasStarts spelling.now.stated.choice starts.now }
+    requires within { at < length (stated_text Four spelling.now.width spelling.now.stated) }
     requires room { length out.old + longest_line ≤ 4096 }
-    ensures { at < length (stated_text Four stated.now)
-        → PutsLine out.old out.new (stated_text Four stated.now) at }
+    ensures { PutsLine out.old out.new
+        (stated_text Four spelling.now.width spelling.now.stated) at }
 {
     if at == 0 {
-        put_grounding(stated.grounding, out);
+        put_grounding(spelling.stated.grounding, out);
     } else {
-        put_estimate(&stated.choice, out);
+        put_estimate(&spelling.stated.choice, spelling.width, starts, at - 1, out);
     }
 }
 
-// Puts a line of what this version states besides at the piece's end, if it is one of them. Versions
-// 1 and 2 have none.
-fn put_stated(version: Version, stated: &Stated, at: u128, out: &mut Piece)
+// Puts a line of what is stated besides at the piece's end. Versions 1 and 2 have no such line.
+fn put_stated(spelling: &Spelling, starts: &Option<LineStarts>, at: u128, out: &mut Piece)
+    requires spelling { IsSpelling spelling.now }
+    requires starts { HasStarts spelling.now.stated.choice starts.now }
+    requires within { at < length (stated_text spelling.now.version spelling.now.width
+        spelling.now.stated) }
     requires room { length out.old + longest_line ≤ 4096 }
-    ensures { at < length (stated_text version stated.now)
-        → PutsLine out.old out.new (stated_text version stated.now) at }
+    ensures { PutsLine out.old out.new
+        (stated_text spelling.now.version spelling.now.width spelling.now.stated) at }
 {
-    match version {
+    match spelling.version {
         Version::One | Version::Two => {}
-        Version::Three => put_choice(&stated.choice, at, out),
-        Version::Four => put_stated_4(stated, at, out),
+        Version::Three => put_choice(&spelling.stated.choice, at, out),
+        Version::Four => put_stated_4(spelling, starts, at, out),
     }
 }
 
 // Puts a line that comes before the weight at the piece's end.
-fn put_head(spelling: &Spelling, at: u128, out: &mut Piece)
+fn put_head(spelling: &Spelling, starts: &Option<LineStarts>, at: u128, out: &mut Piece)
+    requires spelling { IsSpelling spelling.now }
+    requires starts { HasStarts spelling.now.stated.choice starts.now }
     requires within { at < head_lines spelling.now }
     requires room { length out.old + longest_line ≤ 4096 }
     ensures { PutsLine out.old out.new (head_of spelling.now) at }
@@ -190,7 +228,7 @@ fn put_head(spelling: &Spelling, at: u128, out: &mut Piece)
     } else if at < 2 + widths {
         put_width(spelling, at - 2, out);
     } else {
-        put_stated(spelling.version, &spelling.stated, at - 2 - widths, out);
+        put_stated(spelling, starts, at - 2 - widths, out);
     }
 }
 
@@ -233,9 +271,9 @@ impl Certificate<'_> {
     // How many lines come before the plan.
     fn first_count(&self) -> u128
         ensures count { result ≡ length (first_lines self.now) }
-        ensures most { result ≤ 32 }
+        ensures most { result ≤ 2 ^ 79 }
     {
-        u128::from(self.spelling.head_lines()) + 1
+        self.spelling.head_lines() + 1
     }
 
     fn put_first(&self, at: u128, out: &mut Piece)
@@ -243,8 +281,8 @@ impl Certificate<'_> {
         requires room { length out.old + longest_line ≤ 4096 }
         ensures { PutsLine out.old out.new (first_lines self.now) at }
     {
-        if at < u128::from(self.spelling.head_lines()) {
-            put_head(&self.spelling, at, out);
+        if at < self.spelling.head_lines() {
+            put_head(&self.spelling, &self.starts, at, out);
         } else {
             self.put_weight(out);
         }

@@ -10,8 +10,7 @@ use Rattle.pb_task.specs.declared.parts.GridParts.{GridParts}
 use Rattle.pb_task.specs.declared.parts.StripsParts.{StripsParts}
 use Rattle.pb_task.specs.declared.kind.Kind.TheVariants.{Grid, Strips}
 use Rattle.pb_task.specs.declared.grounding.Grounding.TheVariants.{All, Reachable}
-use Rattle.pb_estimate.specs.declared.choice.Choice.{Choice}
-use Rattle.pb_estimate.specs.declared.choice.Choice.TheVariants.{Plain, Pattern}
+use Rattle.pb_estimate.specs.Choices.{Choice, Plain, Pattern}
 use Rattle.pb_estimate.specs.declared.spelling.Stated.{Stated}
 use Rattle.pb_estimate.specs.declared.spelling.Version.TheVariants.{One, Two, Three, Four}
 use Rattle.pb_check.specs.declared.fault.CertificateFault.{CertificateFault}
@@ -114,9 +113,9 @@ third_head : head_at (head_3 ++ codes "weight 1 1" ++ 10 ∷ [])
 unfolding head_at version_at version_in kind_at kind_in width_at width_line_at width_in stated_at number_at place_of behind number_after
 third_head = refl
 
-stated_pattern : stated_choice head_3 ≡ Pattern 3
+stated_pattern : (parts : TaskParts) → stated_choice parts head_3 ≡ Pattern 3
 unfolding head_at version_at version_in kind_at kind_in width_at width_line_at width_in stated_at number_at place_of behind number_after
-stated_pattern = refl
+stated_pattern parts = refl
 
 -- the line of the weight is line 5
 no_weight : (parts : TaskParts) → checked parts head_3 ≡ Err (faults.Syntax 5)
@@ -186,9 +185,9 @@ plain_head : head_at (to_width_4 ++ codes "grounding all" ++ 10 ∷ codes "estim
 unfolding head_at version_at version_in kind_at kind_in width_at width_line_at width_in stated_at grounding_at grounding_in estimate_at estimate_in place_of behind number_after
 plain_head = refl
 
-stated_estimate : stated_choice head_4 ≡ Pattern 3
+stated_estimate : (parts : TaskParts) → stated_choice parts head_4 ≡ Pattern 3
 unfolding head_at version_at version_in kind_at kind_in width_at width_line_at width_in stated_at grounding_at grounding_in estimate_at estimate_in place_of behind number_after
-stated_estimate = refl
+stated_estimate parts = refl
 
 -- the line of the weight is line 6
 no_weight_in_version_4 : (parts : TaskParts) → checked parts head_4 ≡ Err (faults.Syntax 6)
@@ -237,8 +236,8 @@ great_pattern : (parts : TaskParts)
 great_pattern parts = refl
 
 -- an estimator is made by no such number
-unsuited : suiting (Pattern 13) ≡ Plain
-unsuited = refl
+unsuited : (parts : TaskParts) → suiting parts (Pattern 13) ≡ Plain
+unsuited parts = refl
 
 -- ---- the digits of a state
 

@@ -1,5 +1,6 @@
 -- A fault is reported only in its case.
 use Rattle.std.proofs.Common.{◌≡◌, ◌≢◌, ◌⊎◌, ◌&&◌, inl, inr, ℕ, zero, suc, ◌+◌, ◌<◌, ◌≤◌, Bool, true, false, cond, eqb, ltb, leb, Option, None, Some, List, [], ◌∷◌, ◌++◌, length, All, Contains, Result, Ok, Err, refl, sym, ap, ◌∙◌, subst, arith, IsTrue, IsFalse}
+use Rattle.std.specs.Prelude.{option_map}
 use Rattle.std.proofs.lemmas.Option.{same_Some}
 use Rattle.std.proofs.lemmas.Bool.{and_from, le-leb}
 use Rattle.std.proofs.lemmas.Bool.Decides.{nat_tests}
@@ -9,28 +10,37 @@ use Rattle.pb_model.specs.Space.{Space, Steps, IsProper}
 use Rattle.pb_model.specs.Weight.{Weight}
 use Rattle.pb_model.specs.Plan.{Plan, Walk}
 use Rattle.pb_model.specs.Certificate.{Line, Certificate, HasLineWithin, cost_of}
+use Rattle.pb_task.specs.declared.kind.Kind.{Kind}
+use Rattle.pb_task.specs.declared.kind.Kind.TheVariants.{Grid, Tiles, Strips}
 use Rattle.pb_task.specs.declared.parts.TaskParts.{TaskParts}
+use Rattle.pb_task.specs.declared.parts.TaskParts.TheVariants as tasks
+use Rattle.pb_task.specs.declared.parts.StripsParts.{StripsParts}
 use Rattle.pb_task.specs.Parts.{space_of, IsTask, greatest_cost}
 use Rattle.pb_task.specs.Kinds.{kind_of}
 use Rattle.pb_task.specs.Groundings.{grounding_of}
 use Rattle.pb_task.specs.Widths.{width_of}
 use Rattle.pb_task.proofs.Callers.{tasks_are_proper}
-use Rattle.pb_estimate.specs.declared.choice.Choice.{Choice}
-use Rattle.pb_estimate.specs.declared.choice.Choice.TheVariants.{Plain, Pattern}
+use Rattle.pb_tables.specs.declared.fault.TablesFault.{TablesFault}
+use Rattle.pb_tables.specs.declared.fault.TablesFault.TheVariants as tables_faults
+use Rattle.pb_tables.specs.Tables.{TablesValue}
+use Rattle.pb_tables.specs.Suits.{tables_fault}
+use Rattle.pb_table_lines.specs.Lines.{line_number}
+use Rattle.pb_estimate.specs.Choices.{Choice, Plain, Pattern, Tables}
 use Rattle.pb_estimate.specs.declared.spelling.Spelling.{Spelling}
 use Rattle.pb_estimate.specs.declared.spelling.Version.{Version}
 use Rattle.pb_estimate.specs.declared.spelling.Version.TheVariants.{One, Two, Three, Four}
+use Rattle.pb_estimate.specs.Spelling.{IsSpelling, StatesChoice, IsVersionFor}
 use Rattle.pb_estimate.specs.Estimates.{estimate_by, suits}
 use Rattle.pb_check.specs.declared.fault.CertificateFault.{CertificateFault}
 use Rattle.pb_check.specs.declared.fault.CertificateFault.TheVariants as faults
 use Rattle.pb_check.specs.declared.fault.Verdict.{Verdict}
 use Rattle.pb_check.specs.Faults.{◌>>=◌}
 use Rattle.pb_check.specs.Reading.{Text, first_line, text_of}
-use Rattle.pb_check.specs.Spelling.{IsSpelled, HasWidthOf}
-use Rattle.pb_check.specs.Judging.{passes, or_then, unless, same_kind, width_fault, same_grounding, grounding_fault, stated_fault, is_weight, after_step, walk, plan_fault, plan_fault_if_any, AreAbove, order_fault, rows_order_fault, first_fault_by, state_fault, g_of, is_zero, target_fault, step_fault, steps_fault, may_be_cut, row_fault, verdict_of, judged, checked}
+use Rattle.pb_check.specs.Spelling.{IsSpelled}
+use Rattle.pb_check.specs.Judging.{passes, or_then, unless, same_kind, width_fault, same_grounding, grounding_fault, table_fault, tables_fault_for, choice_fault, stated_fault, is_weight, after_step, walk, plan_fault, plan_fault_if_any, AreAbove, order_fault, rows_order_fault, first_fault_by, state_fault, g_of, is_zero, target_fault, step_fault, steps_fault, may_be_cut, row_fault, verdict_of, judged, checked}
 use Rattle.pb_check.specs.Cases.{IsSaid, HasFormOf, HasGroundingOf, IsForTask, HasWeight, HasPlan, HasOrder, HasStates, HasStart, IsStepFault, EndsElsewhere, IsCostFault, HasFault, IsOutOfOrder, IsNoState, MayBeCutRow, IsSoundRow, IsFirstUnsound, IsSuccessorFault, HasNoRow, HasRowAbove, IsCaseOf, RefusalsHaveTheirCase}
 use Rattle.pb_check.proofs.Finding.{order_rises}
-use Rattle.pb_check.proofs.Validity.{holds, kinds_same, width_suits, groundings_same, weighs, walks, planned_if_any, ascends, each, has_row, starts, on_target, step_passes, closed_row, cut_row}
+use Rattle.pb_check.proofs.Validity.{holds, kinds_same, width_suits, groundings_same, choice_suits, weighs, walks, planned_if_any, ascends, each, has_row, starts, on_target, step_passes, closed_row, cut_row}
 use Rattle.pb_check.proofs.Completeness.{kind_same, grounding_met, same_number, weight_ok, rises, found, zero_ok, may_ok}
 use Rattle.pb_check.proofs.Written.{read_as_spelled}
 use Rattle.pb_check.proofs.FirstUnspelled.{syntax_case}
@@ -293,17 +303,32 @@ three_not_one e = cc
 four_not_one : ◌≡◌ {A = Version} Four One → ⊥
 four_not_one e = cc
 
--- a choice that doesn't suit a task is a pattern whose number is not from 1 to 12
-unsuited : (parts : TaskParts) (choice : Choice) → suits parts choice ≡ false
-    → (number : ℕ) × (choice ≡ Pattern number) × ((1 ≤ number) × (number ≤ 12) → ⊥)
-unsuited parts Plain unfit = absurd (never true refl unfit)
-unsuited parts (Pattern number) unfit = (
-  number,
-  refl,
-  λ both.
-      never (leb 1 number && leb number 12)
-      (and_from (leb 1 number) (leb number 12) (le-leb _ _ both.0) (le-leb _ _ both.1)) unfit,
-)
+-- the number of a pattern that suits no task is not from 1 to 12
+outside : (number : ℕ) → (leb 1 number && leb number 12) ≡ false
+    → (1 ≤ number) × (number ≤ 12) → ⊥
+outside number unfit both =
+    never (leb 1 number && leb number 12)
+    (and_from (leb 1 number) (leb number 12) (le-leb _ _ both.0) (le-leb _ _ both.1)) unfit
+
+-- tables are stated for STRIPS alone
+for_strips : (spelling : Spelling) (tables : TablesValue) → IsSpelling spelling
+    → spelling.stated.choice ≡ Tables tables → spelling.kind ≡ Strips
+for_strips spelling tables known is =
+    go spelling.version
+    (subst (StatesChoice spelling.version spelling.width) is known.choice) known.kind
+  where
+    go : (version : Version) → StatesChoice version spelling.width (Tables tables)
+        → IsVersionFor version spelling.kind → spelling.kind ≡ Strips
+    go One states of = absurd states
+    go Two states of = absurd states
+    go Three states of = absurd states
+    go Four states of = of
+
+grid_not_strips : ◌≡◌ {A = Kind} Grid Strips → ⊥
+grid_not_strips e = cc
+
+tiles_not_strips : ◌≡◌ {A = Kind} Tiles Strips → ⊥
+tiles_not_strips e = cc
 
 -- ---- all together
 
@@ -736,17 +761,57 @@ module _ (parts : TaskParts) (lawful : IsTask parts) (bytes : List ℕ) (text : 
       go (inr (none, e)) =
           from_weight (has, weighs weight (holds (is_weight weight) faults.Weight none)) e
 
-  -- the number of a pattern is stated, and is not from 1 to 12
-  pattern_case : HasGroundingOf parts text.spelling
-      → stated_fault parts text.spelling.stated ≡ Some fault → Case fault
-  pattern_case has e =
-      let two = unmet (suits parts text.spelling.stated.choice) faults.Pattern fault e in
+  -- tables are stated that don't suit the task
+  tables_case : HasGroundingOf parts text.spelling → (tables : TablesValue)
+      → text.spelling.stated.choice ≡ Tables tables → tables_fault_for parts tables ≡ Some fault
+      → Case fault
+  tables_case has tables is e = go parts refl e
+    where
+      strips_is : (task : TaskParts) → parts ≡ task → kind_of task ≡ Strips
+      strips_is task task_is =
+          ap kind_of (sym task_is) ∙ sym has.0.0 ∙ for_strips text.spelling tables spelled.known is
+
+      found : (strips : StripsParts) → parts ≡ tasks.Strips strips → (first : Option TablesFault)
+          → tables_fault strips tables ≡ first
+          → option_map (table_fault tables) first ≡ Some fault → Case fault
+      found strips task_is None first_is e = absurd (none_some None fault refl e)
+      found strips task_is (Some (tables_faults.Line list line)) first_is e =
+          subst Case (same_Some (faults.Table (4 + line_number tables list line)) fault e) (
+            text.spelling,
+            text.certificate,
+            spelled,
+            (has, (tables, list, line, refl, (strips, task_is, is, first_is))),
+          )
+      found strips task_is (Some (tables_faults.Unpaid sum action)) first_is e =
+          subst Case (same_Some (faults.Unpaid sum action) fault e) (
+            text.spelling,
+            text.certificate,
+            spelled,
+            (has, tables, (strips, task_is, is, first_is)),
+          )
+
+      go : (task : TaskParts) → parts ≡ task → tables_fault_for task tables ≡ Some fault
+          → Case fault
+      go (tasks.Grid grid) task_is e =
+          absurd (grid_not_strips (strips_is (tasks.Grid grid) task_is))
+      go (tasks.Tiles tiles) task_is e =
+          absurd (tiles_not_strips (strips_is (tasks.Tiles tiles) task_is))
+      go (tasks.Strips strips) task_is e =
+          found strips task_is (tables_fault strips tables) refl e
+
+  -- the choice of an estimate that is stated doesn't suit the task
+  choice_case : HasGroundingOf parts text.spelling → (choice : Choice)
+      → text.spelling.stated.choice ≡ choice → choice_fault parts choice ≡ Some fault → Case fault
+  choice_case has Plain is e = absurd (none_some None fault refl e)
+  choice_case has (Pattern number) is e =
+      let two = unmet (suits parts (Pattern number)) faults.Pattern fault e in
       subst Case two.1 (
         text.spelling,
         text.certificate,
         spelled,
-        (has, unsuited parts text.spelling.stated.choice two.0),
+        (has, (number, is, outside number two.0)),
       )
+  choice_case has (Tables tables) is e = tables_case has tables is e
 
   -- another grounding is stated than the task's
   grounding_case : HasFormOf parts text.spelling
@@ -808,9 +873,9 @@ module _ (parts : TaskParts) (lawful : IsTask parts) (bytes : List ℕ) (text : 
           → (stated_fault parts text.spelling.stated ≡ Some fault)
           ⊎ ((stated_fault parts text.spelling.stated ≡ None) × (after_stated ≡ Err fault))
           → Case fault
-      stated has (inl e) = pattern_case has e
+      stated has (inl e) = choice_case has text.spelling.stated.choice refl e
       stated has (inr (none, e)) =
-          from_stated (has, holds (suits parts text.spelling.stated.choice) faults.Pattern none) e
+          from_stated (has, choice_suits parts text.spelling.stated.choice none) e
 
       grounding : HasFormOf parts text.spelling
           → (grounding_fault parts text.spelling.stated ≡ Some fault)

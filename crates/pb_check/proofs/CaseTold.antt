@@ -1,5 +1,6 @@
 -- In its case a fault is reported.
 use Rattle.std.proofs.Common.{◌≡◌, ◌≢◌, ◌&&◌, ℕ, zero, suc, ◌+◌, ◌<◌, Bool, true, false, cond, eqb, ltb, leb, Option, None, Some, List, [], ◌∷◌, ◌++◌, length, All, Result, Ok, Err, refl, sym, ap, ◌∙◌, arith, IsTrue, IsFalse}
+use Rattle.std.specs.Prelude.{option_map}
 use Rattle.std.proofs.lemmas.Bool.{eqb-true, leb-true, and_parts}
 use Rattle.std.proofs.lemmas.Bool.Decides.{nat_tests}
 use Rattle.std.proofs.lemmas.List.Elements.{All-head, All-tail}
@@ -13,23 +14,26 @@ use Rattle.pb_task.specs.Parts.{space_of, IsTask, greatest_cost}
 use Rattle.pb_task.specs.Kinds.{kind_of}
 use Rattle.pb_task.specs.Groundings.{grounding_of}
 use Rattle.pb_task.specs.Widths.{width_of}
+use Rattle.pb_tables.specs.declared.fault.TablesFault.{TablesFault}
+use Rattle.pb_tables.specs.declared.fault.TablesFault.TheVariants as tables_faults
+use Rattle.pb_tables.specs.Tables.{TablesValue}
 use Rattle.pb_estimate.specs.declared.spelling.Version.{Version}
 use Rattle.pb_estimate.specs.declared.spelling.Version.TheVariants.{One, Two, Three, Four}
 use Rattle.pb_task.proofs.Callers.{tasks_are_proper}
 use Rattle.pb_estimate.specs.declared.spelling.Spelling.{Spelling}
-use Rattle.pb_estimate.specs.Estimates.{estimate_by, suits}
+use Rattle.pb_estimate.specs.Estimates.{estimate_by}
 use Rattle.pb_check.specs.declared.fault.CertificateFault.{CertificateFault}
 use Rattle.pb_check.specs.declared.fault.CertificateFault.TheVariants as faults
 use Rattle.pb_check.specs.declared.fault.Verdict.{Verdict}
 use Rattle.pb_check.specs.Faults.{◌>>=◌}
 use Rattle.pb_check.specs.Reading.{Text, first_line}
 use Rattle.pb_check.specs.Spelling.{IsSpelled}
-use Rattle.pb_check.specs.Judging.{passes, or_then, unless, same_kind, width_fault, same_grounding, grounding_fault, stated_fault, is_weight, after_step, walk, plan_fault, plan_fault_if_any, AreAbove, Rise, order_fault, rows_order_fault, first_fault_by, state_fault, g_of, is_zero, target_fault, step_fault, steps_fault, may_be_cut, row_fault, verdict_of, judged, checked}
-use Rattle.pb_check.specs.Cases.{HasFormOf, HasGroundingOf, IsForTask, IsPatternFault, HasWeight, HasPlan, HasOrder, HasStates, HasStart, IsStepFault, EndsElsewhere, IsCostFault, HasFault, IsOutOfOrder, IsNoState, MayBeCutRow, IsSoundRow, IsSuccessorFault, HasNoRow, HasRowAbove, IsCaseOf, CasesAreRefused}
+use Rattle.pb_check.specs.Judging.{passes, or_then, unless, same_kind, width_fault, same_grounding, grounding_fault, table_fault, tables_fault_for, choice_fault, stated_fault, is_weight, after_step, walk, plan_fault, plan_fault_if_any, AreAbove, Rise, order_fault, rows_order_fault, first_fault_by, state_fault, g_of, is_zero, target_fault, step_fault, steps_fault, may_be_cut, row_fault, verdict_of, judged, checked}
+use Rattle.pb_check.specs.Cases.{HasFormOf, HasGroundingOf, IsForTask, IsPatternFault, IsTablesFault, HasWeight, HasPlan, HasOrder, HasStates, HasStart, IsStepFault, EndsElsewhere, IsCostFault, HasFault, IsOutOfOrder, IsNoState, MayBeCutRow, IsSoundRow, IsSuccessorFault, HasNoRow, HasRowAbove, IsCaseOf, CasesAreRefused}
 use Rattle.pb_check.proofs.Finding.{equal_at}
 use Rattle.pb_check.proofs.Passes.{steps_end}
 use Rattle.pb_check.proofs.Validity.{kinds_same, groundings_same, weighs, ascends, has_row, starts, cuts}
-use Rattle.pb_check.proofs.Completeness.{kind_same, width_ok, grounding_met, weight_ok, walked, plan_ok_if_any, rises, rows_order_ok, each_ok, found, zero_ok, target_ok, row_ok}
+use Rattle.pb_check.proofs.Completeness.{kind_same, width_ok, grounding_met, choice_ok, weight_ok, walked, plan_ok_if_any, rises, rows_order_ok, each_ok, found, zero_ok, target_ok, row_ok}
 use Rattle.pb_check.proofs.Written.{read_of}
 use Rattle.pb_check.proofs.FirstUnspelled.{syntax_told}
 
@@ -224,7 +228,8 @@ module _ (parts : TaskParts) (lawful : IsTask parts) (bytes : List ℕ) (spellin
 
   to_stated : IsForTask parts spelling → checked parts bytes ≡ after_stated
   to_stated has =
-      to_grounding has.0 ∙ ap (λ b. next (unless b faults.Pattern) after_stated) has.1
+      to_grounding has.0
+      ∙ ap (λ o. next o after_stated) (choice_ok parts spelling.stated.choice has.1)
 
   to_weight : HasWeight parts spelling certificate → checked parts bytes ≡ after_weight
   to_weight has =
@@ -299,11 +304,22 @@ module _ (parts : TaskParts) (lawful : IsTask parts) (bytes : List ℕ) (spellin
       → checked parts bytes ≡ Err faults.Pattern
   pattern_told has (number, choice_is, outside) =
       to_grounding has
-      ∙ ap (λ b. next (unless b faults.Pattern) after_stated)
-      (ap (suits parts) choice_is
-      ∙ not_yes (leb 1 number && leb number 12) (λ met.
+      ∙ ap (λ o. next o after_stated)
+      (ap (choice_fault parts) choice_is
+      ∙ ap (λ b. unless b faults.Pattern)
+      (not_yes (leb 1 number && leb number 12) (λ met.
       let both = and_parts (leb 1 number) (leb number 12) met in
-      outside (leb-true _ _ both.0, leb-true _ _ both.1)))
+      outside (leb-true _ _ both.0, leb-true _ _ both.1))))
+
+  tables_told : HasGroundingOf parts spelling → (tables : TablesValue) (fault : TablesFault)
+      → IsTablesFault parts spelling tables fault
+      → checked parts bytes ≡ Err (table_fault tables fault)
+  tables_told has tables fault (strips, task_is, choice_is, found) =
+      to_grounding has
+      ∙ ap (λ o. next o after_stated)
+      (ap (choice_fault parts) choice_is
+      ∙ ap (λ (task : TaskParts). tables_fault_for task tables) task_is
+      ∙ ap (option_map (table_fault tables)) found)
 
   weight_told : IsForTask parts spelling → (IsWeight weight → ⊥)
       → checked parts bytes ≡ Err faults.Weight
@@ -487,6 +503,13 @@ cases_are_refused parts bytes fault lawful is = go fault is
         grounding_told parts lawful bytes spelling certificate spelled has refuted
     go faults.Pattern (spelling, certificate, spelled, (has, bad)) =
         pattern_told parts lawful bytes spelling certificate spelled has bad
+    go (faults.Table line) (spelling, certificate, spelled, (has, (tables, list, at, line_is, bad))) =
+        tables_told parts lawful bytes spelling certificate spelled has tables
+        (tables_faults.Line list at) bad
+        ∙ ap (λ (k : ℕ). Err (faults.Table k)) (sym line_is)
+    go (faults.Unpaid sum action) (spelling, certificate, spelled, (has, tables, bad)) =
+        tables_told parts lawful bytes spelling certificate spelled has tables
+        (tables_faults.Unpaid sum action) bad
     go faults.Weight (spelling, certificate, spelled, (has, refuted)) =
         weight_told parts lawful bytes spelling certificate spelled has refuted
     go (faults.PlanStep i) (spelling, certificate, spelled, (has, one, is, bad)) =

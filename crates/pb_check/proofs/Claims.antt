@@ -9,16 +9,15 @@ use Rattle.pb_model.specs.Certificate.{ClaimHolds}
 use Rattle.pb_model.proofs.Callers.{valid_certificates_hold}
 use Rattle.pb_task.specs.declared.parts.TaskParts.{TaskParts}
 use Rattle.pb_task.specs.Parts.{space_of, IsTask}
-use Rattle.pb_estimate.specs.declared.choice.Choice.{Choice}
-use Rattle.pb_estimate.specs.declared.choice.Choice.TheVariants.{Plain, Pattern}
+use Rattle.pb_estimate.specs.Choices.{Choice, Plain}
 use Rattle.pb_estimate.specs.Estimates.{estimate_by, suits}
 use Rattle.pb_estimate.proofs.Callers.{estimates_are_admissible}
 use Rattle.pb_check.specs.declared.fault.Verdict.{Verdict}
 use Rattle.pb_check.specs.declared.fault.CheckError.{CheckError}
-use Rattle.pb_check.specs.declared.fault.CertificateFault.TheVariants as faults
 use Rattle.pb_check.specs.Reading.{suiting}
-use Rattle.pb_check.specs.Judging.{StatedChoicesSuit, unless, verdict_of, bound_of}
-use Rattle.pb_check.proofs.Validity.{holds as passes_if}
+use Rattle.pb_check.specs.Judging.{StatedChoicesSuit, verdict_of, bound_of}
+use Rattle.pb_check.proofs.Validity.{choice_suits}
+use Rattle.pb_check.proofs.Completeness.{choice_ok}
 use Rattle.pb_check.specs.Shown.{IsAccepted, ShowsClaim, VerdictHolds, BoundsAreLeast}
 
 bounded : (weight : Weight) (cost other : ℕ) → IsWeight weight → weight.den * cost ≤ weight.num * other → bound_of weight cost ≤ other
@@ -33,18 +32,14 @@ holds : (space : Space) (weight : Weight) (plan : Option Plan) → IsWeight weig
 holds space weight None is claim = claim
 holds space weight (Some plan) is claim = ((plan, claim.0, refl), λ other also. bounded weight plan.cost other.cost is (claim.1 other also))
 
--- a choice that suits a task suits each
-pub suiting_is : (parts : TaskParts) (choice : Choice) → suits parts choice ≡ true → suiting choice ≡ choice
-suiting_is parts Plain fine = refl
-suiting_is parts (Pattern number) fine = ap (λ b. cond b (Pattern number) Plain) fine
+-- an estimator is made by a choice that suits the task
+pub suiting_is : (parts : TaskParts) (choice : Choice) → suits parts choice ≡ true → suiting parts choice ≡ choice
+suiting_is parts choice fine = ap (λ b. cond b choice Plain) fine
 
 -- what is stated is no fault if and only if it suits the task
 pub stated_choices_suit : StatedChoicesSuit
 stated_choices_suit parts stated = (
-  (
-    passes_if (suits parts stated.choice) faults.Pattern,
-    λ fine. ap (λ b. unless b faults.Pattern) fine,
-  ),
+  (choice_suits parts stated.choice, choice_ok parts stated.choice),
   suiting_is parts stated.choice,
 )
 

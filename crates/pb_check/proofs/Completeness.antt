@@ -1,5 +1,6 @@
 -- A valid certificate has no fault.
 use Rattle.std.proofs.Common.{◌≡◌, ℕ, zero, suc, ◌+◌, ◌<◌, ◌≤◌, Bool, true, false, ◌&&◌, cond, eqb, ltb, leb, Option, None, Some, List, [], ◌∷◌, All, Contains, Result, Ok, refl, sym, ap, ◌∙◌, subst, arith, IsTrue, IsFalse}
+use Rattle.std.specs.Prelude.{option_map, is_none}
 use Rattle.std.specs.List.Sorted.{IsStrictlySortedBy}
 use Rattle.std.specs.Ordering.{nat_cmp}
 use Rattle.std.specs.declared.cmp.Ordering.TheVariants.{Less}
@@ -18,13 +19,17 @@ use Rattle.pb_task.specs.declared.kind.Kind.TheVariants.{Grid, Tiles, Strips}
 use Rattle.pb_task.specs.declared.grounding.Grounding.{Grounding}
 use Rattle.pb_task.specs.declared.grounding.Grounding.TheVariants as groundings
 use Rattle.pb_task.specs.declared.parts.TaskParts.{TaskParts}
+use Rattle.pb_task.specs.declared.parts.TaskParts.TheVariants as tasks
 use Rattle.pb_task.specs.Parts.{space_of}
 use Rattle.pb_task.specs.Kinds.{kind_of}
 use Rattle.pb_task.specs.Groundings.{grounding_of}
 use Rattle.pb_task.specs.Widths.{width_of}
+use Rattle.pb_tables.specs.declared.fault.TablesFault.{TablesFault}
+use Rattle.pb_tables.specs.Suits.{tables_fault}
+use Rattle.pb_estimate.specs.Choices.{Choice, Plain, Pattern, Tables}
 use Rattle.pb_estimate.specs.declared.spelling.Version.{Version}
 use Rattle.pb_estimate.specs.declared.spelling.Version.TheVariants.{One, Two, Three, Four}
-use Rattle.pb_estimate.specs.Estimates.{estimate_by, suits}
+use Rattle.pb_estimate.specs.Estimates.{estimate_by, tables_suit, suits}
 use Rattle.pb_check.specs.declared.fault.CertificateFault.{CertificateFault}
 use Rattle.pb_check.specs.declared.fault.CertificateFault.TheVariants as faults
 use Rattle.pb_check.specs.declared.fault.Verdict.{Verdict}
@@ -33,7 +38,7 @@ use Rattle.pb_check.specs.Shown.{IsAccepted}
 use Rattle.pb_check.specs.Faults.{◌>>=◌, Gives}
 use Rattle.pb_check.specs.Reading.{Text, first_line}
 use Rattle.pb_check.specs.Spelling.{HasWidthOf}
-use Rattle.pb_check.specs.Judging.{passes, or_then, unless, same_kind, width_fault, same_grounding, grounding_fault, stated_fault, is_weight, after_step, walk, plan_fault, plan_fault_if_any, AreAbove, Rise, order_fault, rows_order_fault, first_fault_by, state_fault, g_of, is_zero, target_fault, step_fault, steps_fault, may_be_cut, row_fault, verdict_of, judged, checked}
+use Rattle.pb_check.specs.Judging.{passes, or_then, unless, same_kind, width_fault, same_grounding, table_fault, tables_fault_for, choice_fault, stated_fault, is_weight, after_step, walk, plan_fault, plan_fault_if_any, AreAbove, Rise, order_fault, rows_order_fault, first_fault_by, state_fault, g_of, is_zero, target_fault, step_fault, steps_fault, may_be_cut, row_fault, verdict_of, judged, checked}
 use Rattle.pb_check.proofs.Finding.{equal_at}
 use Rattle.pb_check.proofs.Written.{read_of}
 
@@ -63,6 +68,21 @@ width_ok parts Four width is = same_width_ok width (width_of parts) is
 -- the task's own grounding is no fault
 pub grounding_met : (parts : TaskParts) (grounding : Grounding) → grounding ≡ grounding_of parts → same_grounding (grounding_of parts) grounding ≡ true
 grounding_met parts grounding is = ap (same_grounding (grounding_of parts)) is ∙ grounding_same (grounding_of parts)
+
+-- a choice that suits the task is no fault
+pub choice_ok : (parts : TaskParts) (choice : Choice) → suits parts choice ≡ true → choice_fault parts choice ≡ None
+choice_ok parts Plain fine = refl
+choice_ok parts (Pattern number) fine = ap (λ b. unless b faults.Pattern) fine
+choice_ok parts (Tables tables) fine = go parts fine
+  where
+    none : (fault : Option TablesFault) → is_none fault ≡ true → option_map (table_fault tables) fault ≡ None
+    none None e = refl
+    none (Some fault) e = absurd cc
+
+    go : (parts : TaskParts) → tables_suit parts tables ≡ true → tables_fault_for parts tables ≡ None
+    go (tasks.Grid grid) e = absurd cc
+    go (tasks.Tiles tiles) e = absurd cc
+    go (tasks.Strips strips) e = none (tables_fault strips tables) e
 
 pub weight_ok : (weight : Weight) → IsWeight weight → is_weight weight ≡ true
 weight_ok weight w = and_from (leb 1 weight.den) (leb weight.den weight.num && leb weight.num 1000) (le-leb _ _ w.positive) (and_from (leb weight.den weight.num) (leb weight.num 1000) (le-leb _ _ w.at_least_one) (le-leb _ _ w.small))
@@ -177,7 +197,7 @@ judged_ok parts text is wide grounded stated valid =
     let e1 : same_kind (kind_of parts) text.spelling.kind ≡ true = ap (same_kind (kind_of parts)) is ∙ kind_same (kind_of parts) in
     let ew : passes (width_fault parts text.spelling.version text.spelling.width) ≡ Ok true = ap passes (width_ok parts text.spelling.version text.spelling.width wide) in
     let eg : same_grounding (grounding_of parts) text.spelling.stated.grounding ≡ true = grounding_met parts text.spelling.stated.grounding grounded in
-    let e0 : passes (stated_fault parts text.spelling.stated) ≡ Ok true = ap (λ b. passes (unless b faults.Pattern)) stated in
+    let e0 : passes (stated_fault parts text.spelling.stated) ≡ Ok true = ap passes (choice_ok parts text.spelling.stated.choice stated) in
     let e2 : is_weight weight ≡ true = weight_ok weight valid.weight in
     let e3 : plan_fault_if_any space text.certificate.plan ≡ Ok true = plan_ok_if_any space text.certificate.plan valid.plan in
     let e4 : rows_order_fault text.first lines ≡ None = rows_order_ok text.first lines rise in

@@ -1,6 +1,6 @@
 -- A certificate that is cut off is refused in the line that it ends in.
 use Rattle.std.proofs.Common.{◌≡◌, ◌≢◌, ◌⊎◌, inl, inr, ℕ, zero, suc, ◌+◌, Bool, true, false, cond, eqb, Option, None, Some, List, [], ◌∷◌, ◌++◌, length, Result, Ok, Err, refl, sym, ap, ◌∙◌, subst, arith, append_assoc, length-append}
-use Rattle.std.specs.Prelude.{codes}
+use Rattle.std.specs.Prelude.{codes, is_some}
 use Rattle.std.proofs.lemmas.Bool.{eqb-true}
 use Rattle.std.proofs.lemmas.List.{nil_from_length}
 use Rattle.pb_packed.specs.Sizes.{version_1_digits}
@@ -10,24 +10,28 @@ use Rattle.pb_model.specs.Certificate.{Line}
 use Rattle.pb_task.specs.declared.kind.Kind.{Kind}
 use Rattle.pb_task.specs.declared.parts.TaskParts.{TaskParts}
 use Rattle.pb_task.specs.declared.grounding.Grounding.TheVariants.{All}
-use Rattle.pb_estimate.specs.declared.choice.Choice.TheVariants.{Plain, Pattern}
+use Rattle.pb_tables.specs.Tables.{TablesValue}
+use Rattle.pb_table_lines.specs.Reading.{tables_at}
+use Rattle.pb_table_lines.specs.Lines.{tables_lines}
+use Rattle.pb_table_lines.proofs.Callers.{cut_tables_are_refused}
+use Rattle.pb_estimate.specs.Choices.{Choice, Plain, Pattern, Tables}
 use Rattle.pb_estimate.specs.declared.spelling.Stated.{Stated}
 use Rattle.pb_estimate.specs.declared.spelling.Spelling.{Spelling}
 use Rattle.pb_estimate.specs.declared.spelling.Version.{Version}
 use Rattle.pb_estimate.specs.declared.spelling.Version.TheVariants.{One, Two, Three, Four}
-use Rattle.pb_estimate.specs.Spelling.{width_text, stated_text, head_lines}
+use Rattle.pb_estimate.specs.Spelling.{width_text, estimate_text, stated_text, head_lines}
 use Rattle.pb_check.specs.declared.fault.CertificateFault.{CertificateFault}
 use Rattle.pb_check.specs.declared.fault.CertificateFault.TheVariants.{Syntax}
 use Rattle.pb_check.specs.declared.fault.CheckError.{CheckError}
 use Rattle.pb_check.specs.declared.fault.Verdict.{Verdict}
-use Rattle.pb_lines.specs.Words.{part, is_text, has_none, line_feeds}
+use Rattle.pb_lines.specs.Words.{part, behind, is_text, has_none, line_feeds}
 use Rattle.pb_check.specs.Faults.{◌>>=◌, wanted, Gives}
-use Rattle.pb_check.specs.Reading.{line_at, number_behind, version_in, kind_in, kind_for, width_in, grounding_in, estimate_in, weight_in, row_in, fixed_at, number_at, version_at, kind_at, width_line_at, width_at, grounding_at, estimate_at, stated_at, head_at, weight_at, row_at, actions_at, rows_at, steps_at, plan_at, plan_lines, weight_line, first_line, Text, end_at, body_at, text_of}
+use Rattle.pb_check.specs.Reading.{line_at, number_behind, version_in, kind_in, kind_for, width_in, grounding_in, estimate_in, weight_in, row_in, fixed_at, number_at, version_at, kind_at, width_line_at, width_at, grounding_at, tables_read, estimate_at, stated_at, head_at, weight_at, row_at, actions_at, rows_at, steps_at, plan_at, plan_lines, weight_line, first_line, Text, end_at, body_at, text_of}
 use Rattle.pb_check.specs.Judging.{judged, checked}
 use Rattle.pb_check.specs.Shown.{IsCutOff, CutCertificatesAreRefused}
 use Rattle.pb_lines.proofs.Callers.{part_is, part_none, part_again, one_feed, no_feed}
 use Rattle.pb_check.proofs.Lines.{spelling_with}
-use Rattle.pb_check.proofs.Spelled.{bind_ok, ok_is, guard_ok}
+use Rattle.pb_check.proofs.Spelled.{bind_ok, ok_is, guard_ok, estimate_is}
 use Rattle.pb_check.proofs.Written.{read_as_spelled}
 
 -- ---- the first line of a text that goes on
@@ -139,14 +143,14 @@ line_step {A} n m line read count steps start rest x after e = go (first_cases l
             (let one = h.one in omega (arith, one)) in
             inr (ap (λ r. r >>= read) h.here ∙ k ∙ ap (λ (l : ℕ). Err (Syntax l)) same)
 
--- one thing and then another
-then_step : {A B C : Type 0} (n : A → ℕ) (m : B → ℕ) (lines : C → ℕ) (made : A → B → C)
-    → ((x : A) (y : B) → lines (made x y) ≡ n x + m y)
+-- one thing and then another, whose number of lines may depend on the first
+pair_step : {A B C : Type 0} (n : A → ℕ) (m : A → B → ℕ) (lines : C → ℕ) (made : A → B → C)
+    → ((x : A) (y : B) → lines (made x y) ≡ n x + m x y)
     → (line : ℕ) (read : List ℕ → Result (A × List ℕ) CertificateFault)
     (next : A → List ℕ → Result (B × List ℕ) CertificateFault)
-    → IsStep n line read → ((x : A) → IsStep m (line + n x) (next x))
+    → IsStep n line read → ((x : A) → IsStep (m x) (line + n x) (next x))
     → IsStep lines line (λ text. read text >>= λ x. next x.0 x.1 >>= named (made x.0))
-then_step {A} {B} {C} n m lines made count line read next one two start rest z after e =
+pair_step {A} {B} {C} n m lines made count line read next one two start rest z after e =
     let a = bind_ok (read (start ++ rest)) (λ x. next x.0 x.1 >>= named (made x.0)) (z, after) e in
     let b = bind_ok (next a.0.0 a.0.1) (named (made a.0.0)) (z, after) a.2 in
     let same = pair_is (made a.0.0 b.0.0) z b.0.1 after b.2 in
@@ -165,11 +169,11 @@ then_step {A} {B} {C} n m lines made count line read next one two start rest z a
             ≡ (next x.0 h.0 >>= named (made x.0))
         here = ap (λ r. r >>= λ x. next x.0 x.1 >>= named (made x.0)) h.1
 
-        more : Goes (m y.0) (line + n x.0) (next x.0 h.0) h.0 rest y.0 y.1
+        more : Goes (m x.0 y.0) (line + n x.0) (next x.0 h.0) h.0 rest y.0 y.1
             → Goes (lines z) line (read start >>= λ x. next x.0 x.1
             >>= named (made x.0)) start rest z after
         more (inl k) =
-            let c : lines z ≡ n x.0 + m y.0 = ap lines (sym made_is) ∙ count x.0 y.0 in
+            let c : lines z ≡ n x.0 + m x.0 y.0 = ap lines (sym made_is) ∙ count x.0 y.0 in
             let f = h.3 in let g = k.3 in
             inl (
               k.0,
@@ -181,6 +185,16 @@ then_step {A} {B} {C} n m lines made count line read next one two start rest z a
             let same : line + n x.0 + line_feeds h.0 ≡ line + line_feeds start =
             (let f = h.3 in omega (arith, f)) in
             inr (here ∙ ap (λ r. r >>= named (made x.0)) k ∙ ap (λ (l : ℕ). Err (Syntax l)) same)
+
+-- one thing and then another
+then_step : {A B C : Type 0} (n : A → ℕ) (m : B → ℕ) (lines : C → ℕ) (made : A → B → C)
+    → ((x : A) (y : B) → lines (made x y) ≡ n x + m y)
+    → (line : ℕ) (read : List ℕ → Result (A × List ℕ) CertificateFault)
+    (next : A → List ℕ → Result (B × List ℕ) CertificateFault)
+    → IsStep n line read → ((x : A) → IsStep m (line + n x) (next x))
+    → IsStep lines line (λ text. read text >>= λ x. next x.0 x.1 >>= named (made x.0))
+then_step n m lines made count line read next one two =
+    pair_step n (λ x. m) lines made count line read next one two
 
 -- the same under another name
 named_step : {A B : Type 0} (n : A → ℕ) (lines : B → ℕ) (f : A → B) → ((x : A) → lines (f x) ≡ n x)
@@ -351,45 +365,123 @@ grounding_step line = line_step (λ grounding. 1) (λ grounding. 0) line
     (λ first. grounding_in line first.0 >>= λ grounding. Ok (grounding, first.1))
     (λ grounding. refl) (λ first. word_step (line + 1) (grounding_in line first))
 
-estimate_step : (line : ℕ) → IsStep (λ choice. 1) line (estimate_at line)
+-- how many lines say a choice of an estimate
+abbrev pub lines_chosen : (width : ℕ) → Choice → ℕ
+lines_chosen width choice = length (estimate_text width choice)
+
+-- tables are read in as many lines as they are said in
+tables_step : (width line : ℕ) (start rest : List ℕ) (x : Choice) (after : List ℕ)
+    → tables_read (tables_at width line (start ++ rest)) ≡ Ok (x, after)
+    → Goes (lines_chosen width x) line (tables_read (tables_at width line start)) start rest x after
+tables_step width line start rest x after e = go (tables_at width line (start ++ rest)) refl e
+  where
+    read_again : Result (Choice × List ℕ) CertificateFault
+    read_again = tables_read (tables_at width line start)
+
+    more : (tables : TablesValue) (next : List ℕ)
+        → ((left : List ℕ) × (tables_at width line start ≡ Ok (tables, left))
+        × (next ≡ left ++ rest)
+        × (line_feeds start ≡ length (tables_lines width tables) + line_feeds left))
+        ⊎ (tables_at width line start ≡ Err (line + line_feeds start))
+        → Goes (lines_chosen width (Tables tables)) line read_again start rest (Tables tables) next
+    more tables next (inl k) = inl (k.0, ap tables_read k.1, k.2, k.3)
+    more tables next (inr fails) = inr (ap tables_read fails)
+
+    go : (r : Result (TablesValue × List ℕ) ℕ) → tables_at width line (start ++ rest) ≡ r
+        → tables_read r ≡ Ok (x, after)
+        → Goes (lines_chosen width x) line read_again start rest x after
+    go (Err refused) is e = absurd cc
+    go (Ok read) is e =
+        subst (λ (p : Choice × List ℕ).
+        Goes (lines_chosen width p.0) line read_again start rest p.0 p.1)
+        (ok_is (Tables read.0, read.1) (x, after) e)
+        (more read.0 read.1 (cut_tables_are_refused width line start rest read.0 read.1 is))
+
+-- a choice, and the text after it
+abbrev pub chosen_then : (left : List ℕ) → Choice → Result (Choice × List ℕ) CertificateFault
+chosen_then left choice = Ok (choice, left)
+
+-- a choice of an estimate is read in as many lines as it is said in
+estimate_step : (width line : ℕ) → IsStep (lines_chosen width) line (estimate_at width line)
 unfolding estimate_at
-estimate_step line = line_step (λ choice. 1) (λ choice. 0) line
-    (λ first. estimate_in line first.0 >>= λ choice. Ok (choice, first.1)) (λ choice. refl)
-    (λ first. word_step (line + 1) (estimate_in line first))
+estimate_step width line start rest x after e = go (first_cases line start rest)
+  where
+    said : (text : List ℕ) → List ℕ × List ℕ → Result (Choice × List ℕ) CertificateFault
+    said text first =
+        cond (is_some (behind (codes "estimate tables ") first.0))
+        (tables_read (tables_at width line text))
+        (estimate_in line first.0 >>= chosen_then first.1)
+
+    one : (h : HasFirst line start rest)
+        → (estimate_in line h.first >>= chosen_then (h.left ++ rest)) ≡ Ok (x, after)
+        → Goes (lines_chosen width x) line
+        (estimate_in line h.first >>= chosen_then h.left) start rest x after
+    one h e =
+        let a = bind_ok (estimate_in line h.first) (chosen_then (h.left ++ rest))
+        (x, after) e in
+        let same = pair_is a.0 x (h.left ++ rest) after a.2 in
+        let is : estimate_in line h.first ≡ Ok x = a.1 ∙ ap (λ (c : Choice). Ok c) same.0 in
+        let count : lines_chosen width x ≡ 1 = ap length (estimate_is width line h.first x is).0 in
+        let feeds = h.one in
+        inl (
+          h.left,
+          ap (λ r. r >>= chosen_then h.left) is,
+          sym same.1,
+          omega (arith, feeds, count),
+        )
+
+    by_kind : (h : HasFirst line start rest) (b : Bool)
+        → cond b (tables_read (tables_at width line (start ++ rest)))
+        (estimate_in line h.first >>= chosen_then (h.left ++ rest)) ≡ Ok (x, after)
+        → Goes (lines_chosen width x) line
+        (cond b (tables_read (tables_at width line start))
+        (estimate_in line h.first >>= chosen_then h.left)) start rest x after
+    by_kind h true e = tables_step width line start rest x after e
+    by_kind h false e = one h e
+
+    go : HasFirst line start rest ⊎ (line_at line start ≡ cut line start)
+        → Goes (lines_chosen width x) line (line_at line start >>= said start) start rest x after
+    go (inr fails) = inr (ap (λ r. r >>= said start) fails)
+    go (inl h) =
+        subst (λ (r : Result (Choice × List ℕ) CertificateFault).
+        Goes (lines_chosen width x) line r start rest x after)
+        (sym (ap (λ r. r >>= said start) h.here))
+        (by_kind h (is_some (behind (codes "estimate tables ") h.first))
+        (sym (ap (λ r. r >>= said (start ++ rest)) h.there) ∙ e))
 
 -- how many lines of a text of this version say what is stated besides
-abbrev pub lines_stated : Version → Stated → ℕ
-lines_stated version stated = length (stated_text version stated)
+abbrev pub lines_stated : Version → (width : ℕ) → Stated → ℕ
+lines_stated version width stated = length (stated_text version width stated)
 
 -- what is stated is read in as many lines as it is said in
-stated_step : (version : Version) (line : ℕ)
-    → IsStep (lines_stated version) line (stated_at version line)
+stated_step : (version : Version) (width line : ℕ)
+    → IsStep (lines_stated version width) line (stated_at version width line)
 unfolding stated_at
-stated_step One line = given_step (lines_stated One) line
+stated_step One width line = given_step (lines_stated One width) line
     (record { grounding = All; choice = Plain }) refl
-stated_step Two line = given_step (lines_stated Two) line
+stated_step Two width line = given_step (lines_stated Two width) line
     (record { grounding = All; choice = Plain }) refl
-stated_step Three line =
-    named_step (λ n. 1) (lines_stated Three)
+stated_step Three width line =
+    named_step (λ n. 1) (lines_stated Three width)
     (λ n. record { grounding = All; choice = Pattern n }) (λ n. refl) line
     (number_at line (codes "pattern ")) (number_step line (codes "pattern "))
-stated_step Four line =
-    then_step (λ grounding. 1) (λ choice. 1) (lines_stated Four)
+stated_step Four width line =
+    then_step (λ grounding. 1) (lines_chosen width) (lines_stated Four width)
     (λ grounding choice. record { grounding = grounding; choice = choice })
-    (λ grounding choice. refl) line (grounding_at line)
-    (λ grounding text. estimate_at (line + 1) text) (grounding_step line)
-    (λ grounding. estimate_step (line + 1))
+    (λ grounding choice. omega arith) line (grounding_at line)
+    (λ grounding text. estimate_at width (line + 1) text) (grounding_step line)
+    (λ grounding. estimate_step width (line + 1))
 
 -- how many lines say the digits of a state and what is stated besides
 abbrev pub stated_lines : Spelling → ℕ
 stated_lines spelling =
     length (width_text spelling.version spelling.width
-    ++ stated_text spelling.version spelling.stated)
+    ++ stated_text spelling.version spelling.width spelling.stated)
 
 abbrev pub width_then : Version → Kind → List ℕ → Result (Spelling × List ℕ) CertificateFault
 width_then version kind text =
     width_at version 3 text
-    >>= λ width. stated_at version (3 + length (width_text version width.0)) width.1
+    >>= λ width. stated_at version width.0 (3 + length (width_text version width.0)) width.1
     >>= λ stated. Ok (spelling_with version kind width.0 stated.0, stated.1)
 
 abbrev pub kind_then : Version → List ℕ → Result (Spelling × List ℕ) CertificateFault
@@ -398,12 +490,13 @@ kind_then version text = kind_at version 2 text >>= λ kind. width_then version 
 width_then_step : (version : Version) (kind : Kind)
     → IsStep stated_lines 3 (width_then version kind)
 width_then_step version kind =
-    then_step (λ width. length (width_text version width))
+    pair_step (λ width. length (width_text version width))
     (lines_stated version) stated_lines (spelling_with version kind)
-    (λ width stated. length-append (width_text version width) (stated_text version stated)) 3
-    (width_at version 3)
-    (λ width text. stated_at version (3 + length (width_text version width)) text)
-    (width_step version 3) (λ width. stated_step version (3 + length (width_text version width)))
+    (λ width stated. length-append (width_text version width)
+    (stated_text version width stated)) 3 (width_at version 3)
+    (λ width text. stated_at version width (3 + length (width_text version width)) text)
+    (width_step version 3)
+    (λ width. stated_step version width (3 + length (width_text version width)))
 
 kind_then_step : (version : Version)
     → IsStep (λ (spelling : Spelling). 1 + stated_lines spelling) 2 (kind_then version)

@@ -21,13 +21,13 @@ whole_line first rest (inr (front, is)) =
           ∙ sym (append_assoc first (10 ∷ front) (10 ∷ [])),
     )
 
-whole_both : (one two : List ℕ) → AreWholeLines one → AreWholeLines two → AreWholeLines (one ++ two)
+pub whole_both : (one two : List ℕ) → AreWholeLines one → AreWholeLines two → AreWholeLines (one ++ two)
 whole_both one two is (inl none) =
     subst AreWholeLines (sym (ap (λ (r : List ℕ). one ++ r) none ∙ append-nil one)) is
 whole_both one two is (inr (front, last)) =
     inr (one ++ front, ap (λ (r : List ℕ). one ++ r) last ∙ sym (append_assoc one front (10 ∷ [])))
 
-feeds_line : (first rest : List ℕ) → has_none 10 first ≡ true
+pub feeds_line : (first rest : List ℕ) → has_none 10 first ≡ true
     → line_feeds (first ++ 10 ∷ rest) ≡ suc (line_feeds rest)
 feeds_line first rest none = one_feed (first ++ 10 ∷ rest) first rest (part_again 10 first rest none)
 
@@ -38,7 +38,7 @@ same_first text first rest x is text_is none =
     ap (part 10) text_is ∙ part_again 10 first rest none in
     ap (λ (p : List ℕ × List ℕ). p.0) (same_Some x (first, rest) (sym is ∙ there))
 
-no_first : (text first rest : List ℕ) → part 10 text ≡ None → text ≡ first ++ 10 ∷ rest
+pub no_first : (text first rest : List ℕ) → part 10 text ≡ None → text ≡ first ++ 10 ∷ rest
     → has_none 10 first ≡ true → ⊥
 no_first text first rest is text_is none =
     let there : part 10 text ≡ Some (first, rest) =
@@ -50,7 +50,7 @@ no_first text first rest is text_is none =
 abbrev pub named : {A B : Type 0} → (A → B) → A × List ℕ → Result (B × List ℕ) CertificateFault
 named f x = Ok (f x.0, x.1)
 
-err_is : {A : Type 0} (x y : CertificateFault) → ◌≡◌ {A = Result A CertificateFault} (Err x) (Err y)
+pub err_is : {A : Type 0} (x y : CertificateFault) → ◌≡◌ {A = Result A CertificateFault} (Err x) (Err y)
     → x ≡ y
 err_is x y e = cc
 
@@ -61,11 +61,11 @@ pair_is x y e = cc
 -- some lines of a text are read, and whatever comes after them is left
 pub record Takes {A : Type 0} (n : A → ℕ) (read : List ℕ → Result (A × List ℕ) CertificateFault)
     (text : List ℕ) (x : A) (left : List ℕ) : Type 0 where
-  used : List ℕ
-  text_is : text ≡ used ++ left
-  whole : AreWholeLines used
-  feeds : (tail : List ℕ) → line_feeds (used ++ tail) ≡ n x + line_feeds tail
-  again : (tail : List ℕ) → read (used ++ tail) ≡ Ok (x, tail)
+  pub used : List ℕ
+  pub text_is : text ≡ used ++ left
+  pub whole : AreWholeLines used
+  pub feeds : (tail : List ℕ) → line_feeds (used ++ tail) ≡ n x + line_feeds tail
+  pub again : (tail : List ℕ) → read (used ++ tail) ≡ Ok (x, tail)
 
 -- Reading stops: what comes before begins a text that is read. No further line helps.
 pub record Stops {A : Type 0} (line : ℕ) (read : List ℕ → Result A CertificateFault)
@@ -93,9 +93,9 @@ IsWhole {A} read text = (x : A) × (read text ≡ Ok x)
 -- reading some lines, whose number what was read tells
 pub record IsReader {A : Type 0} (n : A → ℕ) (line : ℕ)
     (read : List ℕ → Result (A × List ℕ) CertificateFault) : Type 0 where
-  takes : (text : List ℕ) (x : A) (left : List ℕ) → read text ≡ Ok (x, left)
+  pub takes : (text : List ℕ) (x : A) (left : List ℕ) → read text ≡ Ok (x, left)
       → Takes n read text x left
-  stops : (text : List ℕ) (fault : CertificateFault) → read text ≡ Err fault
+  pub stops : (text : List ℕ) (fault : CertificateFault) → read text ≡ Err fault
       → Stops line read (IsBeginning read) text fault
 
 -- reading all of a text
@@ -364,13 +364,13 @@ module _ {A B : Type 0} (n m : A → ℕ) (line : ℕ) (words : List ℕ → Res
   pub line_reader : IsReader n line line_then
   line_reader = record { takes = takes_line; stops = stops_line }
 
--- ---- one thing and then another
+-- ---- one thing and then another, whose number of lines may depend on the first
 
-module _ {A B C : Type 0} (n : A → ℕ) (m : B → ℕ) (lines : C → ℕ) (made : A → B → C)
-    (count : (x : A) (y : B) → lines (made x y) ≡ n x + m y) (line : ℕ)
+module _ {A B C : Type 0} (n : A → ℕ) (m : A → B → ℕ) (lines : C → ℕ) (made : A → B → C)
+    (count : (x : A) (y : B) → lines (made x y) ≡ n x + m x y) (line : ℕ)
     (read : List ℕ → Result (A × List ℕ) CertificateFault)
     (next : A → List ℕ → Result (B × List ℕ) CertificateFault) (one : IsReader n line read)
-    (two : (x : A) → IsReader m (line + n x) (next x)) where
+    (two : (x : A) → IsReader (m x) (line + n x) (next x)) where
   abbrev after_one : A × List ℕ → Result (C × List ℕ) CertificateFault
   after_one x = next x.0 x.1 >>= named (made x.0)
 
@@ -382,7 +382,7 @@ module _ {A B C : Type 0} (n : A → ℕ) (m : B → ℕ) (lines : C → ℕ) (m
   takes_both text z left e = go (read text) refl e
     where
       taken : (x : A × List ℕ) (y : B × List ℕ) → Takes n read text x.0 x.1
-          → Takes m (next x.0) x.1 y.0 y.1 → Takes lines both text (made x.0 y.0) y.1
+          → Takes (m x.0) (next x.0) x.1 y.0 y.1 → Takes lines both text (made x.0 y.0) y.1
       taken x y t u = record {
         used = t.used ++ u.used;
         text_is = t.text_is ∙ ap (λ (r : List ℕ). t.used ++ r) u.text_is
@@ -422,7 +422,7 @@ module _ {A B C : Type 0} (n : A → ℕ) (m : B → ℕ) (lines : C → ℕ) (m
           → Stops line both (IsBeginning both) text fault
       early s =
           let x = s.goes.0 in
-          let rest = can m (line + n x) (next x) (two x) in
+          let rest = can (m x) (line + n x) (next x) (two x) in
           record {
             before = s.before;
             behind = s.behind;
@@ -484,8 +484,18 @@ module _ {A B C : Type 0} (n : A → ℕ) (m : B → ℕ) (lines : C → ℕ) (m
           (is ∙ ap (λ (f : CertificateFault). Err f) (err_is {A = C × List ℕ} d fault e)))
       go (Ok x) is e = after x is (next x.0 x.1) refl e
 
-  pub then_reader : IsReader lines line both
-  then_reader = record { takes = takes_both; stops = stops_both }
+  pub pair_reader : IsReader lines line both
+  pair_reader = record { takes = takes_both; stops = stops_both }
+
+-- one thing and then another
+pub then_reader : {A B C : Type 0} (n : A → ℕ) (m : B → ℕ) (lines : C → ℕ) (made : A → B → C)
+    → ((x : A) (y : B) → lines (made x y) ≡ n x + m y) → (line : ℕ)
+    (read : List ℕ → Result (A × List ℕ) CertificateFault)
+    (next : A → List ℕ → Result (B × List ℕ) CertificateFault)
+    → IsReader n line read → ((x : A) → IsReader m (line + n x) (next x))
+    → IsReader lines line (λ text. read text >>= λ x. next x.0 x.1 >>= named (made x.0))
+then_reader n m lines made count line read next one two =
+    pair_reader n (λ x. m) lines made count line read next one two
 
 -- the same under another name
 pub named_reader : {A B : Type 0} (n : A → ℕ) (lines : B → ℕ) (f : A → B)

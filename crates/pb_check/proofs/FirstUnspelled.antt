@@ -3,9 +3,8 @@ use Rattle.std.proofs.Common.{◌≡◌, inl, ℕ, zero, suc, ◌+◌, ◌^◌, 
 use Rattle.std.proofs.Math.Nat.{one-le-pow}
 use Rattle.std.specs.Prelude.{codes}
 use Rattle.std.specs.Fmt.{decimal}
-use Rattle.std.proofs.lemmas.Bool.{and_from, and_parts}
+use Rattle.std.proofs.lemmas.Bool.{and_parts}
 use Rattle.std.proofs.lemmas.Bool.Decides.{nat_tests}
-use Rattle.std.proofs.lemmas.List.Sums.{sum_by-cons}
 use Rattle.pb_packed.specs.Sizes.{version_1_digits, most_digits}
 use Rattle.pb_model.specs.Weight.{Weight}
 use Rattle.pb_model.specs.Plan.{Plan}
@@ -14,32 +13,28 @@ use Rattle.pb_model.specs.Texts as texts
 use Rattle.pb_task.specs.declared.kind.Kind.{Kind}
 use Rattle.pb_task.specs.declared.kind.Kind.TheVariants.{Grid, Tiles, Strips}
 use Rattle.pb_task.specs.declared.grounding.Grounding.TheVariants.{All, Reachable}
-use Rattle.pb_estimate.specs.declared.choice.Choice.TheVariants.{Plain, Pattern}
+use Rattle.pb_estimate.specs.Choices.{Plain, Pattern}
 use Rattle.pb_estimate.specs.declared.spelling.Spelling.{Spelling}
 use Rattle.pb_estimate.specs.declared.spelling.Version.{Version}
 use Rattle.pb_estimate.specs.declared.spelling.Version.TheVariants.{One, Two, Three, Four}
-use Rattle.pb_estimate.specs.Spelling.{IsVersionFor, version_line, kind_line, width_text, grounding_line, estimate_line, stated_text, head_lines}
+use Rattle.pb_estimate.specs.Spelling.{IsVersionFor, version_line, kind_line, width_text, grounding_line, stated_text, head_lines}
 use Rattle.pb_lines.specs.Words.{part, behind, is_text, number_of, has_none, line_feeds}
 use Rattle.pb_lines.proofs.Callers.{part_is, part_none, no_feed, none_both, number_word, number_none, text_again}
 use Rattle.pb_check.specs.declared.fault.CertificateFault.{CertificateFault}
 use Rattle.pb_check.specs.declared.fault.CertificateFault.TheVariants.{Syntax}
 use Rattle.pb_check.specs.Faults.{◌>>=◌, wanted}
 use Rattle.pb_check.specs.Words.{state_of}
-use Rattle.pb_check.specs.Reading.{line_at, number_behind, version_in, kind_in, kind_for, width_in, grounding_in, estimate_in, weight_in, closed_in, row_in, fixed_at, number_at, version_at, kind_at, width_line_at, width_at, grounding_at, estimate_at, stated_at, head_at, weight_at, row_at, actions_at, rows_at, steps_at, plan_at, plan_lines, weight_line, Text, end_at, body_at, text_of}
+use Rattle.pb_check.specs.Reading.{line_at, number_behind, version_in, kind_in, kind_for, width_in, grounding_in, weight_in, closed_in, row_in, fixed_at, number_at, version_at, kind_at, width_line_at, width_at, grounding_at, estimate_at, stated_at, head_at, weight_at, row_at, actions_at, rows_at, steps_at, plan_at, plan_lines, weight_line, Text, end_at, body_at, text_of}
 use Rattle.pb_check.specs.Spelling.{IsSpelled}
 use Rattle.pb_check.specs.Cases.{IsSyntaxFault}
-use Rattle.pb_check.proofs.Cuts.{after_unnamed, lines_stated, stated_lines, width_then, kind_then, lines_of, later_lines, text_with, one_more}
+use Rattle.pb_check.proofs.Cuts.{after_unnamed, lines_chosen, lines_stated, stated_lines, width_then, kind_then, lines_of, later_lines, text_with, one_more}
 use Rattle.pb_check.proofs.Lines.{spelling_with, IsWeightLine}
-use Rattle.pb_check.proofs.Readable.{behind_number_word_read, version_again, version_none, kind_said_again, kind_none, width_words, width_again, width_none, grounding_again, grounding_none, estimate_again, estimate_none, weight_again, weight_none, row_again, row_none}
+use Rattle.pb_check.proofs.Readable.{behind_number_word_read, version_again, version_none, kind_said_again, kind_none, width_words, width_again, width_none, grounding_again, grounding_none, weight_again, weight_none, row_again, row_none}
 use Rattle.pb_check.proofs.Written.{line_of_row, read_as_spelled, read_of}
-use Rattle.pb_check.proofs.FirstLines.{named, IsReader, IsLastReader, IsAt, Stops, IsWhole, given, at_ok, at_wanted, at_next, at_either, same_reader, same_last, line_reader, then_reader, named_reader, then_last, named_last}
+use Rattle.pb_check.proofs.ChoiceReader.{at_number, estimate_reader, feeds_cons, no_feeds}
+use Rattle.pb_check.proofs.FirstLines.{named, IsReader, IsLastReader, IsAt, Stops, IsWhole, given, at_ok, at_wanted, at_next, at_either, same_reader, same_last, line_reader, pair_reader, then_reader, named_reader, then_last, named_last}
 
 -- ---- what a line says is a fault of that line, or none
-
-at_number : (line : ℕ) (piece text : List ℕ) → IsAt line (number_behind line piece text)
-at_number line piece text =
-    at_next line (wanted line (behind piece text)) (λ word. wanted line (number_of word))
-    (at_wanted line (behind piece text)) (λ word. at_wanted line (number_of word))
 
 at_test : {A : Type 0} (line : ℕ) (b : Bool) (x : A) → IsAt line (cond b (Ok x) (Err (Syntax line)))
 at_test line true x fault e = absurd cc
@@ -92,16 +87,6 @@ at_grounding line text =
     at_either line (is_text (grounding_line All) text) (Ok All)
     (cond (is_text (grounding_line Reachable) text) (Ok Reachable) (Err (Syntax line)))
     (at_ok line All) (at_test line (is_text (grounding_line Reachable) text) Reachable)
-
-at_estimate : (line : ℕ) (text : List ℕ) → IsAt line (estimate_in line text)
-unfolding estimate_in
-at_estimate line text =
-    at_either line (is_text (estimate_line Plain) text) (Ok Plain)
-    (number_behind line (codes "estimate pattern ") text >>= λ number. Ok (Pattern number))
-    (at_ok line Plain)
-    (at_next line (number_behind line (codes "estimate pattern ") text)
-    (λ number. Ok (Pattern number)) (at_number line (codes "estimate pattern ") text)
-    (λ number. at_ok line (Pattern number)))
 
 at_closed : (line : ℕ) (text : List ℕ) → IsAt line (closed_in line text)
 unfolding closed_in
@@ -199,29 +184,23 @@ grounding_reader line =
     word_reader line (grounding_in line) (at_grounding line) (grounding_line All) All
     (grounding_none All) (grounding_again line All)
 
-estimate_reader : (line : ℕ) → IsReader (λ choice. 1) line (estimate_at line)
-unfolding estimate_at
-estimate_reader line =
-    word_reader line (estimate_in line) (at_estimate line) (estimate_line Plain) Plain
-    (estimate_none Plain tt) (estimate_again line Plain tt)
-
-stated_reader : (version : Version) (line : ℕ)
-    → IsReader (lines_stated version) line (stated_at version line)
+stated_reader : (version : Version) (width line : ℕ)
+    → IsReader (lines_stated version width) line (stated_at version width line)
 unfolding stated_at
-stated_reader One line = given (lines_stated One) line
+stated_reader One width line = given (lines_stated One width) line
     (record { grounding = All; choice = Plain }) refl
-stated_reader Two line = given (lines_stated Two) line
+stated_reader Two width line = given (lines_stated Two width) line
     (record { grounding = All; choice = Plain }) refl
-stated_reader Three line =
-    named_reader (λ n. 1) (lines_stated Three)
+stated_reader Three width line =
+    named_reader (λ n. 1) (lines_stated Three width)
     (λ n. record { grounding = All; choice = Pattern n }) (λ n. refl) line
     (number_at line (codes "pattern ")) (number_reader line (codes "pattern ") refl)
-stated_reader Four line =
-    then_reader (λ grounding. 1) (λ choice. 1) (lines_stated Four)
+stated_reader Four width line =
+    then_reader (λ grounding. 1) (lines_chosen width) (lines_stated Four width)
     (λ grounding choice. record { grounding = grounding; choice = choice })
-    (λ grounding choice. refl) line (grounding_at line)
-    (λ grounding text. estimate_at (line + 1) text) (grounding_reader line)
-    (λ grounding. estimate_reader (line + 1))
+    (λ grounding choice. omega arith) line (grounding_at line)
+    (λ grounding text. estimate_at width (line + 1) text) (grounding_reader line)
+    (λ grounding. estimate_reader width (line + 1))
 
 weight_reader : (line : ℕ) → IsReader (λ weight. 1) line (weight_at line)
 unfolding weight_at
@@ -310,13 +289,13 @@ tail_reader {A} {C} n m lines count line read next one two =
 width_then_reader : (version : Version) (kind : Kind)
     → IsReader stated_lines 3 (width_then version kind)
 width_then_reader version kind =
-    then_reader (λ width. length (width_text version width))
+    pair_reader (λ width. length (width_text version width))
     (lines_stated version) stated_lines (spelling_with version kind)
-    (λ width stated. length-append (width_text version width) (stated_text version stated)) 3
-    (width_at version 3)
-    (λ width text. stated_at version (3 + length (width_text version width)) text)
+    (λ width stated. length-append (width_text version width)
+    (stated_text version width stated)) 3 (width_at version 3)
+    (λ width text. stated_at version width (3 + length (width_text version width)) text)
     (width_reader version 3)
-    (λ width. stated_reader version (3 + length (width_text version width)))
+    (λ width. stated_reader version width (3 + length (width_text version width)))
 
 kind_then_reader : (version : Version)
     → IsReader (λ (spelling : Spelling). 1 + stated_lines spelling) 2 (kind_then version)
@@ -515,20 +494,6 @@ text_last =
     (body_last head.width (weight_line head + 1 + plan_lines plan)))))
 
 -- ---- the fault that is reported is the case
-
-feeds_cons : (b : ℕ) (bs : List ℕ) → line_feeds (b ∷ bs) ≡ cond (eqb b 10) 1 0 + line_feeds bs
-feeds_cons b bs = sum_by-cons (λ (c : ℕ). cond (eqb c 10) 1 0) b bs
-
-no_feeds : (text : List ℕ) → line_feeds text ≡ 0 → has_none 10 text ≡ true
-no_feeds [] e = refl
-no_feeds (b ∷ bs) e =
-    go (λ none. no_feeds bs none) (eqb b 10) refl (sym (feeds_cons b bs) ∙ e)
-  where
-    go : (line_feeds bs ≡ 0 → has_none 10 bs ≡ true) → (t : Bool) → eqb b 10 ≡ t
-        → cond t 1 0 + line_feeds bs ≡ 0 → has_none 10 (b ∷ bs) ≡ true
-    go rest true is e = absurd (omega (arith, e))
-    go rest false is e =
-        and_from (not (eqb b 10)) (has_none 10 bs) (ap not is) (rest (omega (arith, e)))
 
 feedless : (text : List ℕ) → has_none 10 text ≡ true → line_feeds text ≡ 0
 feedless [] none = refl

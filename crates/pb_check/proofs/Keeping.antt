@@ -139,5 +139,5 @@ checked_kept parts bytes kept r h gives =
     let same : checked parts bytes ≡ judged parts kept = ap (λ t. t >>= judged parts) h.1 ∙ judged_kept parts kept text h.2 in
     subst (λ given. Gives (λ x. x) r given) (sym same) gives
 
-pub kept_choice_is : (bytes : List ℕ) (kept : Text) → GivesKept (Ok kept) (text_of bytes) → stated_choice bytes ≡ suiting kept.spelling.stated.choice
-kept_choice_is bytes kept h = choice_is bytes h.0 h.1 ∙ ap (λ (s : Spelling). suiting s.stated.choice) (sym h.2.spelling)
+pub kept_choice_is : (parts : TaskParts) (bytes : List ℕ) (kept : Text) → GivesKept (Ok kept) (text_of bytes) → stated_choice parts bytes ≡ suiting parts kept.spelling.stated.choice
+kept_choice_is parts bytes kept h = choice_is parts bytes h.0 h.1 ∙ ap (λ (s : Spelling). suiting parts s.stated.choice) (sym h.2.spelling)

@@ -8,6 +8,7 @@ mod Arrays
 mod FlatNumbers
 mod Passes
 mod Spelled
+mod TableLines
 mod Readable
 mod States
 mod Sixteens
@@ -16,16 +17,19 @@ mod Validity
 mod Completeness
 mod Claims
 mod Known
+mod TableFaults
 mod Before
 mod Firsts
 mod RowTests
 mod Shares
 mod LastShare
 mod FirstLines
+mod ChoiceReader
 mod FirstUnspelled
 mod CaseOf
 mod CaseTold
 mod CaseExamples
+mod TableExamples
 mod RowFronts
 mod Bodies
 mod TwoPieces

@@ -1,7 +1,7 @@
 -- What is spelled so is read.
-use Rattle.std.proofs.Common.{◌≡◌, ℕ, ◌+◌, ◌*◌, ◌<◌, ◌≤◌, Bool, true, false, not, cond, eqb, ltb, leb, ◌&&◌, Option, None, Some, List, [], ◌∷◌, ◌++◌, length, Result, Ok, Err, refl, sym, ap, ◌∙◌, arith}
+use Rattle.std.proofs.Common.{◌≡◌, ℕ, ◌+◌, ◌*◌, ◌^◌, ◌<◌, ◌≤◌, Bool, true, false, not, cond, eqb, ltb, leb, ◌&&◌, Option, None, Some, List, [], ◌∷◌, ◌++◌, length, Result, Ok, Err, refl, sym, ap, ◌∙◌, arith}
 use Rattle.std.proofs.lemmas.Bool.{and_parts, and_from, le-leb}
-use Rattle.std.specs.Prelude.{codes}
+use Rattle.std.specs.Prelude.{codes, is_some}
 use Rattle.std.specs.Fmt.{decimal}
 use Rattle.std.specs.List.{list_all}
 use Rattle.std.proofs.lemmas.Bool.Decides.{nat_tests}
@@ -14,22 +14,25 @@ use Rattle.pb_task.specs.declared.kind.Kind.{Kind}
 use Rattle.pb_task.specs.declared.kind.Kind.TheVariants.{Grid, Tiles, Strips}
 use Rattle.pb_task.specs.declared.grounding.Grounding.{Grounding}
 use Rattle.pb_task.specs.declared.grounding.Grounding.TheVariants.{All, Reachable}
-use Rattle.pb_estimate.specs.declared.choice.Choice.{Choice}
-use Rattle.pb_estimate.specs.declared.choice.Choice.TheVariants.{Plain, Pattern}
+use Rattle.pb_tables.specs.Tables.{TablesValue}
+use Rattle.pb_table_lines.specs.Reading.{tables_at}
+use Rattle.pb_table_lines.proofs.Callers.{tables_are_read_as_written}
+use Rattle.pb_estimate.specs.Choices.{Choice, Plain, Pattern, Tables}
 use Rattle.pb_estimate.specs.declared.spelling.Stated.{Stated}
 use Rattle.pb_estimate.specs.declared.spelling.Spelling.{Spelling}
 use Rattle.pb_estimate.specs.declared.spelling.Version.{Version}
 use Rattle.pb_estimate.specs.declared.spelling.Version.TheVariants.{One, Two, Three, Four}
-use Rattle.pb_estimate.specs.Spelling.{IsWidthOf, CanBeStated, StatesChoice, StatesGrounding, IsVersionFor, IsSpelling, version_line, kind_line, width_text, grounding_line, estimate_line, stated_text, head_of}
+use Rattle.pb_estimate.specs.Spelling.{IsWidthOf, CanBeStated, StatesChoice, StatesGrounding, IsVersionFor, IsSpelling, version_line, kind_line, width_text, grounding_line, plain_line, pattern_line, estimate_text, stated_text, head_of}
 use Rattle.pb_check.specs.declared.fault.CertificateFault.{CertificateFault}
 use Rattle.pb_check.specs.declared.fault.CertificateFault.TheVariants.{Syntax}
 use Rattle.pb_lines.specs.Words.{part, behind, is_text, number_of, has_none}
 use Rattle.pb_lines.proofs.Callers.{IsNumberWord, number_word, number_word_read, number_has_none, none_both, part_again, behind_again, text_again}
 use Rattle.pb_check.specs.Words.{hex_value, hex_after, state_of}
 use Rattle.pb_check.specs.Faults.{◌>>=◌, wanted}
-use Rattle.pb_check.specs.Reading.{line_at, number_behind, version_in, kind_in, kind_for, width_in, grounding_in, estimate_in, weight_in, closed_in, row_in, fixed_at, number_at, version_at, kind_at, width_line_at, width_at, grounding_at, estimate_at, stated_at, head_at, weight_at, row_at, actions_at, rows_at, steps_at, plan_at, plan_lines, weight_line, first_line, Text, end_at, body_at, text_of}
+use Rattle.pb_check.specs.Reading.{line_at, number_behind, version_in, kind_in, kind_for, width_in, grounding_in, estimate_in, weight_in, closed_in, row_in, fixed_at, number_at, version_at, kind_at, width_line_at, width_at, grounding_at, tables_read, estimate_at, stated_at, head_at, weight_at, row_at, actions_at, rows_at, steps_at, plan_at, plan_lines, weight_line, first_line, Text, end_at, body_at, text_of}
 use Rattle.pb_check.proofs.Lines.{hex_value_after, IsStateWord, BeginsWith, BeginsWithNumber, closed_text, spelling_with, IsWeightLine, IsRowLine, AreActionLines, AreRowLines, ArePlanLines, Spells}
-use Rattle.pb_check.proofs.Spelled.{head_then, one_line, others_then}
+use Rattle.pb_check.proofs.Spelled.{head_then, one_line, others_then, line_and_others}
+use Rattle.pb_check.proofs.TableLines.{tables_first}
 
 -- ---- states
 
@@ -129,20 +132,33 @@ grounding_none All = refl
 grounding_none Reachable = refl
 
 -- a text that begins otherwise is not this one
-pattern_is_not_plain : (word : List ℕ) → is_text (estimate_line Plain) (codes "estimate pattern " ++ word) ≡ false
+pattern_is_not_plain : (word : List ℕ) → is_text plain_line (codes "estimate pattern " ++ word) ≡ false
 unfolding behind
 pattern_is_not_plain word = refl
 
-pub estimate_again : (line : ℕ) (choice : Choice) → CanBeStated choice → estimate_in line (estimate_line choice) ≡ Ok choice
-unfolding estimate_in
-estimate_again line Plain can = ap (λ b. cond b (fine Plain) (number_behind line (codes "estimate pattern ") (estimate_line Plain) >>= λ number. Ok (Pattern number))) (text_again (estimate_line Plain))
-estimate_again line (Pattern number) can =
-    ap (λ b. cond b (fine Plain) (number_behind line (codes "estimate pattern ") (codes "estimate pattern " ++ decimal number) >>= λ n. Ok (Pattern n))) (pattern_is_not_plain (decimal number))
-    ∙ ap (λ r. r >>= λ n. fine (Pattern n)) (behind_number_word_read line (codes "estimate pattern ") (decimal number) number (number_word (decimal number) number refl can))
+plain_is_no_table : is_some (behind (codes "estimate tables ") plain_line) ≡ false
+unfolding behind
+plain_is_no_table = refl
 
-pub estimate_none : (choice : Choice) → CanBeStated choice → has_none 10 (estimate_line choice) ≡ true
-estimate_none Plain can = refl
-estimate_none (Pattern number) can = none_both 10 (codes "estimate pattern ") (decimal number) refl (number_has_none 10 (decimal number) (omega arith) (number_word (decimal number) number refl can).digits)
+pattern_is_no_table : (word : List ℕ) → is_some (behind (codes "estimate tables ") (codes "estimate pattern " ++ word)) ≡ false
+unfolding behind
+pattern_is_no_table word = refl
+
+plain_again : (line : ℕ) → estimate_in line plain_line ≡ Ok Plain
+unfolding estimate_in
+plain_again line = ap (λ b. cond b (fine Plain) (number_behind line (codes "estimate pattern ") plain_line >>= λ number. Ok (Pattern number))) (text_again plain_line)
+
+pattern_again : (line number : ℕ) → number < 2 ^ 63 → estimate_in line (pattern_line number) ≡ Ok (Pattern number)
+unfolding estimate_in
+pattern_again line number small =
+    ap (λ b. cond b (fine Plain) (number_behind line (codes "estimate pattern ") (codes "estimate pattern " ++ decimal number) >>= λ n. Ok (Pattern n))) (pattern_is_not_plain (decimal number))
+    ∙ ap (λ r. r >>= λ n. fine (Pattern n)) (behind_number_word_read line (codes "estimate pattern ") (decimal number) number (number_word (decimal number) number refl small))
+
+pub plain_none : has_none 10 plain_line ≡ true
+plain_none = refl
+
+pub pattern_none : (number : ℕ) → number < 2 ^ 63 → has_none 10 (pattern_line number) ≡ true
+pattern_none number small = none_both 10 (codes "estimate pattern ") (decimal number) refl (number_has_none 10 (decimal number) (omega arith) (number_word (decimal number) number refl small).digits)
 
 -- the words of a line that says the digits of a state, from version 2 on
 abbrev pub width_words : (width : ℕ) → List ℕ
@@ -269,37 +285,61 @@ grounding_line_again line text g rest begins =
     ap (λ r. r >>= λ first. grounding_in line first.0 >>= λ g. fine (g, first.1)) (line_again line text (grounding_line g) rest begins (grounding_none g))
     ∙ ap (λ r. r >>= λ g. fine (g, rest)) (grounding_again line g)
 
-estimate_line_again : (line : ℕ) (text : List ℕ) (choice : Choice) (rest : List ℕ) → CanBeStated choice → BeginsWith text (estimate_line choice) rest → estimate_at line text ≡ Ok (choice, rest)
+-- a line that says a choice without tables
+said_line_again : (width line : ℕ) (text said : List ℕ) (choice : Choice) (rest : List ℕ) → BeginsWith text said rest → has_none 10 said ≡ true → is_some (behind (codes "estimate tables ") said) ≡ false
+    → estimate_in line said ≡ Ok choice → estimate_at width line text ≡ Ok (choice, rest)
 unfolding estimate_at
-estimate_line_again line text choice rest can begins =
-    ap (λ r. r >>= λ first. estimate_in line first.0 >>= λ choice. fine (choice, first.1)) (line_again line text (estimate_line choice) rest begins (estimate_none choice can))
-    ∙ ap (λ r. r >>= λ choice. fine (choice, rest)) (estimate_again line choice can)
+said_line_again width line text said choice rest begins none other is =
+    ap (λ r. r >>= λ first. cond (is_some (behind (codes "estimate tables ") first.0)) (tables_read (tables_at width line text)) (estimate_in line first.0 >>= λ choice. fine (choice, first.1))) (line_again line text said rest begins none)
+    ∙ ap (λ b. cond b (tables_read (tables_at width line text)) (estimate_in line said >>= λ choice. fine (choice, rest))) other
+    ∙ ap (λ r. r >>= λ choice. fine (choice, rest)) is
+
+-- lines of which tables are read say the choice of these tables
+pub tables_chosen : (width line : ℕ) (text : List ℕ) (tables : TablesValue) (rest : List ℕ) → tables_at width line text ≡ Ok (tables, rest) → estimate_at width line text ≡ Ok (Tables tables, rest)
+unfolding estimate_at
+tables_chosen width line text tables rest is =
+    let f = tables_first width line text (tables, rest) is in
+    ap (λ o. wanted line o >>= λ first. cond (is_some (behind (codes "estimate tables ") first.0)) (tables_read (tables_at width line text)) (estimate_in line first.0 >>= λ choice. fine (choice, first.1))) f.1
+    ∙ ap (λ b. cond b (tables_read (tables_at width line text)) (estimate_in line f.0.0 >>= λ choice. fine (choice, f.0.1))) f.2
+    ∙ ap tables_read is
+
+pub estimate_lines_again : (width line : ℕ) (text : List ℕ) (choice : Choice) (rest : List ℕ) → CanBeStated width choice → text ≡ texts.lines (estimate_text width choice) ++ rest → estimate_at width line text ≡ Ok (choice, rest)
+estimate_lines_again width line text Plain rest can is = said_line_again width line text plain_line Plain rest (is ∙ one_line plain_line rest) plain_none plain_is_no_table (plain_again line)
+estimate_lines_again width line text (Pattern number) rest can is =
+    said_line_again width line text (pattern_line number) (Pattern number) rest (is ∙ one_line (pattern_line number) rest) (pattern_none number can) (pattern_is_no_table (decimal number)) (pattern_again line number can)
+estimate_lines_again width line text (Tables tables) rest can is =
+    tables_chosen width line text tables rest (ap (tables_at width line) is ∙ tables_are_read_as_written.read width line tables rest can)
 
 -- before version 4 all atoms and actions have numbers
-before_again : (line : ℕ) (text : List ℕ) (version : Version) (grounding : Grounding) (choice : Choice) (rest : List ℕ) → grounding ≡ All → stated_at version line text ≡ fine_stated All choice rest → stated_at version line text ≡ fine_stated grounding choice rest
-before_again line text version grounding choice rest all is = is ∙ ap (λ (g : Grounding). fine_stated g choice rest) (sym all)
+before_again : (width line : ℕ) (text : List ℕ) (version : Version) (grounding : Grounding) (choice : Choice) (rest : List ℕ) → grounding ≡ All → stated_at version width line text ≡ fine_stated All choice rest
+    → stated_at version width line text ≡ fine_stated grounding choice rest
+before_again width line text version grounding choice rest all is = is ∙ ap (λ (g : Grounding). fine_stated g choice rest) (sym all)
 
 -- what is stated is read again in the version that states it
-said_again : (version : Version) (line : ℕ) (text : List ℕ) (grounding : Grounding) (choice : Choice) (rest : List ℕ) → StatesChoice version choice → StatesGrounding version grounding
-    → text ≡ texts.lines (stated_text version (stated_with grounding choice)) ++ rest → stated_at version line text ≡ fine_stated grounding choice rest
+said_again : (version : Version) (width line : ℕ) (text : List ℕ) (grounding : Grounding) (choice : Choice) (rest : List ℕ) → StatesChoice version width choice → StatesGrounding version grounding
+    → text ≡ texts.lines (stated_text version width (stated_with grounding choice)) ++ rest → stated_at version width line text ≡ fine_stated grounding choice rest
 unfolding stated_at
-said_again One line text grounding Plain rest states all is = before_again line text One grounding Plain rest all (ap (fine_stated All Plain) is)
-said_again Two line text grounding Plain rest states all is = before_again line text Two grounding Plain rest all (ap (fine_stated All Plain) is)
-said_again Three line text grounding (Pattern number) rest states all is =
-    before_again line text Three grounding (Pattern number) rest all (ap (λ r. r >>= λ n. fine_stated All (Pattern n.0) n.1)
+said_again One width line text grounding Plain rest states all is = before_again width line text One grounding Plain rest all (ap (fine_stated All Plain) is)
+said_again Two width line text grounding Plain rest states all is = before_again width line text Two grounding Plain rest all (ap (fine_stated All Plain) is)
+said_again Three width line text grounding (Pattern number) rest states all is =
+    before_again width line text Three grounding (Pattern number) rest all (ap (λ r. r >>= λ n. fine_stated All (Pattern n.0) n.1)
     (number_line_again line (codes "pattern ") text number rest refl (decimal number, number_word (decimal number) number refl states, is ∙ one_line (codes "pattern " ++ decimal number) rest)))
-said_again Four line text grounding choice rest states any is =
-    let behind_grounding : List ℕ = estimate_line choice ++ 10 ∷ rest in
+said_again Four width line text grounding choice rest states any is =
+    let behind_grounding : List ℕ = texts.lines (estimate_text width choice) ++ rest in
     let first : grounding_at line text ≡ Ok (grounding, behind_grounding) =
-    grounding_line_again line text grounding behind_grounding (is ∙ head_then (grounding_line grounding) (estimate_line choice) [] rest) in
-    ap (λ r. r >>= λ g. estimate_at (line + 1) g.1 >>= λ c. fine_stated g.0 c.0 c.1) first
-    ∙ ap (λ r. r >>= λ c. fine_stated grounding c.0 c.1) (estimate_line_again (line + 1) behind_grounding choice rest states refl)
-said_again One line text grounding (Pattern number) rest states all is = absurd states
-said_again Two line text grounding (Pattern number) rest states all is = absurd states
-said_again Three line text grounding Plain rest states all is = absurd states
+    grounding_line_again line text grounding behind_grounding (is ∙ line_and_others (grounding_line grounding) (texts.lines (estimate_text width choice)) rest) in
+    ap (λ r. r >>= λ g. estimate_at width (line + 1) g.1 >>= λ c. fine_stated g.0 c.0 c.1) first
+    ∙ ap (λ r. r >>= λ c. fine_stated grounding c.0 c.1) (estimate_lines_again width (line + 1) behind_grounding choice rest states refl)
+said_again One width line text grounding (Pattern number) rest states all is = absurd states
+said_again One width line text grounding (Tables tables) rest states all is = absurd states
+said_again Two width line text grounding (Pattern number) rest states all is = absurd states
+said_again Two width line text grounding (Tables tables) rest states all is = absurd states
+said_again Three width line text grounding Plain rest states all is = absurd states
+said_again Three width line text grounding (Tables tables) rest states all is = absurd states
 
-stated_again : (version : Version) (line : ℕ) (text : List ℕ) (stated : Stated) (rest : List ℕ) → StatesChoice version stated.choice → StatesGrounding version stated.grounding → text ≡ texts.lines (stated_text version stated) ++ rest → stated_at version line text ≡ Ok (stated, rest)
-stated_again version line text stated rest states grounded is = said_again version line text stated.grounding stated.choice rest states grounded is
+stated_again : (version : Version) (width line : ℕ) (text : List ℕ) (stated : Stated) (rest : List ℕ) → StatesChoice version width stated.choice → StatesGrounding version stated.grounding
+    → text ≡ texts.lines (stated_text version width stated) ++ rest → stated_at version width line text ≡ Ok (stated, rest)
+stated_again version width line text stated rest states grounded is = said_again version width line text stated.grounding stated.choice rest states grounded is
 
 said_width_again : (width line : ℕ) (text rest : List ℕ) → IsWidthOf Two width → text ≡ texts.lines (width_text Two width) ++ rest → width_line_at line text ≡ Ok (width, rest)
 unfolding width_line_at
@@ -322,12 +362,12 @@ head_again text spelling rest known is =
     let width = spelling.width in
     let stated : Stated = spelling.stated in
     let line = 3 + length (width_text version width) in
-    let behind_width : List ℕ = texts.lines (stated_text version stated) ++ rest in
+    let behind_width : List ℕ = texts.lines (stated_text version width stated) ++ rest in
     let behind_kind : List ℕ = texts.lines (width_text version width) ++ behind_width in
     let behind_version : List ℕ = kind_line kind ++ 10 ∷ behind_kind in
     let begins : BeginsWith text (version_line version) behind_version =
-    is ∙ head_then (version_line version) (kind_line kind) (texts.lines (width_text version width ++ stated_text version stated)) rest
-    ∙ ap (λ (t : List ℕ). version_line version ++ 10 ∷ (kind_line kind ++ 10 ∷ t)) (others_then (width_text version width) (stated_text version stated) rest) in
+    is ∙ head_then (version_line version) (kind_line kind) (texts.lines (width_text version width ++ stated_text version width stated)) rest
+    ∙ ap (λ (t : List ℕ). version_line version ++ 10 ∷ (kind_line kind ++ 10 ∷ t)) (others_then (width_text version width) (stated_text version width stated) rest) in
     let first : version_at 1 text ≡ Ok (version, behind_version) =
     ap (λ r. r >>= λ first. version_in 1 first.0 >>= λ version. fine (version, first.1)) (line_again 1 text (version_line version) behind_version begins (version_none version))
     ∙ ap (λ r. r >>= λ version. fine (version, behind_version)) (version_again 1 version) in
@@ -335,10 +375,10 @@ head_again text spelling rest known is =
     ap (λ r. r >>= λ first. (kind_in 2 first.0 >>= kind_for version 2) >>= λ kind. fine (kind, first.1)) (line_again 2 behind_version (kind_line kind) behind_kind refl (kind_none kind))
     ∙ ap (λ r. r >>= λ kind. fine (kind, behind_kind)) (kind_said_again version 2 kind known.kind) in
     let third : width_at version 3 behind_kind ≡ Ok (width, behind_width) = width_line_again version width 3 behind_kind behind_width known.width refl in
-    ap (λ r. r >>= λ v. kind_at v.0 2 v.1 >>= λ k. width_at v.0 3 k.1 >>= λ w. stated_at v.0 (3 + length (width_text v.0 w.0)) w.1 >>= λ s. fine (spelling_with v.0 k.0 w.0 s.0, s.1)) first
-    ∙ ap (λ r. r >>= λ k. width_at version 3 k.1 >>= λ w. stated_at version (3 + length (width_text version w.0)) w.1 >>= λ s. fine (spelling_with version k.0 w.0 s.0, s.1)) second
-    ∙ ap (λ r. r >>= λ w. stated_at version (3 + length (width_text version w.0)) w.1 >>= λ s. fine (spelling_with version kind w.0 s.0, s.1)) third
-    ∙ ap (λ r. r >>= λ s. fine (spelling_with version kind width s.0, s.1)) (stated_again version line behind_width stated rest known.choice known.grounding refl)
+    ap (λ r. r >>= λ v. kind_at v.0 2 v.1 >>= λ k. width_at v.0 3 k.1 >>= λ w. stated_at v.0 w.0 (3 + length (width_text v.0 w.0)) w.1 >>= λ s. fine (spelling_with v.0 k.0 w.0 s.0, s.1)) first
+    ∙ ap (λ r. r >>= λ k. width_at version 3 k.1 >>= λ w. stated_at version w.0 (3 + length (width_text version w.0)) w.1 >>= λ s. fine (spelling_with version k.0 w.0 s.0, s.1)) second
+    ∙ ap (λ r. r >>= λ w. stated_at version w.0 (3 + length (width_text version w.0)) w.1 >>= λ s. fine (spelling_with version kind w.0 s.0, s.1)) third
+    ∙ ap (λ r. r >>= λ s. fine (spelling_with version kind width s.0, s.1)) (stated_again version width line behind_width stated rest known.choice known.grounding refl)
 
 pub readable : (bytes : List ℕ) (text : Text) → Spells bytes text → text_of bytes ≡ Ok text
 unfolding text_of weight_at

@@ -1,7 +1,7 @@
 -- What is read is spelled so.
 use Rattle.std.proofs.Common.{◌≡◌, ℕ, zero, suc, ◌+◌, ◌*◌, Bool, true, false, cond, eqb, ltb, leb, ◌&&◌, Option, None, Some, List, [], ◌∷◌, ◌++◌, length, Result, Ok, Err, refl, sym, ap, ◌∙◌, subst, append_assoc}
 use Rattle.std.proofs.lemmas.Option.{same_Some}
-use Rattle.std.specs.Prelude.{codes}
+use Rattle.std.specs.Prelude.{codes, is_some}
 use Rattle.std.specs.Fmt.{decimal}
 use Rattle.std.specs.List.{list_all}
 use Rattle.std.proofs.lemmas.List.{nil_from_length}
@@ -15,22 +15,23 @@ use Rattle.pb_task.specs.declared.kind.Kind.{Kind}
 use Rattle.pb_task.specs.declared.kind.Kind.TheVariants.{Grid, Tiles, Strips}
 use Rattle.pb_task.specs.declared.grounding.Grounding.{Grounding}
 use Rattle.pb_task.specs.declared.grounding.Grounding.TheVariants.{All, Reachable}
-use Rattle.pb_estimate.specs.declared.choice.Choice.{Choice}
-use Rattle.pb_estimate.specs.declared.choice.Choice.TheVariants.{Plain, Pattern}
+use Rattle.pb_task.specs.declared.parts.TaskParts.{TaskParts}
+use Rattle.pb_tables.specs.Tables.{TablesValue}
+use Rattle.pb_table_lines.specs.Reading.{tables_at}
+use Rattle.pb_table_lines.proofs.Callers.{tables_are_read_as_written}
+use Rattle.pb_estimate.specs.Choices.{Choice, Plain, Pattern, Tables}
 use Rattle.pb_estimate.specs.declared.spelling.Stated.{Stated}
 use Rattle.pb_estimate.specs.declared.spelling.Spelling.{Spelling}
 use Rattle.pb_estimate.specs.declared.spelling.Version.{Version}
 use Rattle.pb_estimate.specs.declared.spelling.Version.TheVariants.{One, Two, Three, Four}
-use Rattle.pb_estimate.specs.Spelling.{IsWidthOf, CanBeStated, StatesChoice, StatesGrounding, IsVersionFor, IsSpelling, version_line, kind_line, width_text, grounding_line, estimate_line, stated_text, head_of}
+use Rattle.pb_estimate.specs.Spelling.{IsWidthOf, CanBeStated, StatesChoice, StatesGrounding, IsVersionFor, IsSpelling, version_line, kind_line, width_text, grounding_line, plain_line, pattern_line, estimate_text, stated_text, head_of}
 use Rattle.pb_check.specs.declared.fault.CertificateFault.{CertificateFault}
 use Rattle.pb_check.specs.declared.fault.CertificateFault.TheVariants.{Syntax}
 use Rattle.pb_lines.specs.Words.{part, behind, is_text, number_of}
 use Rattle.pb_lines.proofs.Callers.{IsNumberWord, number_word_of, number_word_is, if_some, part_is, behind_is, text_is}
 use Rattle.pb_check.specs.Words.{hex_value, hex_after, state_of}
-use Rattle.pb_check.specs.declared.fault.CheckError.{CheckError}
-use Rattle.pb_check.specs.declared.fault.CheckError.TheVariants as errors
-use Rattle.pb_check.specs.Faults.{◌>>=◌, wanted, Fails, IsFault}
-use Rattle.pb_check.specs.Reading.{line_at, number_behind, version_in, kind_in, kind_for, width_in, grounding_in, estimate_in, weight_in, closed_in, row_in, fixed_at, number_at, version_at, kind_at, width_line_at, width_at, grounding_at, estimate_at, stated_at, head_at, weight_at, row_at, actions_at, rows_at, steps_at, plan_at, plan_lines, weight_line, first_line, Text, end_at, body_at, suiting, stated_choice, choice_in, text_of}
+use Rattle.pb_check.specs.Faults.{◌>>=◌, wanted}
+use Rattle.pb_check.specs.Reading.{line_at, number_behind, version_in, kind_in, kind_for, width_in, grounding_in, estimate_in, weight_in, closed_in, row_in, fixed_at, number_at, version_at, kind_at, width_line_at, width_at, grounding_at, tables_read, estimate_at, stated_at, head_at, weight_at, row_at, actions_at, rows_at, steps_at, plan_at, plan_lines, weight_line, first_line, Text, end_at, body_at, suiting, stated_choice, choice_in, text_of}
 use Rattle.pb_check.proofs.Lines.{hex_value_after, IsStateWord, BeginsWith, BeginsWithNumber, closed_text, spelling_with, IsWeightLine, IsRowLine, AreActionLines, AreRowLines, ArePlanLines, Spells}
 
 pub bind_ok : {A B : Type 0} (r : Result A CertificateFault) (f : A → Result B CertificateFault) (y : B) → (r >>= f) ≡ Ok y → (x : A) × (r ≡ Ok x) × (f x ≡ Ok y)
@@ -142,20 +143,21 @@ grounding_is line text g e = go (is_text (grounding_line All) text) (is_text (gr
     go false true x y e = text_is (grounding_line Reachable) text y ∙ ap grounding_line (ok_is Reachable g e)
     go false false x y e = absurd cc
 
--- a line says this choice of an estimate, which can be stated
-abbrev IsEstimateLine : (text : List ℕ) → Choice → Type 0
-IsEstimateLine text choice = (text ≡ estimate_line choice) × CanBeStated choice
+-- a line alone says this choice of an estimate, which can be stated: so it has no tables
+abbrev IsEstimateLine : (width : ℕ) → (text : List ℕ) → Choice → Type 0
+IsEstimateLine width text choice = (estimate_text width choice ≡ text ∷ []) × CanBeStated width choice
 
-estimate_is : (line : ℕ) (text : List ℕ) (choice : Choice) → estimate_in line text ≡ Ok choice → IsEstimateLine text choice
+pub estimate_is : (width line : ℕ) (text : List ℕ) (choice : Choice) → estimate_in line text ≡ Ok choice → IsEstimateLine width text choice
 unfolding estimate_in
-estimate_is line text choice e = go (is_text (estimate_line Plain) text) refl e
+estimate_is width line text choice e = go (is_text plain_line text) refl e
   where
-    go : (b : Bool) → is_text (estimate_line Plain) text ≡ b → cond b (Ok Plain) (number_behind line (codes "estimate pattern ") text >>= λ number. Ok (Pattern number)) ≡ Ok choice → IsEstimateLine text choice
-    go true is e = subst (IsEstimateLine text) (ok_is Plain choice e) (text_is (estimate_line Plain) text is, tt)
+    go : (b : Bool) → is_text plain_line text ≡ b → cond b (Ok Plain) (number_behind line (codes "estimate pattern ") text >>= λ number. Ok (Pattern number)) ≡ Ok choice → IsEstimateLine width text choice
+    go true is e = subst (IsEstimateLine width text) (ok_is Plain choice e) (ap (λ (t : List ℕ). t ∷ []) (sym (text_is plain_line text is)), tt)
     go false is e =
         let a = bind_ok (number_behind line (codes "estimate pattern ") text) _ choice e in
         let w = behind_number line (codes "estimate pattern ") text a.0 a.1 in
-        subst (IsEstimateLine text) (ok_is (Pattern a.0) choice a.2) (w.2 ∙ ap (λ (t : List ℕ). codes "estimate pattern " ++ t) (number_word_is w.0 a.0 w.1), w.1.small)
+        let said : text ≡ pattern_line a.0 = w.2 ∙ ap (λ (t : List ℕ). codes "estimate pattern " ++ t) (number_word_is w.0 a.0 w.1) in
+        subst (IsEstimateLine width text) (ok_is (Pattern a.0) choice a.2) (ap (λ (t : List ℕ). t ∷ []) (sym said), w.1.small)
 
 width_is : (line : ℕ) (text : List ℕ) (n : ℕ) → width_in line text ≡ Ok n → (text ≡ codes "width " ++ decimal n) × IsWidthOf Two n
 unfolding width_in
@@ -225,14 +227,6 @@ grounding_line_is line text x e =
     let c = bind_ok (grounding_in line b.0.0) _ x b.2 in
     subst (λ (y : Grounding × List ℕ). BeginsWith text (grounding_line y.0) y.1) (ok_is (c.0, b.0.1) x c.2) (line_is line text b.0 b.1 ∙ ap (λ (t : List ℕ). t ++ 10 ∷ b.0.1) (grounding_is line b.0.0 c.0 c.1))
 
-estimate_line_is : (line : ℕ) (text : List ℕ) (x : Choice × List ℕ) → estimate_at line text ≡ Ok x → BeginsWith text (estimate_line x.0) x.1 × CanBeStated x.0
-unfolding estimate_at
-estimate_line_is line text x e =
-    let b = bind_ok (line_at line text) _ x e in
-    let c = bind_ok (estimate_in line b.0.0) _ x b.2 in
-    let is = estimate_is line b.0.0 c.0 c.1 in
-    subst (λ (y : Choice × List ℕ). BeginsWith text (estimate_line y.0) y.1 × CanBeStated y.0) (ok_is (c.0, b.0.1) x c.2) (line_is line text b.0 b.1 ∙ ap (λ (t : List ℕ). t ++ 10 ∷ b.0.1) is.0, is.1)
-
 -- one line, and what follows
 pub one_line : (first rest : List ℕ) → texts.lines (first ∷ []) ++ rest ≡ first ++ 10 ∷ rest
 one_line first rest = append_assoc (texts.line first) [] rest ∙ append_assoc first (10 ∷ []) rest
@@ -268,25 +262,55 @@ head_then first second others rest =
     ∙ ap (λ (t : List ℕ). texts.line first ++ t) (append_assoc (texts.line second) others rest ∙ append_assoc second (10 ∷ []) (others ++ rest))
     ∙ append_assoc first (10 ∷ []) (second ++ 10 ∷ (others ++ rest))
 
--- what is stated is read of its lines, and is of the version
-abbrev AreStatedLines : Version → (text : List ℕ) → Stated × List ℕ → Type 0
-AreStatedLines version text x = (text ≡ texts.lines (stated_text version x.0) ++ x.1) × StatesChoice version x.0.choice × StatesGrounding version x.0.grounding
+-- a line, other lines, and what follows
+pub line_and_others : (first others rest : List ℕ) → (texts.line first ++ others) ++ rest ≡ first ++ 10 ∷ (others ++ rest)
+line_and_others first others rest = append_assoc (texts.line first) others rest ∙ append_assoc first (10 ∷ []) (others ++ rest)
 
-stated_is : (version : Version) (line : ℕ) (text : List ℕ) (x : Stated × List ℕ) → stated_at version line text ≡ Ok x → AreStatedLines version text x
+-- a choice of an estimate is read of its lines, and can be stated
+abbrev AreEstimateLines : (width : ℕ) → (text : List ℕ) → Choice × List ℕ → Type 0
+AreEstimateLines width text x = (text ≡ texts.lines (estimate_text width x.0) ++ x.1) × CanBeStated width x.0
+
+tables_are : (width line : ℕ) (text : List ℕ) (x : Choice × List ℕ) → tables_read (tables_at width line text) ≡ Ok x → AreEstimateLines width text x
+tables_are width line text x e = go (tables_at width line text) refl e
+  where
+    go : (r : Result (TablesValue × List ℕ) ℕ) → tables_at width line text ≡ r → tables_read r ≡ Ok x → AreEstimateLines width text x
+    go (Ok read) is e = subst (AreEstimateLines width text) (ok_is (Tables read.0, read.1) x e) (tables_are_read_as_written.written width line text read.0 read.1 is)
+    go (Err refused) is e = absurd cc
+
+estimate_cases : (width line : ℕ) (text : List ℕ) (x : Choice × List ℕ) (first : List ℕ × List ℕ) → line_at line text ≡ Ok first → (b : Bool)
+    → cond b (tables_read (tables_at width line text)) (estimate_in line first.0 >>= λ choice. Ok (choice, first.1)) ≡ Ok x → AreEstimateLines width text x
+estimate_cases width line text x first at true e = tables_are width line text x e
+estimate_cases width line text x first at false e =
+    let c = bind_ok (estimate_in line first.0) _ x e in
+    let is = estimate_is width line first.0 c.0 c.1 in
+    subst (AreEstimateLines width text) (ok_is (c.0, first.1) x c.2)
+    (line_is line text first at ∙ sym (one_line first.0 first.1) ∙ ap (λ (ls : List (List ℕ)). texts.lines ls ++ first.1) (sym is.0), is.1)
+
+pub estimate_lines_are : (width line : ℕ) (text : List ℕ) (x : Choice × List ℕ) → estimate_at width line text ≡ Ok x → AreEstimateLines width text x
+unfolding estimate_at
+estimate_lines_are width line text x e =
+    let b = bind_ok (line_at line text) _ x e in
+    estimate_cases width line text x b.0 b.1 (is_some (behind (codes "estimate tables ") b.0.0)) b.2
+
+-- what is stated is read of its lines, and is of the version
+abbrev AreStatedLines : Version → (width : ℕ) → (text : List ℕ) → Stated × List ℕ → Type 0
+AreStatedLines version width text x = (text ≡ texts.lines (stated_text version width x.0) ++ x.1) × StatesChoice version width x.0.choice × StatesGrounding version x.0.grounding
+
+stated_is : (version : Version) (width line : ℕ) (text : List ℕ) (x : Stated × List ℕ) → stated_at version width line text ≡ Ok x → AreStatedLines version width text x
 unfolding stated_at
-stated_is One line text x e = subst (AreStatedLines One text) (ok_is (record { grounding = All; choice = Plain }, text) x e) (refl, tt, refl)
-stated_is Two line text x e = subst (AreStatedLines Two text) (ok_is (record { grounding = All; choice = Plain }, text) x e) (refl, tt, refl)
-stated_is Three line text x e =
+stated_is One width line text x e = subst (AreStatedLines One width text) (ok_is (record { grounding = All; choice = Plain }, text) x e) (refl, tt, refl)
+stated_is Two width line text x e = subst (AreStatedLines Two width text) (ok_is (record { grounding = All; choice = Plain }, text) x e) (refl, tt, refl)
+stated_is Three width line text x e =
     let b = bind_ok (number_at line (codes "pattern ") text) _ x e in
     let w = number_line_is line (codes "pattern ") text b.0 b.1 in
-    subst (AreStatedLines Three text) (ok_is (record { grounding = All; choice = Pattern b.0.0 }, b.0.1) x b.2)
+    subst (AreStatedLines Three width text) (ok_is (record { grounding = All; choice = Pattern b.0.0 }, b.0.1) x b.2)
     (w.2 ∙ ap (λ (t : List ℕ). (codes "pattern " ++ t) ++ 10 ∷ b.0.1) (number_word_is w.0 b.0.0 w.1) ∙ sym (one_line (codes "pattern " ++ decimal b.0.0) b.0.1), w.1.small, refl)
-stated_is Four line text x e =
+stated_is Four width line text x e =
     let b = bind_ok (grounding_at line text) _ x e in
-    let c = bind_ok (estimate_at (line + 1) b.0.1) _ x b.2 in
-    let said = estimate_line_is (line + 1) b.0.1 c.0 c.1 in
-    subst (AreStatedLines Four text) (ok_is (record { grounding = b.0.0; choice = c.0.0 }, c.0.1) x c.2)
-    (grounding_line_is line text b.0 b.1 ∙ ap (λ (t : List ℕ). grounding_line b.0.0 ++ 10 ∷ t) said.0 ∙ sym (head_then (grounding_line b.0.0) (estimate_line c.0.0) [] c.0.1), said.1, tt)
+    let c = bind_ok (estimate_at width (line + 1) b.0.1) _ x b.2 in
+    let said = estimate_lines_are width (line + 1) b.0.1 c.0 c.1 in
+    subst (AreStatedLines Four width text) (ok_is (record { grounding = b.0.0; choice = c.0.0 }, c.0.1) x c.2)
+    (grounding_line_is line text b.0 b.1 ∙ ap (λ (t : List ℕ). grounding_line b.0.0 ++ 10 ∷ t) said.0 ∙ sym (line_and_others (grounding_line b.0.0) (texts.lines (estimate_text width c.0.0)) c.0.1), said.1, tt)
 
 pub head_is : (text : List ℕ) (x : Spelling × List ℕ) → head_at text ≡ Ok x → (text ≡ texts.lines (head_of x.0) ++ x.1) × IsSpelling x.0
 unfolding head_at
@@ -295,13 +319,13 @@ head_is text x e =
     let b = bind_ok (kind_at a.0.0 2 a.0.1) _ x a.2 in
     let w = bind_ok (width_at a.0.0 3 b.0.1) _ x b.2 in
     let line = 3 + length (width_text a.0.0 w.0.0) in
-    let c = bind_ok (stated_at a.0.0 line w.0.1) _ x w.2 in
+    let c = bind_ok (stated_at a.0.0 w.0.0 line w.0.1) _ x w.2 in
     let made : Spelling = spelling_with a.0.0 b.0.0 w.0.0 c.0.0 in
     let width : List (List ℕ) = width_text a.0.0 w.0.0 in
-    let stated : List (List ℕ) = stated_text a.0.0 c.0.0 in
+    let stated : List (List ℕ) = stated_text a.0.0 w.0.0 c.0.0 in
     let kinds = kind_line_is a.0.0 2 a.0.1 b.0 b.1 in
     let wide = width_line_is a.0.0 3 b.0.1 w.0 w.1 in
-    let said = stated_is a.0.0 line w.0.1 c.0 c.1 in
+    let said = stated_is a.0.0 w.0.0 line w.0.1 c.0 c.1 in
     let behind_kind : b.0.1 ≡ texts.lines (width ++ stated) ++ c.0.1 =
     wide.0 ∙ ap (λ (t : List ℕ). texts.lines width ++ t) said.0 ∙ sym (others_then width stated c.0.1) in
     let is : text ≡ texts.lines (head_of made) ++ c.0.1 =
@@ -428,18 +452,13 @@ spelled bytes text e =
     })
 
 -- the choice of an estimate that is read of a text is the one that its first lines state
-pub choice_is : (bytes : List ℕ) (text : Text) → text_of bytes ≡ Ok text → stated_choice bytes ≡ suiting text.spelling.stated.choice
+pub choice_is : (parts : TaskParts) (bytes : List ℕ) (text : Text) → text_of bytes ≡ Ok text → stated_choice parts bytes ≡ suiting parts text.spelling.stated.choice
 unfolding text_of
-choice_is bytes text e =
+choice_is parts bytes text e =
     let a = bind_ok (head_at bytes) _ text e in
     let line = weight_line a.0.0 in
     let b = bind_ok (weight_at line a.0.1) _ text a.2 in
     let c = bind_ok (plan_at (line + 1) b.0.1) _ text b.2 in
     let d = bind_ok (body_at a.0.0.width (line + 1 + plan_lines c.0.0) c.0.1) _ text c.2 in
-    ap choice_in a.1
-    ∙ ap (λ (t : Text). suiting t.spelling.stated.choice) (ok_is (record { spelling = a.0.0; certificate = record { weight = b.0.0; plan = c.0.0; lines = d.0 }; first = first_line a.0.0 c.0.0 }) text d.2)
-
--- a head that can't be read states no choice
-pub no_head : (e : CheckError) (given : Result (Spelling × List ℕ) CertificateFault) → Fails e given → IsFault e → Plain ≡ choice_in given
-no_head errors.Memory given fails told = absurd told
-no_head (errors.Fault fault) given fails told = sym (ap choice_in fails)
+    ap (choice_in parts) a.1
+    ∙ ap (λ (t : Text). suiting parts t.spelling.stated.choice) (ok_is (record { spelling = a.0.0; certificate = record { weight = b.0.0; plan = c.0.0; lines = d.0 }; first = first_line a.0.0 c.0.0 }) text d.2)

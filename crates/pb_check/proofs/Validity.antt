@@ -20,23 +20,27 @@ use Rattle.pb_task.specs.declared.kind.Kind.TheVariants.{Grid, Tiles, Strips}
 use Rattle.pb_task.specs.declared.grounding.Grounding.{Grounding}
 use Rattle.pb_task.specs.declared.grounding.Grounding.TheVariants as groundings
 use Rattle.pb_task.specs.declared.parts.TaskParts.{TaskParts}
+use Rattle.pb_task.specs.declared.parts.TaskParts.TheVariants as tasks
 use Rattle.pb_task.specs.Parts.{space_of}
 use Rattle.pb_task.specs.Kinds.{kind_of}
 use Rattle.pb_task.specs.Groundings.{grounding_of}
 use Rattle.pb_task.specs.Widths.{width_of}
+use Rattle.pb_tables.specs.declared.fault.TablesFault.{TablesFault}
+use Rattle.pb_tables.specs.Suits.{tables_fault}
+use Rattle.pb_estimate.specs.Choices.{Choice, Plain, Pattern, Tables}
 use Rattle.pb_estimate.specs.declared.spelling.Version.{Version}
 use Rattle.pb_estimate.specs.declared.spelling.Version.TheVariants.{One, Two, Three, Four}
-use Rattle.pb_estimate.specs.Estimates.{estimate_by, suits}
+use Rattle.pb_estimate.specs.Estimates.{estimate_by, tables_suit, suits}
 use Rattle.pb_check.specs.declared.fault.CertificateFault.{CertificateFault}
 use Rattle.pb_check.specs.declared.fault.CertificateFault.TheVariants as faults
 use Rattle.pb_check.specs.declared.fault.Verdict.{Verdict}
-use Rattle.std.specs.Prelude.{IfOk}
+use Rattle.std.specs.Prelude.{IfOk, option_map, is_none}
 use Rattle.pb_check.specs.declared.fault.CheckError.{CheckError}
 use Rattle.pb_check.specs.Shown.{IsAccepted}
 use Rattle.pb_check.specs.Faults.{◌>>=◌, Gives}
 use Rattle.pb_check.specs.Reading.{Text, text_of}
 use Rattle.pb_check.specs.Spelling.{HasWidthOf}
-use Rattle.pb_check.specs.Judging.{passes, or_then, unless, same_kind, width_fault, same_grounding, grounding_fault, stated_fault, is_weight, after_step, walk, plan_fault, plan_fault_if_any, AreAbove, Rise, rows_order_fault, first_fault_by, state_fault, g_of, is_zero, target_fault, step_fault, steps_fault, may_be_cut, row_fault, verdict_of, judged, checked}
+use Rattle.pb_check.specs.Judging.{passes, or_then, unless, same_kind, width_fault, same_grounding, grounding_fault, table_fault, tables_fault_for, choice_fault, stated_fault, is_weight, after_step, walk, plan_fault, plan_fault_if_any, AreAbove, Rise, rows_order_fault, first_fault_by, state_fault, g_of, is_zero, target_fault, step_fault, steps_fault, may_be_cut, row_fault, verdict_of, judged, checked}
 use Rattle.pb_check.proofs.Finding.{order_rises}
 use Rattle.pb_check.proofs.Spelled.{bind_ok, ok_is, spelled}
 use Rattle.pb_check.proofs.Written.{is_spelled}
@@ -79,6 +83,20 @@ groundings_same groundings.All groundings.All e = refl
 groundings_same groundings.Reachable groundings.Reachable e = refl
 groundings_same groundings.All groundings.Reachable e = absurd cc
 groundings_same groundings.Reachable groundings.All e = absurd cc
+
+pub choice_suits : (parts : TaskParts) (choice : Choice) → choice_fault parts choice ≡ None → suits parts choice ≡ true
+choice_suits parts Plain e = refl
+choice_suits parts (Pattern number) e = holds (suits parts (Pattern number)) faults.Pattern e
+choice_suits parts (Tables tables) e = go parts e
+  where
+    none : (fault : Option TablesFault) → option_map (table_fault tables) fault ≡ None → is_none fault ≡ true
+    none None e = refl
+    none (Some fault) e = absurd cc
+
+    go : (parts : TaskParts) → tables_fault_for parts tables ≡ None → tables_suit parts tables ≡ true
+    go (tasks.Grid grid) e = absurd cc
+    go (tasks.Tiles tiles) e = absurd cc
+    go (tasks.Strips strips) e = none (tables_fault strips tables) e
 
 pub weighs : (weight : Weight) → is_weight weight ≡ true → IsWeight weight
 weighs weight e =
@@ -254,7 +272,7 @@ judged_valid parts greatest text verdict proper e =
       kind = kinds_same kind text.spelling.kind (holds (same_kind kind text.spelling.kind) faults.Kind (passed (unless (same_kind kind text.spelling.kind) faults.Kind) b1.0 b1.1));
       width = width_suits parts text.spelling.version text.spelling.width (passed (width_fault parts text.spelling.version text.spelling.width) bw.0 bw.1);
       grounding = groundings_same (grounding_of parts) text.spelling.stated.grounding (holds (same_grounding (grounding_of parts) text.spelling.stated.grounding) faults.Grounding (passed (grounding_fault parts text.spelling.stated) bg.0 bg.1));
-      stated = holds (suits parts text.spelling.stated.choice) faults.Pattern (passed (stated_fault parts text.spelling.stated) b0.0 b0.1);
+      stated = choice_suits parts text.spelling.stated.choice (passed (stated_fault parts text.spelling.stated) b0.0 b0.1);
       valid = record {
         weight = weighs weight (holds (is_weight weight) faults.Weight (passed (unless (is_weight weight) faults.Weight) b2.0 b2.1));
         plan = planned_if_any space text.certificate.plan b3.0 b3.1;

@@ -7,12 +7,19 @@ use Rattle.pb_model.specs.Plan.{Plan, Walk}
 use Rattle.pb_model.specs.Store.{MayBeCut}
 use Rattle.pb_model.specs.Certificate.{Line, Certificate, Ascends, HasLineWithin, cost_of, IsPlanIfAny, IsClosedLine}
 use Rattle.pb_task.specs.declared.parts.TaskParts.{TaskParts}
+use Rattle.pb_task.specs.declared.parts.TaskParts.TheVariants.{Strips}
+use Rattle.pb_task.specs.declared.parts.StripsParts.{StripsParts}
 use Rattle.pb_task.specs.Parts.{space_of, IsTask}
 use Rattle.pb_task.specs.Kinds.{kind_of}
 use Rattle.pb_task.specs.Groundings.{grounding_of}
 use Rattle.pb_task.specs.Widths.{width_of}
 use Rattle.pb_estimate.specs.declared.spelling.Spelling.{Spelling}
-use Rattle.pb_estimate.specs.declared.choice.Choice.TheVariants.{Pattern}
+use Rattle.pb_tables.specs.declared.fault.TablesFault.{TablesFault}
+use Rattle.pb_tables.specs.declared.fault.TablesFault.TheVariants as tables_faults
+use Rattle.pb_tables.specs.Tables.{TablesValue}
+use Rattle.pb_tables.specs.Suits.{tables_fault}
+use Rattle.pb_table_lines.specs.Lines.{line_number}
+use Rattle.pb_estimate.specs.Choices.{Pattern, Tables}
 use Rattle.pb_estimate.specs.declared.spelling.Version.TheVariants.{One}
 use Rattle.pb_estimate.specs.Estimates.{estimate_by, suits}
 use Rattle.pb_lines.specs.Words.{line_feeds}
@@ -105,6 +112,20 @@ abbrev pub IsPatternFault : Spelling → Type 0
 IsPatternFault spelling =
     (number : ℕ) × (spelling.stated.choice ≡ Pattern number)
     × ((1 ≤ number) × (number ≤ 12) → ⊥)
+
+-- ---- tables
+
+-- it states these tables, and this is the first fault that keeps them from suiting the task
+abbrev pub IsTablesFault : TaskParts → Spelling → TablesValue → TablesFault → Type 0
+IsTablesFault parts spelling tables fault =
+    (strips : StripsParts) × (parts ≡ Strips strips) × (spelling.stated.choice ≡ Tables tables)
+    × (tables_fault strips tables ≡ Some fault)
+
+-- the fault is in this line of the certificate, whose first line of tables is the fifth
+abbrev pub IsTableLine : TaskParts → Spelling → (line : ℕ) → Type 0
+IsTableLine parts spelling line =
+    (tables : TablesValue) × (list : ℕ) × (at : ℕ) × (line ≡ 4 + line_number tables list at)
+    × IsTablesFault parts spelling tables (tables_faults.Line list at)
 
 -- ---- faults of the plan
 
@@ -227,6 +248,13 @@ IsCaseOf parts bytes faults.Grounding =
 IsCaseOf parts bytes faults.Pattern =
     IsSaid bytes (λ spelling certificate. HasGroundingOf parts spelling
     × IsPatternFault spelling)
+IsCaseOf parts bytes (faults.Table line) =
+    IsSaid bytes (λ spelling certificate. HasGroundingOf parts spelling
+    × IsTableLine parts spelling line)
+IsCaseOf parts bytes (faults.Unpaid sum action) =
+    IsSaid bytes (λ spelling certificate. HasGroundingOf parts spelling
+    × (tables : TablesValue)
+    × IsTablesFault parts spelling tables (tables_faults.Unpaid sum action))
 IsCaseOf parts bytes faults.Weight =
     IsSaid bytes (λ spelling certificate. IsForTask parts spelling
     × (IsWeight certificate.weight → ⊥))

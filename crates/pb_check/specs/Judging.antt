@@ -1,6 +1,6 @@
 -- The first fault of a certificate that is spelled, in the stated order. Each row is judged by
 -- itself against all rows.
-use Rattle.std.specs.Prelude.{◌≡◌, ◌↔◌, ℕ, zero, suc, ◌+◌, ◌-◌, ◌*◌, ◌/◌, Bool, true, false, Option, None, Some, List, [], ◌∷◌, Result, Ok, Err, if◌then◌else◌, nat_lt, nat_le, ◌==◌, ◌&&◌, ◌<◌, ⊤}
+use Rattle.std.specs.Prelude.{◌≡◌, ◌↔◌, ℕ, zero, suc, ◌+◌, ◌-◌, ◌*◌, ◌/◌, Bool, true, false, Option, None, Some, option_map, List, [], ◌∷◌, Result, Ok, Err, if◌then◌else◌, nat_lt, nat_le, ◌==◌, ◌&&◌, ◌<◌, ⊤}
 use Rattle.pb_model.specs.declared.row.Estimate.{Estimate}
 use Rattle.pb_model.specs.declared.row.Estimate.TheVariants.{Cost, Dead}
 use Rattle.pb_model.specs.Space.{Space}
@@ -12,6 +12,7 @@ use Rattle.pb_task.specs.declared.kind.Kind.TheVariants.{Grid, Tiles, Strips}
 use Rattle.pb_task.specs.declared.grounding.Grounding.{Grounding}
 use Rattle.pb_task.specs.declared.grounding.Grounding.TheVariants.{All, Reachable}
 use Rattle.pb_task.specs.declared.parts.TaskParts.{TaskParts}
+use Rattle.pb_task.specs.declared.parts.TaskParts.TheVariants as parts
 use Rattle.pb_task.specs.Parts.{space_of}
 use Rattle.pb_task.specs.Kinds.{kind_of}
 use Rattle.pb_task.specs.Groundings.{grounding_of}
@@ -19,6 +20,12 @@ use Rattle.pb_task.specs.Widths.{width_of}
 use Rattle.pb_estimate.specs.declared.spelling.Stated.{Stated}
 use Rattle.pb_estimate.specs.declared.spelling.Version.{Version}
 use Rattle.pb_estimate.specs.declared.spelling.Version.TheVariants.{One, Two, Three, Four}
+use Rattle.pb_tables.specs.declared.fault.TablesFault.{TablesFault}
+use Rattle.pb_tables.specs.declared.fault.TablesFault.TheVariants as tables_faults
+use Rattle.pb_tables.specs.Tables.{TablesValue}
+use Rattle.pb_tables.specs.Suits.{tables_fault}
+use Rattle.pb_table_lines.specs.Lines.{line_number}
+use Rattle.pb_estimate.specs.Choices.{Choice, Plain, Pattern, Tables}
 use Rattle.pb_estimate.specs.Estimates.{estimate_by, suits}
 use Rattle.pb_check.specs.declared.fault.CertificateFault.{CertificateFault}
 use Rattle.pb_check.specs.declared.fault.CertificateFault.TheVariants as faults
@@ -73,10 +80,28 @@ abbrev pub grounding_fault : TaskParts → Stated → Option CertificateFault
 grounding_fault parts stated =
     unless (same_grounding (grounding_of parts) stated.grounding) faults.Grounding
 
--- the fault of the choice of an estimate that a text states, for this task: that it doesn't suit the
--- task
+-- a fault of tables: one of their lines by its number in the certificate, whose first line of tables
+-- is the fifth, or an action that costs less than it lowers a sum
+abbrev pub table_fault : TablesValue → TablesFault → CertificateFault
+table_fault tables (tables_faults.Line list line) = faults.Table (4 + line_number tables list line)
+table_fault tables (tables_faults.Unpaid sum action) = faults.Unpaid sum action
+
+-- the first fault that keeps tables from suiting this task; they suit no task but STRIPS
+abbrev pub tables_fault_for : TaskParts → TablesValue → Option CertificateFault
+tables_fault_for (parts.Grid grid) tables = Some faults.Kind
+tables_fault_for (parts.Tiles tiles) tables = Some faults.Kind
+tables_fault_for (parts.Strips strips) tables =
+    option_map (table_fault tables) (tables_fault strips tables)
+
+-- the fault of a choice of an estimate, for this task: that it doesn't suit the task
+abbrev pub choice_fault : TaskParts → Choice → Option CertificateFault
+choice_fault parts Plain = None
+choice_fault parts (Pattern number) = unless (suits parts (Pattern number)) faults.Pattern
+choice_fault parts (Tables tables) = tables_fault_for parts tables
+
+-- the fault of the choice of an estimate that a text states
 abbrev pub stated_fault : TaskParts → Stated → Option CertificateFault
-stated_fault parts stated = unless (suits parts stated.choice) faults.Pattern
+stated_fault parts stated = choice_fault parts stated.choice
 
 -- The choice of an estimate that a text states is no fault if and only if it suits the task, so that
 -- its estimates are admissible. Such a choice is the one that an estimator is made by.
@@ -84,7 +109,7 @@ abbrev pub StatedChoicesSuit : Type 0
 StatedChoicesSuit =
     (parts : TaskParts) (stated : Stated)
     → (stated_fault parts stated ≡ None ↔ suits parts stated.choice ≡ true)
-    × (suits parts stated.choice ≡ true → suiting stated.choice ≡ stated.choice)
+    × (suits parts stated.choice ≡ true → suiting parts stated.choice ≡ stated.choice)
 
 abbrev pub is_weight : Weight → Bool
 is_weight weight = nat_le 1 weight.den && (nat_le weight.den weight.num && nat_le weight.num 1000)

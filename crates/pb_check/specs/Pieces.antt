@@ -4,7 +4,7 @@ use Rattle.pb_model.specs.Weight.{Weight}
 use Rattle.pb_model.specs.Certificate.{Line}
 use Rattle.pb_task.specs.declared.parts.TaskParts.{TaskParts}
 use Rattle.pb_task.specs.Parts.{space_of}
-use Rattle.pb_estimate.specs.declared.choice.Choice.{Choice}
+use Rattle.pb_estimate.specs.Choices.{Choice}
 use Rattle.pb_estimate.specs.Estimates.{estimate_by}
 use Rattle.pb_check.specs.declared.fault.CertificateFault.{CertificateFault}
 use Rattle.pb_check.specs.declared.found.Found.{Found}

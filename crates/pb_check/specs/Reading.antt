@@ -1,6 +1,6 @@
 -- Reading a certificate from its first byte to its last, with the first line that is not spelled as
 -- it must be.
-use Rattle.std.specs.Prelude.{ℕ, zero, suc, ◌+◌, Bool, true, false, Option, None, Some, List, [], ◌∷◌, length, Result, Ok, Err, if◌then◌else◌, nat_le, ◌==◌, ◌&&◌, codes}
+use Rattle.std.specs.Prelude.{ℕ, zero, suc, ◌+◌, Bool, true, false, Option, None, Some, List, [], ◌∷◌, length, Result, Ok, Err, if◌then◌else◌, nat_le, ◌==◌, ◌&&◌, is_some, codes}
 use Rattle.pb_packed.specs.Sizes.{version_1_digits, most_digits}
 use Rattle.pb_model.specs.Weight.{Weight}
 use Rattle.pb_model.specs.Plan.{Plan}
@@ -9,13 +9,16 @@ use Rattle.pb_task.specs.declared.kind.Kind.{Kind}
 use Rattle.pb_task.specs.declared.kind.Kind.TheVariants.{Grid, Tiles, Strips}
 use Rattle.pb_task.specs.declared.grounding.Grounding.{Grounding}
 use Rattle.pb_task.specs.declared.grounding.Grounding.TheVariants.{All, Reachable}
-use Rattle.pb_estimate.specs.declared.choice.Choice.{Choice}
-use Rattle.pb_estimate.specs.declared.choice.Choice.TheVariants.{Plain, Pattern}
+use Rattle.pb_task.specs.declared.parts.TaskParts.{TaskParts}
+use Rattle.pb_tables.specs.Tables.{TablesValue}
+use Rattle.pb_table_lines.specs.Reading.{tables_at}
+use Rattle.pb_estimate.specs.Choices.{Choice, Plain, Pattern, Tables}
+use Rattle.pb_estimate.specs.Estimates.{suits}
 use Rattle.pb_estimate.specs.declared.spelling.Stated.{Stated}
 use Rattle.pb_estimate.specs.declared.spelling.Spelling.{Spelling}
 use Rattle.pb_estimate.specs.declared.spelling.Version.{Version}
 use Rattle.pb_estimate.specs.declared.spelling.Version.TheVariants.{One, Two, Three, Four}
-use Rattle.pb_estimate.specs.Spelling.{version_line, kind_line, width_text, grounding_line, estimate_line, head_lines}
+use Rattle.pb_estimate.specs.Spelling.{version_line, kind_line, width_text, grounding_line, plain_line, head_lines}
 use Rattle.pb_check.specs.declared.fault.CertificateFault.{CertificateFault}
 use Rattle.pb_check.specs.declared.fault.CertificateFault.TheVariants.{Syntax}
 use Rattle.pb_check.specs.Faults.{◌>>=◌, wanted}
@@ -67,10 +70,10 @@ grounding_in line text =
     if is_text (grounding_line All) text then Ok All
     else (if is_text (grounding_line Reachable) text then Ok Reachable else Err (Syntax line))
 
--- the choice of an estimate, as version 4 says it: the number of a pattern may be any
+-- the plain choice or a pattern, as a line of version 4 says it: the number of a pattern may be any
 unfoldable pub estimate_in : (line : ℕ) → List ℕ → Result Choice CertificateFault
 estimate_in line text =
-    if is_text (estimate_line Plain) text then Ok Plain else (do
+    if is_text plain_line text then Ok Plain else (do
       number ← number_behind line (codes "estimate pattern ") text
       Ok (Pattern number))
 
@@ -144,27 +147,37 @@ grounding_at line text = do
   grounding ← grounding_in line first.0
   Ok (grounding, first.1)
 
--- the line of version 4 that says the choice of an estimate
-unfoldable pub estimate_at : (line : ℕ) → List ℕ → Result (Choice × List ℕ) CertificateFault
-estimate_at line text = do
-  first ← line_at line text
-  choice ← estimate_in line first.0
-  Ok (choice, first.1)
+-- the tables that were read, or the first line that isn't spelled so
+abbrev pub tables_read : Result (TablesValue × List ℕ) ℕ → Result (Choice × List ℕ) CertificateFault
+tables_read (Ok read) = Ok (Tables read.0, read.1)
+tables_read (Err line) = Err (Syntax line)
 
--- What is stated besides. Version 4 says it in two lines: which ground atoms and actions have
--- numbers, and the choice of an estimate. Before that all of them have numbers, and no line says so.
+-- The lines of version 4 that say the choice of an estimate. Those of tables have images of so many
+-- digits.
+unfoldable pub estimate_at : (width line : ℕ) → List ℕ → Result (Choice × List ℕ) CertificateFault
+estimate_at width line text = do
+  first ← line_at line text
+  if is_some (behind (codes "estimate tables ") first.0)
+      then tables_read (tables_at width line text)
+      else (do
+        choice ← estimate_in line first.0
+        Ok (choice, first.1))
+
+-- What is stated besides, where a state has so many digits. Version 4 says which ground atoms and
+-- actions have numbers, and the choice of an estimate. Before that all of them have numbers, and no
+-- line says so.
 -- Version 3 has the number of a pattern, which may be any, in a line. Before that the choice is the
 -- plain one, and no line says it.
-unfoldable pub stated_at : Version → (line : ℕ) → List ℕ
+unfoldable pub stated_at : Version → (width line : ℕ) → List ℕ
     → Result (Stated × List ℕ) CertificateFault
-stated_at One line text = Ok (record { grounding = All; choice = Plain }, text)
-stated_at Two line text = Ok (record { grounding = All; choice = Plain }, text)
-stated_at Three line text = do
+stated_at One width line text = Ok (record { grounding = All; choice = Plain }, text)
+stated_at Two width line text = Ok (record { grounding = All; choice = Plain }, text)
+stated_at Three width line text = do
   number ← number_at line (codes "pattern ") text
   Ok (record { grounding = All; choice = Pattern number.0 }, number.1)
-stated_at Four line text = do
+stated_at Four width line text = do
   grounding ← grounding_at line text
-  choice ← estimate_at (line + 1) grounding.1
+  choice ← estimate_at width (line + 1) grounding.1
   Ok (record { grounding = grounding.0; choice = choice.0 }, choice.1)
 
 -- the lines before the weight
@@ -173,7 +186,7 @@ head_at text = do
   version ← version_at 1 text
   kind ← kind_at version.0 2 version.1
   width ← width_at version.0 3 kind.1
-  stated ← stated_at version.0 (3 + length (width_text version.0 width.0)) width.1
+  stated ← stated_at version.0 width.0 (3 + length (width_text version.0 width.0)) width.1
   Ok (
     record {
       kind = kind.0;
@@ -281,17 +294,15 @@ text_of bytes = do
 
 -- ---- what is stated, before all else is read
 
--- a choice of an estimate, if it suits each task, and else the plain one
-abbrev pub suiting : Choice → Choice
-suiting Plain = Plain
-suiting (Pattern number) =
-    if nat_le 1 number && nat_le number 12 then Pattern number else Plain
+-- a choice of an estimate, if it suits the task, and else the plain one
+abbrev pub suiting : TaskParts → Choice → Choice
+suiting parts choice = if suits parts choice then choice else Plain
 
-abbrev pub choice_in : Result (Spelling × List ℕ) CertificateFault → Choice
-choice_in (Ok head) = suiting head.0.stated.choice
-choice_in (Err fault) = Plain
+abbrev pub choice_in : TaskParts → Result (Spelling × List ℕ) CertificateFault → Choice
+choice_in parts (Ok head) = suiting parts head.0.stated.choice
+choice_in parts (Err fault) = Plain
 
--- The choice of an estimate that a text states, if it suits each task. It is the plain one if the
--- stated choice suits none, or if the text's head can't be read.
-abbrev pub stated_choice : List ℕ → Choice
-stated_choice bytes = choice_in (head_at bytes)
+-- The choice of an estimate that a text states, if it suits the task. It is the plain one if the
+-- stated choice doesn't suit it, or if the text's head can't be read.
+abbrev pub stated_choice : TaskParts → List ℕ → Choice
+stated_choice parts bytes = choice_in parts (head_at bytes)

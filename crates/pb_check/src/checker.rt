@@ -23,11 +23,11 @@ fn first_fault(
     estimator: &mut Estimator,
     bytes: &[u8],
 ) -> Result<Verdict, CheckError>
-    requires task { IsOfTask estimator.old task.now (stated_choice bytes.now) }
+    requires task { IsOfTask estimator.old task.now (stated_choice task.now bytes.now) }
     requires bytes { length bytes.now < 2 ^ 63 }
     ensures exact { Gives (λ x. x) result (checked task.now bytes.now) }
     ensures lawful { IfOk result (λ verdict. IsTask task.now) }
-    ensures task { IsOfTask estimator.new task.now (stated_choice bytes.now) }
+    ensures task { IsOfTask estimator.new task.now (stated_choice task.now bytes.now) }
 {
     let text = text_of(alloc, bytes)?;
     judge(alloc, task, estimator, &text)
@@ -44,7 +44,7 @@ pub fn check(
     estimator: &mut Estimator,
     bytes: &[u8],
 ) -> Result<Verdict, CheckError>
-    requires task { IsOfTask estimator.old task.now (stated_choice bytes.now) }
+    requires task { IsOfTask estimator.old task.now (stated_choice task.now bytes.now) }
     requires bytes { length bytes.now < 2 ^ 63 }
     // Which verdict or fault it is, unless memory ran out.
     ensures exact { Gives (λ x. x) result (checked task.now bytes.now) }
@@ -61,7 +61,7 @@ pub fn check(
     // A certificate that is cut off is refused in the line that it ends in, unless memory ran out.
     ensures cut { IsCutOff bytes.now → Gives (λ x. x) result
         (Err (Syntax (1 + line_feeds bytes.now))) }
-    ensures task { IsOfTask estimator.new task.now (stated_choice bytes.now) }
+    ensures task { IsOfTask estimator.new task.now (stated_choice task.now bytes.now) }
 {
     first_fault(alloc, task, estimator, bytes)
 }

@@ -23,6 +23,16 @@ pub enum CertificateFault {
     Grounding,
     /// It states a pattern, by a number that is not from 1 to 12.
     Pattern,
+    /// It states tables that don't suit the task. This is the first of their lines that isn't
+    /// written as it must be: its tracked atoms aren't the task's, or its image isn't of tracked
+    /// atoms or not above the one before it. If all are written so, it is the first line with an
+    /// image from which an action leads to none of the same table or trap, or that has all tracked
+    /// atoms of the goal, in a trap or with a value other than 0.
+    Table { line: u128 },
+    /// It states tables with an action that lowers one of their sums by more than its cost: the
+    /// greatest drops of the tables are summed. This is the least such sum, counted from 0, and of
+    /// it the least such action.
+    Unpaid { sum: usize, action: usize },
     /// The weight is not a fraction from 1 to 1000 whose denominator is at least 1 and whose
     /// numerator is at most 1000.
     Weight,

@@ -139,7 +139,7 @@ pub fn text_by_shares<'a, R: Threads + Sync>(
     ensures kept { GivesKept result (text_of bytes.now) }
     ensures few { IfOk result (λ x. x.first + length x.certificate.lines < 2 ^ 63) }
 {
-    let (front, rest) = front_at(bytes)?;
+    let (front, rest) = front_at(alloc, bytes)?;
     let width = front.spelling.width;
     let room = room_by(count_feeds_by(rt, rest, workers), width, rest);
     let shares = workers_for(rest.len() as u64, BYTES_A_THREAD, workers);

@@ -7,7 +7,7 @@ ghost use Rattle.pb_estimate.specs.Estimates.{estimate_by, suits};
 ghost use Rattle.pb_estimate.specs.Tables.{IsOfTask};
 ghost use Rattle.pb_check.specs.Faults.{Gives};
 ghost use Rattle.pb_check.specs.Reading.{suiting};
-ghost use Rattle.pb_check.specs.Judging.{passes, unless, same_kind, width_fault, same_grounding, grounding_fault, stated_fault, is_weight, rows_order_fault, first_fault_by, state_fault, g_of, is_zero, row_fault, bound_of, verdict_of, start_judged, judged, judged_head, judged_before, Rise};
+ghost use Rattle.pb_check.specs.Judging.{passes, unless, same_kind, width_fault, same_grounding, grounding_fault, table_fault, tables_fault_for, stated_fault, is_weight, rows_order_fault, first_fault_by, state_fault, g_of, is_zero, row_fault, bound_of, verdict_of, start_judged, judged, judged_head, judged_before, Rise};
 
 use crate::fault::{CertificateFault, CheckError, Claim, Verdict};
 use crate::passing::{need, pass, unless};
@@ -15,8 +15,10 @@ use crate::plans::{cost_of, judge_plan_if_any};
 use crate::row_faults::{rows_fault, rows_order_fault, states_fault};
 use crate::rows::StatedRows;
 use crate::stated::{StatedPlan, StatedText, StatedWeight};
-use pb_estimate::{Choice, Estimator, Stated, Version};
-use pb_task::{Grounding, Kind, Task};
+use pb_estimate::{Choice, ChoiceCase, Estimator, Stated, Version};
+use pb_table_lines::line_number;
+use pb_tables::{Tables, TablesFault};
+use pb_task::{Grounding, Kind, Task, TaskParts};
 use std::alloc::Global;
 
 fn same_kind(one: Kind, two: Kind) -> bool
@@ -67,12 +69,45 @@ fn grounding_fault(task: &Task, stated: &Stated) -> Option<CertificateFault>
     )
 }
 
+// A fault of tables as one of the certificate that states them from its fifth line on.
+fn table_fault(tables: &Tables, fault: TablesFault) -> CertificateFault
+    ensures { result ≡ table_fault tables.now fault }
+{
+    match fault {
+        TablesFault::Line { list, line } => {
+            // the bound of a line's number asks for lawful tables
+            let _ = tables.sums();
+            CertificateFault::Table {
+                line: 4 + line_number(tables, list, line),
+            }
+        }
+        TablesFault::Unpaid { sum, action } => CertificateFault::Unpaid { sum, action },
+    }
+}
+
+// The first fault that keeps tables from suiting the task. They suit no task but STRIPS.
+fn tables_fault_for(task: &Task, tables: &Tables) -> Option<CertificateFault>
+    ensures { result ≡ tables_fault_for task.now tables.now }
+{
+    match task.parts() {
+        TaskParts::Grid(_) | TaskParts::Tiles(_) => Some(CertificateFault::Kind),
+        TaskParts::Strips(strips) => match tables.fault(strips) {
+            None => None,
+            Some(fault) => Some(table_fault(tables, fault)),
+        },
+    }
+}
+
 // The fault of the choice of an estimate that a text states.
 fn stated_fault(task: &Task, stated: &Stated) -> Option<CertificateFault>
     ensures fault { result ≡ stated_fault task.now stated.now }
     ensures suits { result ≡ None → suits task.now stated.now.choice ≡ true }
 {
-    unless(stated.choice.suits(task), CertificateFault::Pattern)
+    match stated.choice.case() {
+        ChoiceCase::Plain => None,
+        ChoiceCase::Pattern(_) => unless(stated.choice.suits(task), CertificateFault::Pattern),
+        ChoiceCase::Tables(tables) => tables_fault_for(task, tables),
+    }
 }
 
 fn is_weight(weight: &StatedWeight) -> bool
@@ -124,7 +159,7 @@ fn need_rows(
     line: u64,
 ) -> Result<bool, CheckError>
     requires suits { suits task.now choice.now ≡ true }
-    requires task { IsOfTask estimator.old task.now (suiting choice.now) }
+    requires task { IsOfTask estimator.old task.now (suiting task.now choice.now) }
     requires weight { is_weight (record { num = weight.now.num; den = weight.now.den }) ≡ true }
     requires rise { Rise rows.now }
     requires states { first_fault_by (state_fault (space_of task.now)) line rows.now ≡ None }
@@ -133,7 +168,7 @@ fn need_rows(
         (passes (first_fault_by (row_fault (space_of task.now) (estimate_by task.now choice.now)
         (record { num = weight.now.num; den = weight.now.den }) (cost_of plan.now) rows.now)
         line rows.now)) }
-    ensures task { IsOfTask estimator.new task.now (suiting choice.now) }
+    ensures task { IsOfTask estimator.new task.now (suiting task.now choice.now) }
 {
     let mut places = Vec::from_elem(alloc, 0usize, task.actions() as usize)?;
     let best = cost_of(plan);
@@ -213,12 +248,12 @@ pub fn judge(
     text: &StatedText<'_>,
 ) -> Result<Verdict, CheckError>
     requires task { IsOfTask estimator.old task.now
-        (suiting text.now.spelling.stated.choice) }
+        (suiting task.now text.now.spelling.stated.choice) }
     requires lines { text.now.first + length text.now.certificate.lines < 2 ^ 64 }
     ensures verdict { Gives (λ x. x) result (judged task.now text.now) }
     ensures lawful { IsTask task.now }
     ensures task { IsOfTask estimator.new task.now
-        (suiting text.now.spelling.stated.choice) }
+        (suiting task.now text.now.spelling.stated.choice) }
 {
     let stated = &text.spelling.stated;
     let weight = &text.weight;

@@ -1,6 +1,7 @@
 //! What one line says, and the lines that say a number or a fixed word.
-ghost use Rattle.std.specs.Prelude.{◌≤◌, ◌+◌, ◌<◌, ◌^◌, length, IfOk, IfErr, Some, None, Err, Ok, Result};
+ghost use Rattle.std.specs.Prelude.{◌≡◌, ◌≤◌, ◌+◌, ◌<◌, ◌^◌, ℕ, length, IfOk, IfErr, Some, None, Err, Ok, Result};
 ghost use Rattle.pb_packed.specs.Sizes.{most_digits};
+ghost use Rattle.pb_estimate.specs.Spelling.{estimate_text};
 ghost use Rattle.pb_lines.specs.Words.{number_of, behind, part};
 ghost use Rattle.pb_check.specs.Faults.{Gives, IsFault, wanted};
 ghost use Rattle.pb_check.specs.Reading.{line_at, number_behind, version_in, kind_in, kind_for, width_in, grounding_in, estimate_in, weight_in, fixed_at, number_at};
@@ -38,7 +39,6 @@ pub(crate) fn number_in(line: u64, text: &[u8]) -> Result<u64, CheckError>
 pub(crate) fn number_behind(line: u64, text: &[u8], piece: &[u8]) -> Result<u64, CheckError>
     ensures gives { Gives (λ x. x) result (number_behind line piece.now text.now) }
     ensures small { IfOk result (λ n. n < 2 ^ 63) }
-    ensures fault { IfErr result IsFault }
 {
     match behind(text, piece) {
         Some(word) => number_in(line, word),
@@ -48,8 +48,7 @@ pub(crate) fn number_behind(line: u64, text: &[u8], piece: &[u8]) -> Result<u64,
 
 #[tactic(auto, unfolding(crate::specs::Reading::version_in))]
 pub(crate) fn version_in(line: u64, text: &[u8]) -> Result<Version, CheckError>
-    ensures gives { Gives (λ x. x) result (version_in line text.now) }
-    ensures fault { IfErr result IsFault }
+    ensures { Gives (λ x. x) result (version_in line text.now) }
 {
     if is_text(text, b"pbnf-certificate 1") {
         Ok(Version::One)
@@ -66,8 +65,7 @@ pub(crate) fn version_in(line: u64, text: &[u8]) -> Result<Version, CheckError>
 
 #[tactic(auto, unfolding(crate::specs::Reading::kind_in))]
 pub(crate) fn kind_in(line: u64, text: &[u8]) -> Result<Kind, CheckError>
-    ensures gives { Gives (λ x. x) result (kind_in line text.now) }
-    ensures fault { IfErr result IsFault }
+    ensures { Gives (λ x. x) result (kind_in line text.now) }
 {
     if is_text(text, b"kind grid") {
         Ok(Kind::Grid)
@@ -82,8 +80,7 @@ pub(crate) fn kind_in(line: u64, text: &[u8]) -> Result<Kind, CheckError>
 
 // A kind of task that this version is for.
 pub(crate) fn kind_for(version: Version, line: u64, kind: Kind) -> Result<Kind, CheckError>
-    ensures gives { Gives (λ x. x) result (kind_for version line kind) }
-    ensures fault { IfErr result IsFault }
+    ensures { Gives (λ x. x) result (kind_for version line kind) }
 {
     match (version, kind) {
         (Version::One | Version::Two | Version::Three, kind) => Ok(kind),
@@ -118,7 +115,6 @@ pub(crate) fn width_in(line: u64, text: &[u8]) -> Result<u32, CheckError>
     ensures gives { Gives (λ x. x) result (width_in line text.now) }
     ensures some { IfOk result (λ x. 1 ≤ x) }
     ensures most { IfOk result (λ x. x ≤ most_digits) }
-    ensures fault { IfErr result IsFault }
 {
     let width = number_behind(line, text, b"width ")?;
     if 1 <= width && width <= MOST_DIGITS as u64 {
@@ -130,8 +126,7 @@ pub(crate) fn width_in(line: u64, text: &[u8]) -> Result<u32, CheckError>
 
 #[tactic(auto, unfolding(crate::specs::Reading::grounding_in))]
 pub(crate) fn grounding_in(line: u64, text: &[u8]) -> Result<Grounding, CheckError>
-    ensures gives { Gives (λ x. x) result (grounding_in line text.now) }
-    ensures fault { IfErr result IsFault }
+    ensures { Gives (λ x. x) result (grounding_in line text.now) }
 {
     if is_text(text, b"grounding all") {
         Ok(Grounding::All)
@@ -142,17 +137,17 @@ pub(crate) fn grounding_in(line: u64, text: &[u8]) -> Result<Grounding, CheckErr
     }
 }
 
-// The choice of an estimate, as version 4 says it.
+// The plain choice or a pattern, as a line of version 4 says it.
 #[tactic(auto, unfolding(crate::specs::Reading::estimate_in))]
 pub(crate) fn estimate_in(line: u64, text: &[u8]) -> Result<Choice, CheckError>
     ensures gives { Gives (λ x. x) result (estimate_in line text.now) }
-    ensures fault { IfErr result IsFault }
+    ensures one { (width : ℕ) → IfOk result (λ x. length (estimate_text width x) ≡ 1) }
 {
     if is_text(text, b"estimate plain") {
-        return Ok(Choice::Plain);
+        return Ok(Choice::plain());
     }
     let number = number_behind(line, text, b"estimate pattern ")?;
-    Ok(Choice::Pattern(number))
+    Ok(Choice::of_pattern(number))
 }
 
 #[tactic(auto, unfolding(crate::specs::Reading::weight_in))]
@@ -190,7 +185,6 @@ pub(crate) fn number_at<'a>(
     ensures gives { Gives (λ x. (x.0, x.1.now)) result (number_at line piece.now text.now) }
     ensures shorter { IfOk result (λ x. length x.1.now + 1 ≤ length text.now) }
     ensures small { IfOk result (λ x. x.0 < 2 ^ 63) }
-    ensures fault { IfErr result IsFault }
 {
     let (first, rest) = line_at(line, text)?;
     let n = number_behind(line, first, piece)?;

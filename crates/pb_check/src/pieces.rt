@@ -317,7 +317,7 @@ fn need_rows<R: Threads + Sync, G: Gate>(
 ) -> Result<bool, CheckError>
     requires some { 1 ≤ length estimators.old }
     requires suits { suits task.now choice.now ≡ true }
-    requires task { All (λ e. IsOfTask e task.now (suiting choice.now)) estimators.old }
+    requires task { All (λ e. IsOfTask e task.now (suiting task.now choice.now)) estimators.old }
     requires weight { is_weight (record { num = weight.now.num; den = weight.now.den }) ≡ true }
     requires rise { Rise rows.now }
     requires states { first_fault_by (state_fault (space_of task.now)) line rows.now ≡ None }
@@ -327,7 +327,7 @@ fn need_rows<R: Threads + Sync, G: Gate>(
         (passes (first_fault_by (row_fault (space_of task.now) (estimate_by task.now choice.now)
         (record { num = weight.now.num; den = weight.now.den }) (cost_of plan.now) rows.now)
         line rows.now)) }
-    ensures task { All (λ e. IsOfTask e task.now (suiting choice.now)) estimators.new }
+    ensures task { All (λ e. IsOfTask e task.now (suiting task.now choice.now)) estimators.new }
 {
     let best = cost_of(plan);
     let fault = rows_fault_by_pieces(
@@ -373,14 +373,14 @@ fn judge<R: Threads + Sync, G: Gate>(
     piece: u64,
 ) -> Result<Verdict, CheckError>
     requires some { 1 ≤ length estimators.old }
-    requires task { All (λ e. IsOfTask e task.now (suiting text.now.spelling.stated.choice))
-        estimators.old }
+    requires task { All (λ e. IsOfTask e task.now
+        (suiting task.now text.now.spelling.stated.choice)) estimators.old }
     requires lines { text.now.first + length text.now.certificate.lines < 2 ^ 63 }
     requires piece { 1 ≤ piece }
     ensures verdict { Gives (λ x. x) result (judged task.now text.now) }
     ensures lawful { IsTask task.now }
-    ensures task { All (λ e. IsOfTask e task.now (suiting text.now.spelling.stated.choice))
-        estimators.new }
+    ensures task { All (λ e. IsOfTask e task.now
+        (suiting task.now text.now.spelling.stated.choice)) estimators.new }
 {
     judge_before(rt, task, text, estimators.len() as u64)?;
     need_rows(
@@ -410,12 +410,14 @@ fn first_fault<R: Threads + Sync, G: Gate>(
     gate: &G,
 ) -> Result<Verdict, CheckError>
     requires some { 1 ≤ length estimators.old }
-    requires task { All (λ e. IsOfTask e task.now (stated_choice bytes.now)) estimators.old }
+    requires task { All (λ e. IsOfTask e task.now (stated_choice task.now bytes.now))
+        estimators.old }
     requires bytes { length bytes.now < 2 ^ 63 }
     requires piece { 1 ≤ piece }
     ensures exact { Gives (λ x. x) result (checked task.now bytes.now) }
     ensures lawful { IfOk result (λ verdict. IsTask task.now) }
-    ensures task { All (λ e. IsOfTask e task.now (stated_choice bytes.now)) estimators.new }
+    ensures task { All (λ e. IsOfTask e task.now (stated_choice task.now bytes.now))
+        estimators.new }
 {
     let text = text_by_shares(rt, alloc, bytes, piece, estimators.len() as u64)?;
     judge(rt, alloc, gate, task, estimators, &text, piece)
@@ -443,7 +445,8 @@ pub fn check_pieces<R: Threads + Sync, G: Gate>(
     gate: &G,
 ) -> Result<Verdict, CheckError>
     requires some { 1 ≤ length estimators.old }
-    requires task { All (λ e. IsOfTask e task.now (stated_choice bytes.now)) estimators.old }
+    requires task { All (λ e. IsOfTask e task.now (stated_choice task.now bytes.now))
+        estimators.old }
     requires bytes { length bytes.now < 2 ^ 63 }
     requires piece { 1 ≤ piece }
     // Which verdict or fault it is, unless memory ran out: that of `check`, for each number of
@@ -462,7 +465,8 @@ pub fn check_pieces<R: Threads + Sync, G: Gate>(
     // A certificate that is cut off is refused in the line that it ends in, unless memory ran out.
     ensures cut { IsCutOff bytes.now → Gives (λ x. x) result
         (Err (Syntax (1 + line_feeds bytes.now))) }
-    ensures task { All (λ e. IsOfTask e task.now (stated_choice bytes.now)) estimators.new }
+    ensures task { All (λ e. IsOfTask e task.now (stated_choice task.now bytes.now))
+        estimators.new }
 {
     first_fault(rt, alloc, task, estimators, bytes, piece, gate)
 }

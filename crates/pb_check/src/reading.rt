@@ -84,7 +84,7 @@ fn plan_lines(plan: &Option<StatedPlan<'_>>) -> u64
 
 /// What the bytes say before the rows, and the text of the rows.
 #[tactic(auto, unfolding(crate::specs::Fronts::front_at))]
-pub fn front_at(bytes: &[u8]) -> Result<(StatedFront<'_>, &[u8]), CheckError>
+pub fn front_at(alloc: Global, bytes: &[u8]) -> Result<(StatedFront<'_>, &[u8]), CheckError>
     requires { length bytes.now < 2 ^ 63 }
     ensures gives { Gives (λ x. (x.0, x.1.now)) result (front_at bytes.now) }
     ensures few { IfOk result (λ x. x.0.first + length x.1.now ≤ 2 ^ 63) }
@@ -92,8 +92,8 @@ pub fn front_at(bytes: &[u8]) -> Result<(StatedFront<'_>, &[u8]), CheckError>
     ensures some { IfOk result (λ x. 1 ≤ x.0.spelling.width) }
     ensures most { IfOk result (λ x. x.0.spelling.width ≤ most_digits) }
 {
-    let (spelling, rest) = head_at(bytes)?;
-    let line = 1 + u64::from(spelling.head_lines());
+    let (spelling, rest) = head_at(alloc, bytes)?;
+    let line = 1 + spelling.head_lines() as u64;
     let (weight, rest) = weight_at(line, rest)?;
     let (plan, rest) = plan_at(line + 1, rest)?;
     let lines = plan_lines(&plan);
@@ -174,7 +174,7 @@ pub fn text_of(alloc: Global, bytes: &[u8]) -> Result<StatedText<'_>, CheckError
     ensures kept { GivesKept result (text_of bytes.now) }
     ensures few { IfOk result (λ x. x.first + length x.certificate.lines < 2 ^ 63) }
 {
-    let (front, rest) = front_at(bytes)?;
+    let (front, rest) = front_at(alloc, bytes)?;
     let width = front.spelling.width;
     let room = room_by(count_feeds(rest), width, rest);
     let spelled = spell(alloc, width, rest, room)?;

@@ -5,6 +5,7 @@ mod Homes
 mod Ways
 mod Estimates
 mod Choices
+mod Spellings
 mod Totals
 mod Costs
 mod Rounds

@@ -1,16 +1,17 @@
 -- Estimates of the cost of a way to a goal. A further kind of task is one case more of
--- `estimate_of`, and a further choice of an estimate one case of `estimate_by`, `suits` and
--- `pattern_of`.
-use Rattle.std.specs.Prelude.{ℕ, Bool, true, zero, suc, ◌+◌, ◌-◌, ◌/◌, ◌%◌, ◌==◌, ◌&&◌, nat_le, max, List, if◌then◌else◌, position, unwrap_or, slice_index}
+-- `estimate_of`, and a further choice of an estimate one case of `estimate_by` and `suits`.
+use Rattle.std.specs.Prelude.{ℕ, Bool, true, false, zero, suc, ◌+◌, ◌-◌, ◌/◌, ◌%◌, ◌==◌, ◌&&◌, nat_le, max, List, if◌then◌else◌, position, unwrap_or, slice_index}
 use Rattle.pb_packed.specs.Bits.{bits_of}
 use Rattle.pb_model.specs.declared.row.Estimate.{Estimate}
 use Rattle.pb_model.specs.declared.row.Estimate.TheVariants.{Cost, Dead}
 use Rattle.pb_task.specs.Tiles.{cell_count, board_of}
 use Rattle.pb_task.specs.declared.parts.TaskParts.{TaskParts}
 use Rattle.pb_task.specs.declared.parts.TaskParts.TheVariants.{Grid, Tiles, Strips}
-use Rattle.pb_estimate.specs.declared.choice.Choice.{Choice}
-use Rattle.pb_estimate.specs.declared.choice.Choice.TheVariants.{Plain, Pattern}
 use Rattle.pb_pattern.specs.Patterns.{pattern_value}
+use Rattle.pb_tables.specs.Tables.{TablesValue}
+use Rattle.pb_tables.specs.Suits.{suit}
+use Rattle.pb_tables.specs.Estimate.{tables_estimate}
+use Rattle.pb_estimate.specs.Choices.{Choice, Plain, Pattern, Tables}
 use Rattle.pb_estimate.specs.Hmax.{hmax}
 
 -- how far two numbers are apart
@@ -74,23 +75,29 @@ greater Dead other = Dead
 greater (Cost cost) Dead = Dead
 greater (Cost cost) (Cost least) = Cost (max cost least)
 
+-- The estimate of a state by tables: Dead if a goal holds nowhere. Only STRIPS tasks have tables.
+abbrev pub estimate_by_tables : TaskParts → TablesValue → (state : ℕ) → Estimate
+estimate_by_tables (Grid grid) tables state = estimate_of (Grid grid) state
+estimate_by_tables (Tiles tiles) tables state = estimate_of (Tiles tiles) state
+estimate_by_tables (Strips strips) tables state =
+    if strips.never then Dead else tables_estimate strips tables state
+
 -- The estimate of a state of a task by this choice. By a pattern it is the greater of the plain
 -- estimate and the pattern value.
 abbrev pub estimate_by : TaskParts → Choice → (state : ℕ) → Estimate
 estimate_by parts Plain state = estimate_of parts state
 estimate_by parts (Pattern number) state =
     greater (estimate_of parts state) (pattern_value parts number state)
+estimate_by parts (Tables tables) state = estimate_by_tables parts tables state
+
+-- whether tables suit a task; they suit STRIPS tasks alone
+abbrev pub tables_suit : TaskParts → TablesValue → Bool
+tables_suit (Grid grid) tables = false
+tables_suit (Tiles tiles) tables = false
+tables_suit (Strips strips) tables = suit strips tables
 
 -- whether a task may be searched and judged by this choice: its estimates are admissible
 abbrev pub suits : TaskParts → Choice → Bool
 suits parts Plain = true
 suits parts (Pattern number) = nat_le 1 number && nat_le number 12
-
--- the number of the pattern that the estimate looks up, and 0 if it looks up none
-abbrev pub pattern_of : Choice → ℕ
-pattern_of Plain = 0
-pattern_of (Pattern number) = number
-
--- the choice with the pattern of this number, and the plain one for 0
-abbrev pub choice_with : (pattern : ℕ) → Choice
-choice_with pattern = if pattern == 0 then Plain else Pattern pattern
+suits parts (Tables tables) = tables_suit parts tables

@@ -9,7 +9,7 @@ use Rattle.pb_task.specs.Parts.{space_of, IsTask}
 use Rattle.pb_task.specs.Tiles.{cell_count, board_of, is_board_state, IsTiles}
 use Rattle.pb_task.specs.declared.parts.StripsParts.{StripsParts}
 use Rattle.pb_task.specs.Strips.{IsStrips}
-use Rattle.pb_estimate.specs.declared.choice.Choice.{Choice}
+use Rattle.pb_estimate.specs.Choices.{Choice}
 use Rattle.pb_estimate.specs.Hmax.{atom_cost, SatisfyHmax}
 use Rattle.pb_estimate.specs.Estimates.{tile_ways, estimate_of, estimate_by, suits}
 

@@ -4,6 +4,12 @@ pub use Rattle.pb_task.specs.Strips
 pub use Rattle.pb_task.specs.Tiles
 pub use Rattle.pb_pattern.specs.Patterns
 pub use Rattle.pb_pattern.specs.Tables as PatternTables
+pub use Rattle.pb_tables.specs.Tables as CostTables
+pub use Rattle.pb_tables.specs.Suits
+pub use Rattle.pb_tables.specs.Estimate
+pub use Rattle.pb_table_lines.specs.Lines
+pub use Rattle.pb_table_lines.specs.Spelling as TableSpelling
+pub mod Choices
 pub mod Hmax
 pub mod Estimates
 pub mod CostWords

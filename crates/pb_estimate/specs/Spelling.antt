@@ -13,8 +13,9 @@ use Rattle.pb_task.specs.declared.parts.TaskParts.{TaskParts}
 use Rattle.pb_task.specs.Kinds.{kind_of, kind_name}
 use Rattle.pb_task.specs.Groundings.{grounding_of, grounding_name}
 use Rattle.pb_task.specs.Widths.{width_of}
-use Rattle.pb_estimate.specs.declared.choice.Choice.{Choice}
-use Rattle.pb_estimate.specs.declared.choice.Choice.TheVariants.{Plain, Pattern}
+use Rattle.pb_table_lines.specs.Lines.{tables_lines}
+use Rattle.pb_table_lines.specs.Spelling.{CanBeStated as TablesCanBeStated}
+use Rattle.pb_estimate.specs.Choices.{Choice, Plain, Pattern, Tables}
 use Rattle.pb_estimate.specs.declared.spelling.Stated.{Stated}
 use Rattle.pb_estimate.specs.declared.spelling.Version.{Version}
 use Rattle.pb_estimate.specs.declared.spelling.Version.TheVariants.{One, Two, Three, Four}
@@ -26,6 +27,7 @@ abbrev pub version_of : Grounding → Choice → Version
 version_of Reachable choice = Four
 version_of All Plain = Two
 version_of All (Pattern number) = Three
+version_of All (Tables tables) = Four
 
 -- How a certificate of this task is written whose search had this choice of an estimate: with as
 -- many digits as the task's states need.
@@ -45,19 +47,21 @@ IsWidthOf Two width = (1 ≤ width) × (width ≤ most_digits)
 IsWidthOf Three width = (1 ≤ width) × (width ≤ most_digits)
 IsWidthOf Four width = (1 ≤ width) × (width ≤ most_digits)
 
--- the plain choice, or a pattern by any number that a text can state
-abbrev pub CanBeStated : Choice → Type 0
-CanBeStated Plain = ⊤
-CanBeStated (Pattern number) = number < 2 ^ 63
+-- the plain choice, a pattern by any number that a text can state, or tables whose images have so
+-- many digits
+abbrev pub CanBeStated : (width : ℕ) → Choice → Type 0
+CanBeStated width Plain = ⊤
+CanBeStated width (Pattern number) = number < 2 ^ 63
+CanBeStated width (Tables tables) = TablesCanBeStated width tables
 
 -- This version states this choice. Version 3 states a pattern, by any number that a text can state,
 -- and version 4 any choice. The others say nothing of a choice.
-abbrev pub StatesChoice : Version → Choice → Type 0
-StatesChoice One Plain = ⊤
-StatesChoice Two Plain = ⊤
-StatesChoice Three (Pattern number) = number < 2 ^ 63
-StatesChoice Four choice = CanBeStated choice
-StatesChoice version choice = ⊥
+abbrev pub StatesChoice : Version → (width : ℕ) → Choice → Type 0
+StatesChoice One width Plain = ⊤
+StatesChoice Two width Plain = ⊤
+StatesChoice Three width (Pattern number) = number < 2 ^ 63
+StatesChoice Four width choice = CanBeStated width choice
+StatesChoice version width choice = ⊥
 
 -- This version states this grounding. Before version 4 none is stated: all ground atoms have
 -- numbers.
@@ -77,7 +81,7 @@ IsVersionFor Four kind = kind ≡ Strips
 -- a spelling that there is
 pub record IsSpelling (spelling : Spelling) : Type 0 where
   pub width : IsWidthOf spelling.version spelling.width
-  pub choice : StatesChoice spelling.version spelling.stated.choice
+  pub choice : StatesChoice spelling.version spelling.width spelling.stated.choice
   pub grounding : StatesGrounding spelling.version spelling.stated.grounding
   pub kind : IsVersionFor spelling.version spelling.kind
 
@@ -99,31 +103,43 @@ width_text Two width = spaced (codes "width") (decimal width) ∷ []
 width_text Three width = spaced (codes "width") (decimal width) ∷ []
 width_text Four width = spaced (codes "width") (decimal width) ∷ []
 
--- the lines that say the choice of an estimate in version 3; the plain one needs none
+-- the lines that say the choice of an estimate in version 3, which has no tables; the plain one
+-- needs none
 abbrev pub choice_text : Choice → List (List ℕ)
 choice_text Plain = []
 choice_text (Pattern number) = spaced (codes "pattern") (decimal number) ∷ []
+choice_text (Tables tables) = []
 
 abbrev pub grounding_line : Grounding → List ℕ
 grounding_line grounding = spaced (codes "grounding") (grounding_name grounding)
 
--- the line that says the choice of an estimate in version 4
-abbrev pub estimate_line : Choice → List ℕ
-estimate_line Plain = codes "estimate plain"
-estimate_line (Pattern number) = spaced (codes "estimate pattern") (decimal number)
+abbrev pub plain_line : List ℕ
+plain_line = codes "estimate plain"
+
+abbrev pub pattern_line : (number : ℕ) → List ℕ
+pattern_line number = spaced (codes "estimate pattern") (decimal number)
+
+-- the lines that say the choice of an estimate in version 4; the images of tables have so many
+-- digits
+abbrev pub estimate_text : (width : ℕ) → Choice → List (List ℕ)
+estimate_text width Plain = plain_line ∷ []
+estimate_text width (Pattern number) = pattern_line number ∷ []
+estimate_text width (Tables tables) = tables_lines width tables
 
 -- the lines that say what is stated besides
-abbrev pub stated_text : Version → Stated → List (List ℕ)
-stated_text One stated = []
-stated_text Two stated = []
-stated_text Three stated = choice_text stated.choice
-stated_text Four stated = grounding_line stated.grounding ∷ estimate_line stated.choice ∷ []
+abbrev pub stated_text : Version → (width : ℕ) → Stated → List (List ℕ)
+stated_text One width stated = []
+stated_text Two width stated = []
+stated_text Three width stated = choice_text stated.choice
+stated_text Four width stated =
+    grounding_line stated.grounding ∷ estimate_text width stated.choice
 
 abbrev pub head_of : Spelling → List (List ℕ)
 head_of spelling =
     version_line spelling.version
     ∷ kind_line spelling.kind
-    ∷ (width_text spelling.version spelling.width ++ stated_text spelling.version spelling.stated)
+    ∷ (width_text spelling.version spelling.width ++ stated_text spelling.version spelling.width
+    spelling.stated)
 
 -- how many lines come before the weight
 abbrev pub head_lines : Spelling → ℕ

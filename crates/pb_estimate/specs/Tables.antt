@@ -6,10 +6,10 @@ use Rattle.pb_task.specs.declared.parts.StripsParts.{StripsParts}
 use Rattle.pb_task.specs.declared.parts.TaskParts.{TaskParts}
 use Rattle.pb_task.specs.declared.parts.TaskParts.TheVariants as parts
 use Rattle.pb_task.specs.Strips.{has_atom}
-use Rattle.pb_estimate.specs.declared.choice.Choice.{Choice}
-use Rattle.pb_estimate.specs.declared.choice.Choice.TheVariants.{Plain, Pattern}
+use Rattle.pb_tables.specs.Tables.{TablesValue}
+use Rattle.pb_estimate.specs.Choices.{Choice, Plain, Pattern, Tables, tables_of}
 use Rattle.pb_pattern.specs.Tables.{TableValue, IsOfTask as IsTableOf}
-use Rattle.pb_estimate.specs.Estimates.{way_home}
+use Rattle.pb_estimate.specs.Estimates.{way_home, tables_suit}
 use Rattle.pb_estimate.specs.Hmax.{IsAtMost}
 use Rattle.pb_estimate.specs.Exploring.{count, cost_in, IsExploration}
 use Rattle.pb_estimate.specs.declared.exploration.AtomCost.{AtomCost}
@@ -20,8 +20,8 @@ use Rattle.pb_estimate.specs.declared.relaxed.RelaxedTask.{RelaxedTask}
 use Rattle.pb_estimate.specs.declared.action_index.ActionIndex.{ActionIndex}
 use Rattle.pb_estimate.specs.Indexed.{HasIndex}
 use Rattle.pb_estimate.specs.declared.strips.Counters.{Counters}
-use Rattle.pb_estimate.specs.declared.estimator.Tables.{Tables}
-use Rattle.pb_estimate.specs.declared.estimator.Tables.TheVariants as tables
+use Rattle.pb_estimate.specs.declared.estimator.PlainTables.{PlainTables}
+use Rattle.pb_estimate.specs.declared.estimator.PlainTables.TheVariants as plain
 
 -- the distance of each number in each cell from its cell on the goal board: at 16 times the cell,
 -- plus the number
@@ -120,32 +120,36 @@ pub record AreCounters (strips : StripsParts) (counters : Counters) : Type 0 whe
 
 -- what contracts see of an estimator
 pub record EstimatorValue : Type 0 where
-  pub plain : Tables  -- what the plain estimates need
+  pub plain : PlainTables  -- what the plain estimates need
   pub table : Option TableValue  -- the table of patterns, if the choice needs one
+  pub tables : Option TablesValue  -- the tables of the choice, if it has tables
   pub index : Option ActionIndex  -- the task's actions by the atoms that they need, if it has many
 
 -- what the plain estimates of this task need is kept
-unfoldable pub AreOfTask : Tables → TaskParts → Type 0
-AreOfTask tables.Grid (parts.Grid grid) = Unit {0}
-AreOfTask (tables.Tiles ways) (parts.Tiles tiles) = AreWaysHome tiles.cols tiles.goal ways
-AreOfTask (tables.Strips counters) (parts.Strips strips) = AreCounters strips counters
+unfoldable pub AreOfTask : PlainTables → TaskParts → Type 0
+AreOfTask plain.Grid (parts.Grid grid) = Unit {0}
+AreOfTask (plain.Tiles ways) (parts.Tiles tiles) = AreWaysHome tiles.cols tiles.goal ways
+AreOfTask (plain.Strips counters) (parts.Strips strips) = AreCounters strips counters
 AreOfTask tables task = ⊥
 
--- The table that estimates of a task by this choice look up: none for the plain choice, and for a
--- pattern the table of the task that has the pattern's number.
+-- The table of patterns that estimates of a task by this choice look up: for a pattern the table of
+-- the task that has the pattern's number, and none for another choice. Tables that are chosen suit
+-- the task.
 abbrev pub HasTable : TaskParts → Choice → Option TableValue → Type 0
 HasTable task Plain None = ⊤
 HasTable task Plain (Some table) = ⊥
 HasTable task (Pattern number) None = ⊥
 HasTable task (Pattern number) (Some table) =
     IsTableOf table task × (table.pattern ≡ number)
+HasTable task (Tables tables) None = tables_suit task tables ≡ true
+HasTable task (Tables tables) (Some table) = ⊥
 
 -- An estimator is of this task and this choice: it keeps what these estimates need. What it keeps
 -- beside that is its own matter.
 unfoldable pub IsOfTask : EstimatorValue → TaskParts → Choice → Type 0
 IsOfTask estimator task choice =
     AreOfTask estimator.plain task × HasTable task choice estimator.table
-    × HasIndex task estimator.index
+    × (estimator.tables ≡ tables_of choice) × HasIndex task estimator.index
 
 -- an estimator is of this task, by some choice
 abbrev pub IsOfSomeChoice : EstimatorValue → TaskParts → Type 0

@@ -1,10 +1,11 @@
-ghost use Rattle.std.specs.Prelude.{◌≡◌, ◌≤◌, true, IsTrue, IfOk, vec_capacity};
+ghost use Rattle.std.specs.Prelude.{◌≡◌, ◌≤◌, true, IsTrue, IfOk, None, vec_capacity};
 ghost use Rattle.std.specs.Option.{option_map, option_copied};
 ghost use Rattle.std.specs.Arc.{arc_value};
 ghost use Rattle.pb_model.specs.Space.{steps};
 ghost use Rattle.pb_task.specs.Parts.{space_of, max_degree_of};
 ghost use Rattle.pb_pattern.specs.Tables.{IsOfTask as IsTableOf};
-ghost use Rattle.pb_estimate.specs.Estimates.{choice_with, estimate_by, estimate_of, greater, pattern_of, suits};
+ghost use Rattle.pb_estimate.specs.Estimates.{estimate_by, estimate_by_tables, estimate_of, greater, suits, tables_suit};
+ghost use Rattle.pb_estimate.specs.Choices.{choice_with, pattern_of};
 ghost use Rattle.pb_estimate.specs.Indexed.{HasIndex};
 ghost use Rattle.pb_estimate.specs.Tables.{AreOfTask, HasTable, IsOfTask, IsOfSomeChoice};
 
@@ -15,6 +16,7 @@ use crate::{grid, strips, tiles};
 use pb_model::{Estimate, Succ};
 use pb_packed::Packed;
 use pb_pattern::Table;
+use pb_tables::Tables;
 use pb_task::{Task, TaskParts};
 use std::alloc::{AllocError, Global};
 use std::marker::Model;
@@ -22,7 +24,7 @@ use std::sync::Arc;
 
 /// What an estimator keeps of its task for the plain estimates, by the kind of task.
 #[derive(Drop)]
-pub enum Tables {
+pub enum PlainTables {
     /// Nothing: the distance on a grid is known from the cells alone.
     Grid,
     /// The distance of each number in each cell from its cell on the goal board, in steps, and 0
@@ -33,12 +35,13 @@ pub enum Tables {
 }
 
 /// Computes the estimates of one task's states by one choice, and finds their successors. Contracts
-/// see what it keeps, and that it is of the task and the choice. A table of patterns is shared with
-/// other estimators.
+/// see what it keeps, and that it is of the task and the choice. A table of patterns and the tables
+/// of a choice are shared with other estimators.
 #[derive(Drop)]
 pub struct Estimator {
-    plain: Tables,
+    plain: PlainTables,
     table: Option<Arc<Table>>,
+    tables: Option<Arc<Tables>>,
     index: Option<ActionIndex>,
 }
 
@@ -52,19 +55,20 @@ impl Model for Estimator {
     ghost view = { λ e. record {
       plain = e.plain;
       table = option_map arc_value e.table;
+      tables = option_map arc_value e.tables;
       index = e.index;
     } };
 }
 
-impl Tables {
+impl PlainTables {
     // What the plain estimates of a task need.
-    fn of(alloc: Global, task: &Task) -> Result<Tables, AllocError>
+    fn of(alloc: Global, task: &Task) -> Result<PlainTables, AllocError>
         ensures { IfOk result (λ tables. AreOfTask tables task.now) }
     {
         Ok(match task.parts() {
-            TaskParts::Grid(_) => Tables::Grid,
-            TaskParts::Tiles(parts) => Tables::Tiles(tiles::ways_home(parts)),
-            TaskParts::Strips(parts) => Tables::Strips(strips::counters_of(alloc, parts)?),
+            TaskParts::Grid(_) => PlainTables::Grid,
+            TaskParts::Tiles(parts) => PlainTables::Tiles(tiles::ways_home(parts)),
+            TaskParts::Strips(parts) => PlainTables::Strips(strips::counters_of(alloc, parts)?),
         })
     }
 
@@ -77,16 +81,16 @@ impl Tables {
     {
         match (task.parts(), self) {
             (TaskParts::Grid(parts), _) => Estimate::Cost(grid::distance(parts, state)),
-            (TaskParts::Tiles(parts), Tables::Tiles(ways)) => {
+            (TaskParts::Tiles(parts), PlainTables::Tiles(ways)) => {
                 Estimate::Cost(tiles::distance(parts, ways, state))
             }
-            (TaskParts::Strips(parts), Tables::Strips(counters)) => {
+            (TaskParts::Strips(parts), PlainTables::Strips(counters)) => {
                 strips::estimate(parts, counters, state)
             }
-            (TaskParts::Tiles(_), Tables::Grid) => unreachable!(),
-            (TaskParts::Tiles(_), Tables::Strips(_)) => unreachable!(),
-            (TaskParts::Strips(_), Tables::Grid) => unreachable!(),
-            (TaskParts::Strips(_), Tables::Tiles(_)) => unreachable!(),
+            (TaskParts::Tiles(_), PlainTables::Grid) => unreachable!(),
+            (TaskParts::Tiles(_), PlainTables::Strips(_)) => unreachable!(),
+            (TaskParts::Strips(_), PlainTables::Grid) => unreachable!(),
+            (TaskParts::Strips(_), PlainTables::Tiles(_)) => unreachable!(),
         }
     }
 }
@@ -114,19 +118,34 @@ fn greater(one: Estimate, other: Estimate) -> Estimate
     }
 }
 
+// The estimate of a state of a STRIPS task by tables that suit it.
+fn by_tables(task: &Task, tables: &Tables, state: &Packed) -> Estimate
+    requires suit { tables_suit task.now tables.now ≡ true }
+    ensures { result ≡ estimate_by_tables task.now tables.now state.now }
+{
+    match task.parts() {
+        TaskParts::Strips(strips) if strips.never => Estimate::Dead,
+        TaskParts::Strips(strips) => tables.estimate(strips, state),
+        TaskParts::Grid(_) | TaskParts::Tiles(_) => unreachable!(),
+    }
+}
+
 impl Estimator {
     /// The estimator of a task by a choice that suits it. All the memory that its estimates need is
-    /// taken here, with a table of its own if the choice needs one. An error is out of memory.
+    /// taken here, with a table of its own if the choice needs one. Tables of the choice are shared. An
+    /// error is out of memory.
     pub fn of(alloc: Global, task: &Task, choice: &Choice) -> Result<Estimator, AllocError>
         requires suits { suits task.now choice.now ≡ true }
         ensures { IfOk result (λ estimator. IsOfTask estimator task.now choice.now) }
     {
-        let plain = Tables::of(alloc, task)?;
+        let plain = PlainTables::of(alloc, task)?;
         let index = index_of(alloc, task)?;
         let table = choice.table(alloc, task)?;
+        let tables = choice.shared_tables()?;
         Ok(Estimator {
             plain,
             table,
+            tables,
             index,
         })
     }
@@ -138,7 +157,7 @@ impl Estimator {
         ensures { IfOk result (λ estimator. IsOfTask estimator task.now
             (choice_with (arc_value table).pattern)) }
     {
-        let plain = Tables::of(alloc, task)?;
+        let plain = PlainTables::of(alloc, task)?;
         let index = index_of(alloc, task)?;
         let table = if table.pattern() == 0 {
             None
@@ -148,12 +167,13 @@ impl Estimator {
         Ok(Estimator {
             plain,
             table,
+            tables: None,
             index,
         })
     }
 
     /// The estimator of a task by a choice, with the table that the choice needs, if it needs one.
-    /// The table is shared. An error is out of memory.
+    /// The table is shared, and so are the tables of the choice. An error is out of memory.
     pub fn by(
         alloc: Global,
         task: &Task,
@@ -163,16 +183,17 @@ impl Estimator {
         requires table { HasTable task.now choice.now (option_map arc_value (option_copied table)) }
         ensures { IfOk result (λ estimator. IsOfTask estimator task.now choice.now) }
     {
-        let _ = choice;
-        let plain = Tables::of(alloc, task)?;
+        let plain = PlainTables::of(alloc, task)?;
         let index = index_of(alloc, task)?;
         let table = match table {
             Some(table) => Some(Arc::clone(table)?),
             None => None,
         };
+        let tables = choice.shared_tables()?;
         Ok(Estimator {
             plain,
             table,
+            tables,
             index,
         })
     }
@@ -188,10 +209,10 @@ impl Estimator {
         }
     }
 
-    /// The estimate of a state of the estimator's own task, by the choice that the estimator is of,
-    /// in the unit of the task's action costs. It takes no memory.
-    pub fn estimate(&mut self, task: &Task, state: &Packed) -> Estimate
+    // The estimate of a state by the plain choice or a pattern.
+    fn plain_or_pattern(&mut self, task: &Task, state: &Packed) -> Estimate
         requires task { IsOfSomeChoice self.old task.now }
+        requires none { self.old.tables ≡ None }
         requires state { IsTrue ((space_of task.now).is_state state.now) }
         ensures estimate { (choice : _) → IsOfTask self.old task.now choice
             → result ≡ estimate_by task.now choice state.now }
@@ -202,6 +223,22 @@ impl Estimator {
         match &self.table {
             None => plain,
             Some(table) => greater(plain, table.least(task, state)),
+        }
+    }
+
+    /// The estimate of a state of the estimator's own task, by the choice that the estimator is of,
+    /// in the unit of the task's action costs. It takes no memory.
+    pub fn estimate(&mut self, task: &Task, state: &Packed) -> Estimate
+        requires task { IsOfSomeChoice self.old task.now }
+        requires state { IsTrue ((space_of task.now).is_state state.now) }
+        ensures estimate { (choice : _) → IsOfTask self.old task.now choice
+            → result ≡ estimate_by task.now choice state.now }
+        ensures task { (choice : _) → IsOfTask self.old task.now choice
+            → IsOfTask self.new task.now choice }
+    {
+        match &self.tables {
+            Some(tables) => by_tables(task, tables, state),
+            None => self.plain_or_pattern(task, state),
         }
     }
 

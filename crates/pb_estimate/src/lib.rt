@@ -5,7 +5,8 @@
 //! choice it is `estimate_of`. For grids that is the Manhattan distance to the goal. For tiles it
 //! is the sum of the Manhattan distances of all tiles from their cells on the goal board. For
 //! STRIPS tasks it is hmax: the cost of the dearest atom of the goal if nothing is deleted. By a
-//! pattern it is the greater of the plain estimate and the pattern value.
+//! pattern it is the greater of the plain estimate and the pattern value. By tables it is the
+//! greatest of their sums.
 #![tactic(auto)]
 
 mod action_index;
@@ -25,8 +26,8 @@ mod strips;
 mod tiles;
 
 pub use action_index::ActionIndex;
-pub use choice::Choice;
-pub use estimator::{Estimator, Tables};
+pub use choice::{Choice, ChoiceCase};
+pub use estimator::{Estimator, PlainTables};
 pub use exploration::{AtomCost, CostWord, Exploration};
 pub use flat_lists::FlatLists;
 pub use laws::{estimates_are_admissible, estimates_count_tiles, hmax_is_fixed};

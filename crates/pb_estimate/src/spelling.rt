@@ -1,9 +1,10 @@
 //! How a certificate is spelled. What writes certificates and what reads them both stand on this.
-ghost use Rattle.std.specs.Prelude.{◌≡◌, ◌≤◌, ℕ, length, true};
+ghost use Rattle.std.specs.Prelude.{◌≡◌, ◌<◌, ◌≤◌, ◌^◌, ℕ, length, true};
 ghost use Rattle.pb_estimate.specs.Estimates.{suits};
-ghost use Rattle.pb_estimate.specs.Spelling.{IsSpelling, spelling_of, version_of, width_text, choice_text, stated_text, head_lines};
+ghost use Rattle.pb_estimate.specs.Spelling.{IsSpelling, spelling_of, version_of, width_text, choice_text, estimate_text, stated_text, head_lines};
 
-use crate::choice::Choice;
+use crate::choice::{Choice, ChoiceCase};
+use pb_table_lines::line_count;
 use pb_task::{Grounding, Kind, Task};
 
 /// What a certificate states beside the kind of its task and the width of its states.
@@ -16,26 +17,39 @@ pub struct Stated {
 }
 
 // How many lines of a certificate of version 3 say the choice of an estimate.
-fn choice_lines(choice: &Choice) -> u32
+fn choice_lines(choice: &Choice) -> u128
     ensures lines { result ≡ length (choice_text choice.now) }
     ensures few { result ≤ 1 }
 {
-    match choice {
-        Choice::Plain => 0,
-        Choice::Pattern(_) => 1,
+    match choice.case() {
+        ChoiceCase::Plain => 0,
+        ChoiceCase::Pattern(_) => 1,
+        ChoiceCase::Tables(_) => 0,
+    }
+}
+
+// How many lines of a certificate of version 4 say the choice of an estimate.
+fn estimate_lines(choice: &Choice) -> u128
+    ensures lines { (width : ℕ) → result ≡ length (estimate_text width choice.now) }
+    ensures few { result < 2 ^ 78 }
+{
+    match choice.case() {
+        ChoiceCase::Plain => 1,
+        ChoiceCase::Pattern(_) => 1,
+        ChoiceCase::Tables(tables) => line_count(tables),
     }
 }
 
 impl Stated {
     /// How many lines of a certificate of this version say it.
-    pub fn lines(&self, version: Version) -> u32
-        ensures lines { result ≡ length (stated_text version self.now) }
-        ensures few { result ≤ 16 }
+    pub fn lines(&self, version: Version) -> u128
+        ensures lines { (width : ℕ) → result ≡ length (stated_text version width self.now) }
+        ensures few { result ≤ 2 ^ 78 }
     {
         match version {
             Version::One | Version::Two => 0,
             Version::Three => choice_lines(&self.choice),
-            Version::Four => 2,
+            Version::Four => 1 + estimate_lines(&self.choice),
         }
     }
 }
@@ -49,8 +63,8 @@ pub enum Version {
     Two,
     /// Another line states the number of a pattern.
     Three,
-    /// Of a STRIPS task alone. Two lines behind the width state which ground atoms and actions have
-    /// numbers, and the choice of an estimate.
+    /// Of a STRIPS task alone. Lines behind the width state which ground atoms and actions have
+    /// numbers, and the choice of an estimate: one line each, or as many as tables need.
     Four,
 }
 
@@ -85,10 +99,11 @@ pub struct Spelling {
 fn version_of(grounding: Grounding, choice: &Choice) -> Version
     ensures { result ≡ version_of grounding choice.now }
 {
-    match (grounding, choice) {
+    match (grounding, choice.case()) {
         (Grounding::Reachable, _) => Version::Four,
-        (Grounding::All, Choice::Plain) => Version::Two,
-        (Grounding::All, Choice::Pattern(_)) => Version::Three,
+        (Grounding::All, ChoiceCase::Plain) => Version::Two,
+        (Grounding::All, ChoiceCase::Pattern(_)) => Version::Three,
+        (Grounding::All, ChoiceCase::Tables(_)) => Version::Four,
     }
 }
 
@@ -98,6 +113,8 @@ impl Spelling {
         ensures spelling { result ≡ spelling_of task.now choice }
         ensures known { suits task.now choice ≡ true → IsSpelling result }
     {
+        let _ = choice.case();
+        let _ = task.parts();
         let grounding = task.grounding();
         Spelling {
             kind: task.kind(),
@@ -108,10 +125,10 @@ impl Spelling {
     }
 
     /// How many lines come before a certificate's weight.
-    pub fn head_lines(&self) -> u32
+    pub fn head_lines(&self) -> u128
         ensures lines { result ≡ head_lines self.now }
-        ensures few { result ≤ 19 }
+        ensures few { result < 2 ^ 79 }
     {
-        2 + self.version.width_lines() + self.stated.lines(self.version)
+        2 + u128::from(self.version.width_lines()) + self.stated.lines(self.version)
     }
 }

@@ -10,7 +10,7 @@ use Rattle.pb_machine.specs.Turns.{AreLeaseTurns}
 use Rattle.pb_machine.proofs.Callers.{merged, works_there, row_there, lease_work_goes_on, lease_work_stays, lease_turns_go_on, lease_costs_fit}
 use Rattle.pb_task.specs.declared.parts.TaskParts.{TaskParts}
 use Rattle.pb_task.specs.Parts.{space_of, greatest_cost}
-use Rattle.pb_estimate.specs.declared.choice.Choice.{Choice}
+use Rattle.pb_estimate.specs.Choices.{Choice}
 use Rattle.pb_abstract.specs.Graph.{AbstractGraph, blocks_of}
 use Rattle.pb_bundles.specs.Parts.{content_in}
 use Rattle.pb_lease.specs.LeaseValue.{LeaseValue, leased_store, HasWeights, IsSameLease}

@@ -13,7 +13,7 @@ use Rattle.pb_machine.specs.Turns.{AreLeaseTurns}
 use Rattle.pb_machine.specs.Lawful.{IsLawful}
 use Rattle.pb_task.specs.declared.parts.TaskParts.{TaskParts}
 use Rattle.pb_task.specs.Parts.{space_of, greatest_cost}
-use Rattle.pb_estimate.specs.declared.choice.Choice.{Choice}
+use Rattle.pb_estimate.specs.Choices.{Choice}
 use Rattle.pb_abstract.specs.Graph.{AbstractGraph}
 use Rattle.pb_lease.specs.LeaseValue.{LeaseValue, leased_store}
 use Rattle.pb_lease.specs.Leased.{setup_of, guide_of, grant_of, HasScope}

@@ -7,7 +7,7 @@ ghost use Rattle.pb_model.specs.Store.{HasOpened, lesser};
 ghost use Rattle.pb_model.specs.Key.{IsFirstRow};
 ghost use Rattle.pb_model.specs.declared.row.Row.{Row};
 ghost use Rattle.pb_task.specs.Parts.{space_of, max_degree_of};
-ghost use Rattle.pb_estimate.specs.declared.choice.Choice.{Choice};
+ghost use Rattle.pb_estimate.specs.Choices.{Choice};
 ghost use Rattle.pb_estimate.specs.Tables.{IsOfTask};
 ghost use Rattle.pb_abstract.specs.Graph.{AbstractGraph, IsGraphOf};
 ghost use Rattle.pb_bundles.specs.Parts.{content_in};

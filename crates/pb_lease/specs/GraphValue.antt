@@ -8,7 +8,7 @@ use Rattle.pb_machine.specs.Machine.{Setup}
 use Rattle.pb_machine.specs.Whole.{is_away}
 use Rattle.pb_task.specs.declared.parts.TaskParts.{TaskParts}
 use Rattle.pb_task.specs.Parts.{IsTask}
-use Rattle.pb_estimate.specs.declared.choice.Choice.{Choice}
+use Rattle.pb_estimate.specs.Choices.{Choice}
 use Rattle.pb_estimate.specs.Estimates.{suits}
 use Rattle.pb_lists.specs.Bundle.{Content}
 use Rattle.pb_abstract.specs.Graph.{IsGraphOf}

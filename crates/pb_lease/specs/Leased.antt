@@ -7,7 +7,7 @@ use Rattle.pb_machine.specs.Machine.{Setup, Machine, HasWorked, lent_store}
 use Rattle.pb_machine.specs.Turns.{AreLeaseTurns}
 use Rattle.pb_task.specs.declared.parts.TaskParts.{TaskParts}
 use Rattle.pb_task.specs.Parts.{space_of}
-use Rattle.pb_estimate.specs.declared.choice.Choice.{Choice}
+use Rattle.pb_estimate.specs.Choices.{Choice}
 use Rattle.pb_estimate.specs.Estimates.{estimate_by}
 use Rattle.pb_abstract.specs.Graph.{AbstractGraph, blocks_of, home_of}
 use Rattle.pb_bundles.specs.Parts.{content_in}

@@ -12,7 +12,7 @@ use Rattle.pb_machine.specs.Settings.{weight_of}
 use Rattle.pb_abstract.specs.Graph.{AbstractGraph}
 use Rattle.pb_lease.specs.GraphValue.{GraphValue}
 use Rattle.pb_workers.specs.Ends.{home_store}
-use Rattle.pb_estimate.specs.declared.choice.Choice.TheVariants.{Plain}
+use Rattle.pb_estimate.specs.Choices.{Plain}
 use Rattle.pb_check.specs.declared.fault.CertificateFault.{CertificateFault}
 use Rattle.pb_check.specs.declared.fault.Verdict.{Verdict}
 use Rattle.pb_check.specs.Judging.{verdict_of, bound_of}

@@ -8,7 +8,7 @@ use Rattle.pb_machine.specs.declared.settings.Settings.{Settings}
 use Rattle.pb_machine.specs.Settings.{standard}
 use Rattle.pb_task.specs.declared.parts.TaskParts.{TaskParts}
 use Rattle.pb_task.specs.Parts.{space_of}
-use Rattle.pb_estimate.specs.declared.choice.Choice.TheVariants.{Plain}
+use Rattle.pb_estimate.specs.Choices.{Plain}
 use Rattle.pb_search.specs.Ends.{searched_guide}
 use Rattle.pb_search.specs.Searches.{SearchEnds}
 use Rattle.pb_cert.specs.Found.{IsCertificateOf}

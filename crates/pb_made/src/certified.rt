@@ -17,6 +17,7 @@ const NAME: &str = "certificate";
 fn shelf_for(alloc: Global, len: u128) -> Result<MemShelf, AllocError>
     ensures { IfOk result (λ shelf. HasRoom shelf NAME.now len) }
 {
+    // A shelf in memory can't be made, or keep room, only if memory runs out.
     let Ok(mut shelf) = MemShelf::new(alloc) else {
         return Err(AllocError);
     };
@@ -34,10 +35,12 @@ pub(crate) fn written_text(
     ensures { IfOk result (λ text. text.items ≡ text_of certificate.now) }
 {
     let len = certificate.len();
+    // No block of memory has a length of more than 64 bits.
     let Ok(most) = u64::try_from(len) else {
         return Err(AllocError);
     };
     let mut shelf = shelf_for(alloc, len)?;
+    // The shelf has room for exactly this text, so no call of it fails.
     match certificate.write_to(&mut shelf, NAME) {
         Ok(()) => {}
         Err(Failed) => unreachable!(),
@@ -58,7 +61,9 @@ pub(crate) fn verdict_of(
 ) -> Result<Option<Verdict>, AllocError>
     ensures { IfOk result (IsJudged task.now text.now) }
 {
-    let mut estimator = Estimator::of(alloc, task, &stated_choice(text))?;
+    // The checker asks for an estimator by the choice that the text itself states.
+    let choice = stated_choice(alloc, task, text)?;
+    let mut estimator = Estimator::of(alloc, task, &choice)?;
     match check(alloc, task, &mut estimator, text) {
         Ok(verdict) => Ok(Some(verdict)),
         Err(CheckError::Fault(_)) => Ok(None),

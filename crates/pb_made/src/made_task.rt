@@ -85,6 +85,7 @@ fn made_blocks(alloc: Global, seed: u32, blocks: u32) -> Result<Task, AllocError
 {
     let domain = blocks_tree(alloc)?;
     let problem = problem_tree(alloc, seed, blocks)?;
+    // A made task is small, so its grounding needs no stop.
     let mut looks = Looks::endless();
     match ground(alloc, &domain, &problem, &mut looks) {
         Ok(task) => Ok(task),

@@ -4,7 +4,7 @@ ghost use Rattle.std.specs.Arc.{arc_value};
 ghost use Rattle.pb_machine.specs.Settings.{AreInRange, weight_of};
 ghost use Rattle.pb_model.specs.Plan.{IsBound, HasNoPlan, NoneCheaper};
 ghost use Rattle.pb_task.specs.Parts.{space_of};
-ghost use Rattle.pb_estimate.specs.declared.choice.Choice.TheVariants.{Plain};
+ghost use Rattle.pb_estimate.specs.Choices.{Plain};
 ghost use Rattle.pb_workers.specs.Ends.{home_store};
 ghost use Rattle.pb_check.specs.declared.fault.Claim.TheVariants.{Bounded, Unsolvable};
 ghost use Rattle.pb_made.specs.Made.{IsSize, OfMade};
@@ -84,6 +84,7 @@ pub fn solve_made<R: Threads + Wait + Sync, G: Gate>(
     ensures stopped { IfOk result (λ a. IfStopped a (λ budget.
         OfMade kind seed size (λ task. IsStopped task workers budget))) }
 {
+    // Both numbers are below 2^32, by `seed` and `size`.
     let made = made_task(alloc, kind, seed as u32, size as u32)?;
     let task = Arc::new(alloc, made)?;
     answer_task(rt, alloc, &task, workers, gate)
@@ -107,6 +108,7 @@ fn answer_task<R: Threads + Wait + Sync, G: Gate>(
     match graph.end() {
         Some(End::Quiet) => answer_end(alloc, task, &graph, workers),
         Some(End::Budget) => Ok(MadeAnswer::Stopped { budget }),
+        // `search` gives no other end: that memory ran out is its error.
         Some(End::Memory) | None => unreachable!(),
     }
 }
@@ -126,6 +128,7 @@ fn answer_end(
     let judgement = verdict_of(alloc, task, text.as_slice())?;
     match judgement {
         Some(verdict) => Ok(MadeAnswer::Accepted { verdict }),
+        // The certificate of a quiet search is always accepted.
         None => unreachable!(),
     }
 }
@@ -151,6 +154,7 @@ fn traced_plan(alloc: Global, task: &Task, graph: &LeaseGraph) -> Result<Option<
         (searched_guide task.now graph.now.table.abstraction graph.now.table.settings)
         (home_store graph.now)) }
 {
+    // Called for its clause `lawful`: the proof asks for a lawful task.
     let _lawful = task.max_degree();
     let plan = trace(alloc, task, graph)?;
     Ok(Some(plan))
@@ -173,6 +177,7 @@ fn certificate_text(
         (searched_guide task.now graph.now.table.abstraction graph.now.table.settings)
         (home_store graph.now) plan text.items) }
 {
+    // Called for its clause `lawful`, as above.
     let _lawful = task.max_degree();
     let spelling = Spelling::of(task, graph.choice().clone()?);
     let certificate = Certificate::of(alloc, spelling, plan, graph)?;

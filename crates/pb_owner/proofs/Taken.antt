@@ -7,7 +7,7 @@ use Rattle.pb_model.specs.Work.{offered_row}
 use Rattle.pb_model.proofs.Callers.{by_cases, equal}
 use Rattle.pb_lists.specs.Bundle.{row_of}
 use Rattle.pb_task.specs.declared.parts.TaskParts.{TaskParts}
-use Rattle.pb_estimate.specs.declared.choice.Choice.{Choice}
+use Rattle.pb_estimate.specs.Choices.{Choice}
 use Rattle.pb_estimate.specs.Estimates.{estimate_by}
 use Rattle.pb_mail.specs.declared.letter.Sent.{Sent}
 use Rattle.pb_mail.specs.declared.view.View.{View}

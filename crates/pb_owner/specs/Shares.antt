@@ -12,7 +12,7 @@ use Rattle.pb_model.specs.Work.{Work, break_off, expansions, broken_expansions}
 use Rattle.pb_machine.specs.Turns.{IsLeaseTurn}
 use Rattle.pb_lists.specs.Bundle.{Content, row_of}
 use Rattle.pb_task.specs.declared.parts.TaskParts.{TaskParts}
-use Rattle.pb_estimate.specs.declared.choice.Choice.{Choice}
+use Rattle.pb_estimate.specs.Choices.{Choice}
 use Rattle.pb_estimate.specs.Estimates.{estimate_by}
 use Rattle.pb_abstract.specs.Graph.{AbstractGraph, home_of}
 use Rattle.pb_mail.specs.declared.letter.Letter.{Letter}

@@ -10,7 +10,8 @@ use Rattle.pb_machine.specs.Settings.{AreInRange}
 use Rattle.pb_task.specs.declared.parts.TaskParts.{TaskParts}
 use Rattle.pb_task.specs.Parts.{space_of, greatest_cost, IsTask}
 use Rattle.pb_task.proofs.Callers.{tasks_are_proper}
-use Rattle.pb_estimate.specs.Estimates.{choice_with, suits}
+use Rattle.pb_estimate.specs.Estimates.{suits}
+use Rattle.pb_estimate.specs.Choices.{choice_with}
 use Rattle.pb_estimate.proofs.Callers.{estimates_are_admissible}
 use Rattle.pb_abstract.specs.Projection.{IsFinest}
 use Rattle.pb_abstract.specs.Graph.{AbstractGraph, IsGraphOf}

@@ -6,7 +6,7 @@ use Rattle.pb_machine.specs.Settings.{AreInRange}
 use Rattle.pb_task.specs.declared.parts.TaskParts.{TaskParts}
 use Rattle.pb_task.specs.Parts.{space_of, greatest_cost, IsTask}
 use Rattle.pb_task.proofs.Callers.{tasks_are_proper}
-use Rattle.pb_estimate.specs.declared.choice.Choice.{Choice}
+use Rattle.pb_estimate.specs.Choices.{Choice}
 use Rattle.pb_abstract.specs.Graph.{AbstractGraph}
 use Rattle.pb_hashed.proofs.Callers.{mail_keeps_sound, agreed_is_sound}
 use Rattle.pb_owner.specs.Shares.{guide_for}

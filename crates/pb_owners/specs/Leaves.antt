@@ -5,7 +5,7 @@ use Rattle.pb_machine.specs.declared.event.End.TheVariants.{Quiet}
 use Rattle.pb_machine.specs.declared.settings.Settings.{Settings}
 use Rattle.pb_task.specs.declared.parts.TaskParts.{TaskParts}
 use Rattle.pb_task.specs.Parts.{space_of}
-use Rattle.pb_estimate.specs.Estimates.{choice_with}
+use Rattle.pb_estimate.specs.Choices.{choice_with}
 use Rattle.pb_abstract.specs.Projection.{IsFinest}
 use Rattle.pb_abstract.specs.Graph.{IsGraphOf}
 use Rattle.pb_lists.specs.Store.{IsQuietEnd}

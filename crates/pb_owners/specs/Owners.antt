@@ -13,7 +13,7 @@ use Rattle.pb_machine.specs.declared.settings.Settings.{Settings}
 use Rattle.pb_machine.specs.Settings.{AreInRange, weight_of}
 use Rattle.pb_task.specs.declared.parts.TaskParts.{TaskParts}
 use Rattle.pb_task.specs.Parts.{space_of}
-use Rattle.pb_estimate.specs.declared.choice.Choice.{Choice}
+use Rattle.pb_estimate.specs.Choices.{Choice}
 use Rattle.pb_estimate.specs.Estimates.{suits}
 use Rattle.pb_abstract.specs.Graph.{AbstractGraph, IsGraphOf}
 use Rattle.pb_owner.specs.declared.share.Share.{Share}

@@ -31,7 +31,7 @@ use Rattle.pb_journal.specs.declared.error.Why.TheVariants as why
 use Rattle.pb_check.specs.declared.fault.Verdict.{Verdict}
 use Rattle.pb_check.specs.declared.fault.Claim.TheVariants.{Bounded, Unsolvable}
 use Rattle.pb_check.specs.declared.fault.CertificateFault.{CertificateFault}
-use Rattle.pb_check.specs.declared.fault.CertificateFault.TheVariants.{Syntax, Kind, Width, Grounding, Pattern, Weight, PlanStep, NotGoal, Cost, RowOrder, BadState, NoStart, GoalClosed, Missing, TooDear, Low}
+use Rattle.pb_check.specs.declared.fault.CertificateFault.TheVariants.{Syntax, Kind, Width, Grounding, Pattern, Table, Unpaid, Weight, PlanStep, NotGoal, Cost, RowOrder, BadState, NoStart, GoalClosed, Missing, TooDear, Low}
 
 -- a line of words and a number
 abbrev pub with_number : (words : List ℕ) → (number : ℕ) → List ℕ
@@ -83,6 +83,8 @@ fault_text Kind = line (codes "refused Kind")
 fault_text (Width said wanted) = with_numbers (codes "refused Width") said wanted
 fault_text Grounding = line (codes "refused Grounding")
 fault_text Pattern = line (codes "refused Pattern")
+fault_text (Table at) = with_number (codes "refused Table") at
+fault_text (Unpaid sum action) = with_numbers (codes "refused Unpaid") sum action
 fault_text Weight = line (codes "refused Weight")
 fault_text (PlanStep step) = with_number (codes "refused PlanStep") step
 fault_text NotGoal = line (codes "refused NotGoal")

@@ -65,8 +65,18 @@ pub(crate) fn push_with_numbers_and_word(
     push_line(out, word)
 }
 
-// A line of a text, a number, a space and a number that may be wider.
-pub(crate) fn push_with_wide(
+// A line of a text and a number that may be wider than 64 bits.
+pub(crate) fn push_with_wide(out: &mut Vec<u8>, text: &[u8], number: u128) -> Result<(), AllocError>
+    ensures { OnOk result (out.new.items ≡ out.old.items ++ line (text.now ++ decimal number)) }
+{
+    // `push_number` takes numbers of 64 bits alone.
+    let mut buffer = Buffer::new();
+    push_text(out, text)?;
+    push_line(out, buffer.format(number).as_bytes())
+}
+
+// A line of a text, a number, a space and a number that may be wider than 64 bits.
+pub(crate) fn push_with_number_and_wide(
     out: &mut Vec<u8>,
     text: &[u8],
     first: u64,
@@ -75,9 +85,8 @@ pub(crate) fn push_with_wide(
     ensures { OnOk result (out.new.items ≡ out.old.items ++ line
         (text.now ++ spaced (decimal first) (decimal second))) }
 {
-    let mut buffer = Buffer::new();
     push_spaced(out, text, first)?;
-    push_line(out, buffer.format(second).as_bytes())
+    push_with_wide(out, b"", second)
 }
 
 // The names of the actions, a line each.

@@ -1,3 +1,4 @@
+//! Reports, each made whole: if memory runs out, nothing of it has been printed.
 ghost use Rattle.std.specs.Prelude.{◌≡◌, ◌++◌, ◌^◌, ◌<◌, Some, IfOk};
 ghost use Rattle.std.specs.Fmt.{decimal};
 ghost use Rattle.pb_model.specs.Texts.{line, spaced, none_report, stopped_report};
@@ -6,7 +7,8 @@ ghost use Rattle.pb_lifted.specs.declared.refusal.TypingRefusal.TheVariants.{Nam
 ghost use Rattle.pb_report.specs.Texts.{AreActions, plan_text, claim_text, verdict_text, made_text, fault_text, input_text, tiles_text, file_number, syntax_text, refusal_text, strips_text, stopped_grounding_report, journal_report, journal_fault_text};
 
 use crate::pieces::{
-    push_steps, push_with_number, push_with_numbers, push_with_numbers_and_word, push_with_wide,
+    push_steps, push_with_number, push_with_number_and_wide, push_with_numbers,
+    push_with_numbers_and_word, push_with_wide,
 };
 use crate::words::{cause_word, file_number, left_out_word, want_word, why_word};
 use pb_cert::Plan;
@@ -159,10 +161,19 @@ impl Report {
             ),
             CertificateFault::Grounding => Report::of_line(alloc, b"refused Grounding"),
             CertificateFault::Pattern => Report::of_line(alloc, b"refused Pattern"),
+            // The number of a table's line may need more than 64 bits.
+            CertificateFault::Table { line } => Report::with_wide(alloc, b"refused Table ", line),
+            CertificateFault::Unpaid { sum, action } => Report::with_numbers(
+                alloc,
+                b"refused Unpaid ",
+                sum as u64,
+                b" ",
+                action as u64,
+            ),
             CertificateFault::Weight => Report::of_line(alloc, b"refused Weight"),
             CertificateFault::PlanStep { i } => Report::with_number(alloc, b"refused PlanStep ", i),
             CertificateFault::NotGoal => Report::of_line(alloc, b"refused NotGoal"),
-            CertificateFault::Cost { said, real } => Report::with_wide(
+            CertificateFault::Cost { said, real } => Report::with_number_and_wide(
                 alloc,
                 b"refused Cost ",
                 said,
@@ -405,13 +416,27 @@ impl Report {
         Ok(Report { bytes })
     }
 
-    // One line of a text, a number, a space and a number that may be wider.
-    fn with_wide(alloc: Global, text: &[u8], first: u64, second: u128) -> Result<Report, AllocError>
+    // One line of a text and a number that may be wider than 64 bits.
+    fn with_wide(alloc: Global, text: &[u8], number: u128) -> Result<Report, AllocError>
+        ensures { IfOk result (λ report. report ≡ line (text.now ++ decimal number)) }
+    {
+        let mut bytes = Vec::new(alloc);
+        push_with_wide(&mut bytes, text, number)?;
+        Ok(Report { bytes })
+    }
+
+    // One line of a text, a number, a space and a number that may be wider than 64 bits.
+    fn with_number_and_wide(
+        alloc: Global,
+        text: &[u8],
+        first: u64,
+        second: u128,
+    ) -> Result<Report, AllocError>
         ensures { IfOk result (λ report. report
             ≡ line (text.now ++ spaced (decimal first) (decimal second))) }
     {
         let mut bytes = Vec::new(alloc);
-        push_with_wide(&mut bytes, text, first, second)?;
+        push_with_number_and_wide(&mut bytes, text, first, second)?;
         Ok(Report { bytes })
     }
 }

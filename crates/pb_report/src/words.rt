@@ -1,3 +1,5 @@
+//! The words that reports print for files, causes and reasons. Each is written out, so that no
+//! printed text changes with the name of a variant.
 ghost use Rattle.std.specs.Prelude.{◌≡◌};
 ghost use Rattle.pb_report.specs.Texts.{file_number, want_word, left_out_word, cause_word, why_word};
 

@@ -16,13 +16,12 @@ use Rattle.pb_task.specs.declared.kind.Kind.{Kind}
 use Rattle.pb_task.specs.declared.kind.Kind.TheVariants.{Grid, Tiles, Strips}
 use Rattle.pb_task.specs.declared.grounding.Grounding.{Grounding}
 use Rattle.pb_task.specs.declared.grounding.Grounding.TheVariants.{All, Reachable}
-use Rattle.pb_estimate.specs.declared.choice.Choice.{Choice}
-use Rattle.pb_estimate.specs.declared.choice.Choice.TheVariants.{Plain, Pattern}
+use Rattle.pb_estimate.specs.Choices.{Choice, Plain, Pattern, Tables}
 use Rattle.pb_estimate.specs.declared.spelling.Spelling.{Spelling}
 use Rattle.pb_estimate.specs.declared.spelling.Stated.{Stated}
 use Rattle.pb_estimate.specs.declared.spelling.Version.{Version}
 use Rattle.pb_estimate.specs.declared.spelling.Version.TheVariants.{One, Two, Three, Four}
-use Rattle.pb_estimate.specs.Spelling.{version_line, kind_line, width_text, choice_text, grounding_line, estimate_line, stated_text, head_of, spelled_text}
+use Rattle.pb_estimate.specs.Spelling.{version_line, kind_line, width_text, choice_text, grounding_line, estimate_text, stated_text, head_of, spelled_text}
 
 pub line_long : (text : List ℕ) → length (line text) ≡ length text + 1
 line_long text = length-append text (10 ∷ [])
@@ -168,10 +167,11 @@ weight_long weight num den =
     let dens = number_long weight.den den in
     omega (arith, whole, one, two, nums, dens)
 
--- a choice whose number is small
+-- the plain choice, or a pattern whose number is small; no search of the program has tables
 abbrev pub IsSmallChoice : Choice → Type 0
 IsSmallChoice Plain = ⊤
 IsSmallChoice (Pattern number) = number < 2 ^ 63
+IsSmallChoice (Tables tables) = ⊥
 
 kind_long : (kind : Kind) → length (line (kind_line kind)) ≤ 12
 kind_long Grid = omega arith
@@ -212,6 +212,7 @@ choice_long (Pattern number) small =
     let two = spaced_long (codes "pattern") (decimal number) in
     let digits = number_long number small in
     omega (arith, one, two, digits)
+choice_long (Tables tables) small = absurd small
 
 lines_append : (first second : List (List ℕ)) → length (lines (first ++ second))
     ≡ length (lines first) + length (lines second)
@@ -226,35 +227,35 @@ grounding_long : (grounding : Grounding) → length (line (grounding_line ground
 grounding_long All = omega arith
 grounding_long Reachable = omega arith
 
-estimate_long : (choice : Choice) → IsSmallChoice choice → length (line (estimate_line choice)) ≤ 37
-estimate_long Plain small = omega arith
-estimate_long (Pattern number) small =
-    let one = line_long (spaced (codes "estimate pattern") (decimal number)) in
+estimate_long : (width : ℕ) (choice : Choice) → IsSmallChoice choice
+    → length (lines (estimate_text width choice)) ≤ 37
+estimate_long width Plain small = omega arith
+estimate_long width (Pattern number) small =
+    let one = one_line_long (spaced (codes "estimate pattern") (decimal number)) in
     let two = spaced_long (codes "estimate pattern") (decimal number) in
     let digits = number_long number small in
     omega (arith, one, two, digits)
+estimate_long width (Tables tables) small = absurd small
 
-stated_long : (version : Version) (stated : Stated) → IsSmallChoice stated.choice
-    → length (lines (stated_text version stated)) ≤ 57
-stated_long One stated small = omega arith
-stated_long Two stated small = omega arith
-stated_long Three stated small =
+stated_long : (version : Version) (width : ℕ) (stated : Stated) → IsSmallChoice stated.choice
+    → length (lines (stated_text version width stated)) ≤ 57
+stated_long One width stated small = omega arith
+stated_long Two width stated small = omega arith
+stated_long Three width stated small =
     let choice = choice_long stated.choice small in
     omega (arith, choice)
-stated_long Four stated small =
-    let estimate = lines (estimate_line stated.choice ∷ []) in
+stated_long Four width stated small =
+    let estimate = lines (estimate_text width stated.choice) in
     let both = length-append (line (grounding_line stated.grounding)) estimate in
-    let one = one_line_long (estimate_line stated.choice) in
-    let other = line_long (estimate_line stated.choice) in
     let grounding = grounding_long stated.grounding in
-    let choice = estimate_long stated.choice small in
-    omega (arith, both, one, other, grounding, choice)
+    let choice = estimate_long width stated.choice small in
+    omega (arith, both, grounding, choice)
 
 head_long : (spelling : Spelling) → spelling.width < 2 ^ 63 → IsSmallChoice spelling.stated.choice
     → length (lines (head_of spelling)) ≤ 114
 head_long spelling small fine =
     let widths = width_text spelling.version spelling.width in
-    let stated = stated_text spelling.version spelling.stated in
+    let stated = stated_text spelling.version spelling.width spelling.stated in
     let first = length-append (line (version_line spelling.version))
     (line (kind_line spelling.kind) ++ lines (widths ++ stated)) in
     let second = length-append (line (kind_line spelling.kind)) (lines (widths ++ stated)) in
@@ -262,7 +263,7 @@ head_long spelling small fine =
     let version = version_long spelling.version in
     let kind = kind_long spelling.kind in
     let width = width_long spelling.version spelling.width small in
-    let besides = stated_long spelling.version spelling.stated fine in
+    let besides = stated_long spelling.version spelling.width spelling.stated fine in
     omega (arith, first, second, third, version, kind, width, besides)
 
 -- a certificate whose numbers are small, with so many rows and steps at most

@@ -21,8 +21,8 @@ use Rattle.pb_machine.specs.Settings.{AreInRange}
 use Rattle.pb_task.specs.declared.parts.TaskParts.{TaskParts}
 use Rattle.pb_task.specs.Parts.{space_of, IsTask, action_name, greatest_cost}
 use Rattle.pb_task.proofs.Callers.{tasks_are_proper, states_fit_their_width}
-use Rattle.pb_estimate.specs.declared.choice.Choice.TheVariants.{Plain, Pattern}
-use Rattle.pb_estimate.specs.Estimates.{choice_with}
+use Rattle.pb_estimate.specs.Choices.{Plain, Pattern}
+use Rattle.pb_estimate.specs.Choices.{choice_with}
 use Rattle.pb_estimate.specs.Spelling.{spelling_of}
 use Rattle.pb_cert.specs.Found.{certificate_of, IsCertificateOf}
 use Rattle.pb_cert.proofs.Callers.{walk_actions}

@@ -10,10 +10,10 @@ use Rattle.pb_task.specs.declared.grounding.Grounding.TheVariants.{All, Reachabl
 use Rattle.pb_task.specs.Groundings.{grounding_of, grounding_name}
 use Rattle.pb_task.specs.Widths.{width_of}
 use Rattle.pb_task.specs.declared.parts.TaskParts.{TaskParts}
-use Rattle.pb_estimate.specs.declared.choice.Choice.{Choice}
-use Rattle.pb_estimate.specs.declared.choice.Choice.TheVariants.{Plain, Pattern}
+use Rattle.pb_estimate.specs.Choices.{Choice}
+use Rattle.pb_estimate.specs.Choices.{Plain, Pattern}
 use Rattle.pb_estimate.specs.declared.spelling.Spelling.{Spelling}
-use Rattle.pb_estimate.specs.Estimates.{choice_with}
+use Rattle.pb_estimate.specs.Choices.{choice_with}
 use Rattle.pb_estimate.specs.Spelling.{head_of, spelling_of, version_of}
 use Rattle.pb_command.specs.Meaning.{Reading, Read, Solve, SolveMeaning}
 use Rattle.pb_command.specs.Options.{SolveReadsOptions, kind_word}

@@ -18,7 +18,7 @@ use Rattle.pb_machine.specs.declared.event.Event.{Event}
 use Rattle.pb_machine.specs.declared.settings.Settings.{Settings}
 use Rattle.pb_model.specs.Guide.{Guide}
 use Rattle.pb_model.specs.Store.{Store}
-use Rattle.pb_estimate.specs.declared.choice.Choice.{Choice}
+use Rattle.pb_estimate.specs.Choices.{Choice}
 use Rattle.pb_model.specs.Weight.{Weight}
 use Rattle.pb_answer.specs.Searches.{settings_of, weight_asked}
 use Rattle.pb_answer.specs.Claims.{IsCertificate, journal_outputs, journal_outputs_if_any, Certifies, Stops, Solves, PrintsPlan, PrintsLeastCost, SavesPlan, text_outputs, rewritten_outputs, Accepts, Rejects}

@@ -12,7 +12,7 @@ use Rattle.pb_model.specs.Texts.{plan_report, weight_text, none_report, stopped_
 use Rattle.pb_machine.specs.declared.event.End.TheVariants.{Budget}
 use Rattle.pb_task.specs.declared.parts.TaskParts.{TaskParts}
 use Rattle.pb_task.specs.Parts.{space_of, action_name}
-use Rattle.pb_estimate.specs.declared.choice.Choice.{Choice}
+use Rattle.pb_estimate.specs.Choices.{Choice}
 use Rattle.pb_abstract.specs.Projection.{IsFinest}
 use Rattle.pb_abstract.specs.Graph.{AbstractGraph, IsGraphOf}
 use Rattle.pb_strips.specs.Looks.{most_looks}

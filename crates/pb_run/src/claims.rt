@@ -43,6 +43,7 @@ pub fn hand_out_claims<'a, R: Threads + Wait + Sync, H: Shelf, K: Sink, G: Gate>
     ensures sink_later { K.faults out.old ≤ K.faults out.new }
 {
     let mut search = first;
+    // The label is the loop's name in its proof.
     'runs: loop {
         if let Some(status) = hand_out_claim(alloc, &search, shelf, out) {
             return status;
@@ -79,6 +80,7 @@ fn hand_out_claim<'a, H: Shelf, K: Sink>(
     ensures shelf_later { H.faults shelf.old ≤ H.faults shelf.new }
     ensures sink_later { K.faults out.old ≤ K.faults out.new }
 {
+    // All memory is taken here, before a file is begun.
     let Ok(answer) = search.answer(alloc) else {
         return Some(Status::OutOfMemory);
     };

@@ -24,6 +24,7 @@ pub enum Fault {
     ShelfFailed,
 }
 
+// By hand, so that a clause can say which error `?` makes.
 impl From<AllocError> for Fault {
     ghost use Rattle.std.specs.Prelude.{◌≡◌};
     ghost use Rattle.pb_run.specs.declared.load.Fault.TheVariants.{OutOfMemory};
@@ -99,6 +100,7 @@ fn load_all<H: Shelf>(
                     return Err(Fault::OutOfMemory);
                 }
             }
+            // The first file that is too long decides, so no later one is loaded.
             Ok(None) => return Ok(texts),
             Err(fault) => return Err(fault),
         }

@@ -53,6 +53,7 @@ pub fn make_task<'a, R: Threads + Wait + Sync, G: Gate>(
     ensures made { IfOk result (λ a. IsMade (make_meant make) (said_of a)) }
     ensures looks { IfOk result (λ a. (said_of a).looks ≡ looks) }
 {
+    // There are 1 to 64 workers.
     let workers = make.workers as u32;
     let answer = solve_made(rt, alloc, make.kind, make.seed, make.size, workers, gate)?;
     let report = report_made(alloc, &answer)?;

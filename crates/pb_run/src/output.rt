@@ -91,6 +91,7 @@ fn save<H: Shelf>(shelf: &mut H, answer: &Answer<'_>) -> Result<(), Failed>
     ensures holds { KeepsHolds (H.can_hold shelf.old) (H.can_hold shelf.new) }
     ensures cause { HasCause (H.faults shelf.old) (H.faults shelf.new) result }
 {
+    // In this order: if the shelf fails, what is there is a prefix of both texts.
     save_certificate(shelf, &answer.certificate)?;
     save_journal(shelf, &answer.journal)
 }
@@ -113,6 +114,7 @@ pub fn hand_out<H: Shelf, K: Sink>(shelf: &mut H, out: &mut K, answer: &Answer<'
     ensures shelf_later { H.faults shelf.old ≤ H.faults shelf.new }
     ensures sink_later { K.faults out.old ≤ K.faults out.new }
 {
+    // Nothing is printed before all is saved.
     if save(shelf, answer).is_err() {
         return Ending::NotSaved;
     }

@@ -17,8 +17,10 @@ pub fn words_of(alloc: Global, args: env::Args) -> Result<Vec<String>, AllocErro
     ensures { IfOk result (λ words. words.items ≡ drop 1 (into_iter_items args)) }
 {
     let mut rest = args;
+    // The program's own name comes first.
     let _name = rest.next();
     let mut words = Vec::new(alloc);
+    // The label is the loop's name in its proof.
     'words: while let Some(word) = rest.next() {
         words.push(word)?;
     }

@@ -131,8 +131,10 @@ pub fn run<R: Threads + Wait + Sync, H: Shelf, K: Sink, G: Gate>(
         (K.calls out.new))
         (H.files shelf.old) (H.files shelf.new) (K.written out.old) (K.written out.new) }
 {
+    // Laws on maps and boards, which the proofs of `maps` and `boards` cite.
     read_as_spelled();
     readings_are_spelled();
+    // What a search leaves is kept here, since the answer borrows it.
     let mut kept = None;
     let status = carry_out(rt, alloc, words, shelf, out, gate, &mut kept, looks);
     status.number()
@@ -170,6 +172,7 @@ fn carry_out<'a, R: Threads + Wait + Sync, H: Shelf, K: Sink, G: Gate>(
         Ok(asked) => asked,
         Err(AllocError) => return Status::OutOfMemory,
     };
+    // In this order: no file is begun before all inputs are loaded.
     let texts = match load_files(alloc, &asked, shelf) {
         Ok(texts) => texts,
         Err(fault) => return fault.status(),

@@ -4,7 +4,7 @@ use Rattle.pb_machine.specs.declared.event.End.TheVariants.{Quiet, Budget}
 use Rattle.pb_machine.specs.declared.settings.Settings.{Settings}
 use Rattle.pb_task.specs.declared.parts.TaskParts.{TaskParts}
 use Rattle.pb_task.specs.Parts.{space_of}
-use Rattle.pb_estimate.specs.declared.choice.Choice.{Choice}
+use Rattle.pb_estimate.specs.Choices.{Choice}
 use Rattle.pb_lists.specs.Store.{IsQuietEnd}
 use Rattle.pb_lease.specs.GraphValue.{GraphValue}
 use Rattle.pb_lease.specs.Leased.{guide_of}

@@ -17,8 +17,8 @@ use Rattle.pb_machine.specs.Machine.{Setup, Machine, Move, Runs, journal_of, ope
 use Rattle.pb_machine.specs.Lawful.{IsLawful}
 use Rattle.pb_task.specs.declared.parts.TaskParts.{TaskParts}
 use Rattle.pb_task.specs.Parts.{space_of}
-use Rattle.pb_estimate.specs.declared.choice.Choice.{Choice}
-use Rattle.pb_estimate.specs.Estimates.{choice_with}
+use Rattle.pb_estimate.specs.Choices.{Choice}
+use Rattle.pb_estimate.specs.Choices.{choice_with}
 use Rattle.pb_abstract.specs.Projection.{IsFinest}
 use Rattle.pb_abstract.specs.Graph.{AbstractGraph, blocks_of, IsGraphOf}
 use Rattle.pb_lease.specs.Leased.{guide_of, setup_of}

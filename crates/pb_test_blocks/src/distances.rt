@@ -22,7 +22,7 @@ fn ask<R: Abort>(
     if !task.is_state(state) || !task.is_state(other) {
         panic!(rt; "no state");
     }
-    let mut estimator = Estimator::of(alloc, task, &Choice::Plain).expect(rt, "memory");
+    let mut estimator = Estimator::of(alloc, task, &Choice::plain()).expect(rt, "memory");
     crosses_threads(&estimator);
     let first = estimator.estimate(task, state);
     let second = estimator.estimate(task, other);

@@ -5,6 +5,7 @@ use crate::pieces::answer;
 use pb_check::{CertificateFault, CheckError, Claim, Verdict, check, stated_choice};
 use pb_estimate::Estimator;
 use pb_outside::OpenGate;
+use pb_task::Task;
 use pb_test_examples::open_square;
 use std::alloc::{AllocError, Global};
 use std::thread::Threads;
@@ -50,6 +51,8 @@ fn code_of_fault(fault: CertificateFault) -> (u32, u64, u128) {
         CertificateFault::TooDear { line, action } => (16, line, u128::from(action)),
         CertificateFault::Low { line } => (17, line, 0),
         CertificateFault::Grounding => (18, 0, 0),
+        CertificateFault::Table { line } => (19, 0, line),
+        CertificateFault::Unpaid { sum, action } => (20, sum as u64, action as u128),
     }
 }
 
@@ -65,12 +68,17 @@ pub fn code_of(answer: Result<Verdict, CheckError>) -> (u32, u64, u128) {
     }
 }
 
-/// The answer of the checker that waits for nobody.
+/// The answer for a task of the checker that waits for nobody.
+pub fn judge_alone(alloc: Global, task: &Task, bytes: &[u8]) -> Result<Verdict, CheckError> {
+    let choice = stated_choice(alloc, task, bytes)?;
+    let mut estimator = Estimator::of(alloc, task, &choice)?;
+    check(alloc, task, &mut estimator, bytes)
+}
+
+/// The same for the map.
 pub fn answer_alone(alloc: Global, bytes: &[u8]) -> Result<Verdict, CheckError> {
     let task = open_square(alloc)?;
-    let choice = stated_choice(bytes);
-    let mut estimator = Estimator::of(alloc, &task, &choice)?;
-    check(alloc, &task, &mut estimator, bytes)
+    judge_alone(alloc, &task, bytes)
 }
 
 // Whether so many workers say this of a certificate by pieces of each size.

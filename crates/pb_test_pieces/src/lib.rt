@@ -7,3 +7,5 @@ mod changes;
 mod long;
 #[cfg(test)]
 mod pieces;
+#[cfg(test)]
+mod tables;

@@ -75,7 +75,7 @@ rows 7
 end
 ";
 
-// As many estimators of the map as there are workers.
+// As many estimators of the task as there are workers.
 fn estimators_for(
     alloc: Global,
     task: &Task,
@@ -95,6 +95,32 @@ fn estimators_for(
     Ok(estimators)
 }
 
+/// The answer of so many workers to a certificate of the task.
+pub fn answer_for<R: Threads + Sync, G: Gate>(
+    rt: &R,
+    alloc: Global,
+    task: &Task,
+    bytes: &[u8],
+    workers: u64,
+    piece: u64,
+    gate: &G,
+) -> Result<Verdict, CheckError>
+    requires some { 1 ≤ workers }
+    requires piece { 1 ≤ piece }
+{
+    let choice = stated_choice(alloc, task, bytes)?;
+    let mut estimators = estimators_for(alloc, task, &choice, workers)?;
+    check_pieces(
+        rt,
+        alloc,
+        task,
+        estimators.as_mut_slice(),
+        bytes,
+        piece,
+        gate,
+    )
+}
+
 /// The answer of so many workers to a certificate of the map.
 pub fn answer<R: Threads + Sync, G: Gate>(
     rt: &R,
@@ -108,17 +134,7 @@ pub fn answer<R: Threads + Sync, G: Gate>(
     requires piece { 1 ≤ piece }
 {
     let task = open_square(alloc)?;
-    let choice = stated_choice(bytes);
-    let mut estimators = estimators_for(alloc, &task, &choice, workers)?;
-    check_pieces(
-        rt,
-        alloc,
-        &task,
-        estimators.as_mut_slice(),
-        bytes,
-        piece,
-        gate,
-    )
+    answer_for(rt, alloc, &task, bytes, workers, piece, gate)
 }
 
 // Whether the row in this line is refused as too low.
@@ -185,6 +201,7 @@ impl Gate for PairGate {
         if piece != 0 {
             return;
         }
+        // Not for ever: a check that never gets there is to fail the test, and not to hang.
         for _ in 0..10_000_000 {
             if self.begun.load(Ordering::SeqCst) {
                 self.both.store(true, Ordering::SeqCst);

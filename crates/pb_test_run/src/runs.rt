@@ -1,3 +1,5 @@
+//! Runs of a command line over files and output in memory. They have no clauses: so the proofs of
+//! tests don't go through those of `run`.
 use pb_outside::{Gate, MemShelf, MemSink, Memory, OpenGate};
 use pb_run::{Looks, run};
 use std::alloc::Global;

@@ -27,6 +27,7 @@ fn closed_rows(text: &[u8]) -> usize {
     let mut count = 0_usize;
     for line in text.split(|byte| *byte == b'\n') {
         if line.ends_with(b" closed") {
+            // No text has so many lines, and the sum needs no bound this way.
             count = count.saturating_add(1);
         }
     }
@@ -75,6 +76,7 @@ fn count_right<R: Threads + Wait + Sync>(
 ) -> Result<u64, Memory> {
     let mut right = 0_u64;
     for number in 0..runs {
+        // Any seed will do, so it may wrap.
         if is_right(rt, alloc, seed.wrapping_add(number))? {
             right = right.saturating_add(1);
         }

@@ -13,6 +13,7 @@ pub struct DelayGate {
 // The bits of a number mixed, as Steele, Lea and Flood do for their generator of random numbers
 // (OOPSLA 2014).
 fn mixed(number: u64) -> u64 {
+    // The generator multiplies mod 2^64.
     let one = (number ^ (number >> 30)).wrapping_mul(0xbf58_476d_1ce4_e5b9);
     let two = (one ^ (one >> 27)).wrapping_mul(0x94d0_49bb_1331_11eb);
     two ^ (two >> 31)

@@ -15,6 +15,7 @@ pub(crate) fn add_state(lines: &mut Lines, state: &Packed) -> Result<(), Memory>
             lines.first("x")?;
             lines.first(text.trim_start_matches('0'))
         }
+        // Digits are always UTF-8.
         Err(_) => Ok(()),
     }
 }

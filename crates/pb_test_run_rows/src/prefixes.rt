@@ -16,6 +16,7 @@ struct Answers {
     places: u64,
 }
 
+// No text has so many prefixes that a count or the sum wraps.
 fn count(answers: &mut Answers, error: Option<SyntaxError>) {
     let place = match error {
         None => {

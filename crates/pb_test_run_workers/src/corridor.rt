@@ -56,6 +56,7 @@ fn closed_rows(text: &[u8]) -> usize {
     let mut count = 0usize;
     for line in text.split(|byte| *byte == b'\n') {
         if line.ends_with(b" closed") {
+            // No text has so many lines, and the sum needs no bound this way.
             count = count.saturating_add(1);
         }
     }

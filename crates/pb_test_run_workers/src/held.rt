@@ -30,6 +30,7 @@ impl Gate for MeetingGate {
             }
             return;
         }
+        // Not for ever: a search that never gets there is to fail the test, and not to hang.
         for _ in 0..10_000_000 {
             if self.both.load(Ordering::SeqCst) {
                 return;

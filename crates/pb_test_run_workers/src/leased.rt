@@ -17,6 +17,7 @@ struct CountingGate {
 impl Gate for CountingGate {
     fn leased(&self, _worker: u32, block: u32) {
         let before = self.leased.load(Ordering::SeqCst);
+        // Seven leases are noted, so no digit is lost.
         let after = before.wrapping_mul(10).wrapping_add(u64::from(block));
         self.leased.store(after, Ordering::SeqCst);
     }
@@ -66,6 +67,7 @@ impl Gate for HoldingGate {
             }
             return;
         }
+        // Not for ever: a search that never gets there is to fail the test, and not to hang.
         for _ in 0..10_000_000 {
             if self.both.load(Ordering::SeqCst) {
                 return;

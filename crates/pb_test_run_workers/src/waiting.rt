@@ -25,6 +25,7 @@ impl Gate for OneSlowGate {
         }
         let before = self.giving.load(Ordering::SeqCst);
         for _ in 0..10_000_000 {
+            // The count only grows, which the prover doesn't know of an atomic number.
             if self.giving.load(Ordering::SeqCst).wrapping_sub(before) >= 50 {
                 self.waited.store(1, Ordering::SeqCst);
                 return;
@@ -43,6 +44,7 @@ fn count_of(journal: &[u8], word: &[u8]) -> usize {
     let mut count = 0usize;
     for line in journal.split(|byte| *byte == b'\n') {
         if line.starts_with(word) {
+            // No text has so many lines, and the sum needs no bound this way.
             count = count.saturating_add(1);
         }
     }

@@ -3,9 +3,9 @@ use Rattle.std.proofs.Common.{◌≡◌, ℕ, ◌+◌, ◌<◌, ◌==◌, Option
 use Rattle.pb_model.specs.Weight.{Weight}
 use Rattle.pb_machine.specs.declared.settings.Settings.{Settings}
 use Rattle.pb_task.specs.declared.parts.TaskParts.{TaskParts}
-use Rattle.pb_estimate.specs.declared.choice.Choice.{Choice}
-use Rattle.pb_estimate.specs.declared.choice.Choice.TheVariants.{Plain}
-use Rattle.pb_estimate.specs.Estimates.{choice_with}
+use Rattle.pb_estimate.specs.Choices.{Choice}
+use Rattle.pb_estimate.specs.Choices.{Plain}
+use Rattle.pb_estimate.specs.Choices.{choice_with}
 use Rattle.pb_estimate.specs.Tables.{HasTable}
 use Rattle.pb_lease.specs.declared.past.Past.{Past}
 use Rattle.pb_lease.specs.Tables.{no_past}

@@ -32,7 +32,7 @@ pub(crate) fn start_estimate(alloc: Global, task: &Task) -> Result<Estimate, All
     ensures { IfOk result (λ e. e ≡ estimate_of task.now (space_of task.now).start) }
 {
     tasks_are_proper();
-    let mut estimator = Estimator::of(alloc, task, &Choice::Plain)?;
+    let mut estimator = Estimator::of(alloc, task, &Choice::plain())?;
     let start = task.initial();
     Ok(estimator.estimate(task, &start))
 }
@@ -56,7 +56,7 @@ fn open(alloc: Global, task: Arc<Task>, settings: Settings) -> Result<LeaseGraph
     ensures opening { IfOk result IsNewGraph }
 {
     let (estimate, blocks) = beginning(alloc, &task)?;
-    let graph = LeaseGraph::new(alloc, task, blocks, Choice::Plain, estimate, settings)?;
+    let graph = LeaseGraph::new(alloc, task, blocks, Choice::plain(), estimate, settings)?;
     Ok(graph)
 }
 

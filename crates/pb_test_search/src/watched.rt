@@ -139,7 +139,7 @@ fn both<W: Wait>(
         alloc,
         Arc::clone(&task)?,
         Arc::clone(&abstraction)?,
-        Choice::Plain,
+        Choice::plain(),
         estimate,
         settings,
     )?;
@@ -147,7 +147,7 @@ fn both<W: Wait>(
         return Err(AllocError);
     };
     let mut second = yard.split(&mut first);
-    let mut estimator = Estimator::of(alloc, &task, &Choice::Plain)?;
+    let mut estimator = Estimator::of(alloc, &task, &Choice::plain())?;
     let mut watch = YardWatch {
         yard: &yard,
         pass: first,

@@ -40,7 +40,7 @@ fn graph(alloc: Global) -> Result<LeaseGraph, AllocError>
     };
     let task = Arc::new(alloc, task)?;
     let abstraction = Arc::new(alloc, abstraction)?;
-    let choice = Choice::Plain;
+    let choice = Choice::plain();
     let graph = LeaseGraph::new(alloc, task, abstraction, choice, estimate, settings)?;
     Ok(graph)
 }

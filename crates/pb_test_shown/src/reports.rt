@@ -30,6 +30,11 @@ fn are_refusals_printed(alloc: Global) -> bool {
         },
         CertificateFault::Low { line: most },
     );
+    let table = CertificateFault::Table { line: u128::MAX };
+    let unpaid = CertificateFault::Unpaid {
+        sum: usize::MAX,
+        action: usize::MAX,
+    };
     let width = CertificateFault::Width {
         said: 256,
         wanted: 6,
@@ -48,6 +53,12 @@ fn are_refusals_printed(alloc: Global) -> bool {
     ) && is(
         Report::of_certificate_fault(alloc, &width),
         "refused Width 256 6\n",
+    ) && is(
+        Report::of_certificate_fault(alloc, &table),
+        "refused Table 340282366920938463463374607431768211455\n",
+    ) && is(
+        Report::of_certificate_fault(alloc, &unpaid),
+        "refused Unpaid 18446744073709551615 18446744073709551615\n",
     ) && is(
         Report::of_grid_error(alloc, &GridError::NoRow { row, rows }),
         "input NoRow 18446744073709551615 18446744073709551615\n",

@@ -1,3 +1,5 @@
+//! Certificates byte for byte, and plans that are read off the rows of one store or of two.
+ghost use Rattle.std.specs.Prelude.{IfOk, IfSome};
 ghost use Rattle.pb_estimate.specs.Spelling.{IsSpelling};
 
 use crate::halves::Halves;
@@ -7,9 +9,11 @@ use pb_lists::{Bundle, Store};
 use pb_model::{Estimate, Status};
 use pb_outside::{Failed, MemShelf, Memory};
 use pb_packed::Packed;
+use pb_table_lines::{read_tables, tables_are_read_as_written};
 use pb_task::{Grounding, Kind, Task};
 use pb_test_examples::two_cells;
 use std::alloc::{AllocError, Global};
+use std::sync::Arc;
 use std::test::Fail;
 
 // What is saved of a search on a map of 3 by 3 free cells, from the upper left to the lower right
@@ -49,6 +53,33 @@ rows 3
 end
 ";
 
+// A table of the atoms 0 and 1 and a trap, with two digits for an image.
+const TABLES: &[u8] = b"estimate tables 1 1 1
+table 03 2
+01 3
+02 0
+trap 07 1
+04
+";
+
+// What is saved in version 4 of one closed row, if the choice of an estimate has these tables.
+const STATED: &str = "pbnf-certificate 4
+kind strips
+width 2
+grounding all
+estimate tables 1 1 1
+table 03 2
+01 3
+02 0
+trap 07 1
+04
+weight 1 1
+none
+rows 1
+01 0 closed
+end
+";
+
 // Gives a state a row with this g and status, if it has none yet.
 fn add(bundle: &mut Bundle, state: Packed, g: u64, status: Status) -> Result<(), AllocError> {
     bundle.offer(state, g, Estimate::Cost(0), None, 0)?;
@@ -69,6 +100,7 @@ fn add(bundle: &mut Bundle, state: Packed, g: u64, status: Status) -> Result<(),
 // A bundle with rows of these states, by their lowest 32 bits.
 fn bundle_of(alloc: Global, rows: &[(u32, u64, Status)]) -> Result<Bundle, AllocError> {
     let mut bundle = Bundle::new(alloc, 1, 1)?;
+    // The label is the loop's name in its proof.
     'rows: for (state, g, status) in rows {
         let state = Packed::zero().with_bits(0, 32, u64::from(*state));
         add(&mut bundle, state, *g, *status)?;
@@ -86,7 +118,7 @@ fn version_1() -> Spelling
         width: 64,
         stated: Stated {
             grounding: Grounding::All,
-            choice: Choice::Plain,
+            choice: Choice::plain(),
         },
     }
 }
@@ -101,8 +133,29 @@ fn version_2() -> Spelling
         width: 6,
         stated: Stated {
             grounding: Grounding::All,
-            choice: Choice::Plain,
+            choice: Choice::plain(),
         },
+    }
+}
+
+// How one of version 4 is spelled that states tables, with two digits a state. None if their text
+// states no tables.
+fn version_4(alloc: Global) -> Result<Option<Spelling>, AllocError>
+    ensures { IfOk result (λ spelling. IfSome spelling IsSpelling) }
+{
+    // What is read has the digits that its lines have.
+    tables_are_read_as_written();
+    match read_tables(alloc, 2, TABLES) {
+        Ok(tables) => Ok(Some(Spelling {
+            kind: Kind::Strips,
+            version: Version::Four,
+            width: 2,
+            stated: Stated {
+                grounding: Grounding::All,
+                choice: Choice::of_tables(Arc::new(alloc, tables)?),
+            },
+        })),
+        Err(_) => Ok(None),
     }
 }
 
@@ -255,6 +308,18 @@ fn certificates_are_saved(rt: HostRuntime) -> Result<(), Fail> {
     assert!(rt; is_whole(&two, true, OPEN_SQUARE));
     let none = save_one(alloc, version_1(), &ROW, None)?;
     assert!(rt; is_whole(&none, false, WALL));
+    Ok(())
+}
+
+// A certificate that states tables and a trap, each line in its place.
+#[test]
+fn tables_are_saved(rt: HostRuntime) -> Result<(), Fail> {
+    let alloc = rt.alloc();
+    let Some(spelling) = version_4(alloc)? else {
+        panic!(rt; "the text states no tables")
+    };
+    let saved = save_one(alloc, spelling, &[(1, 0, Status::Closed)], None)?;
+    assert!(rt; is_whole(&saved, false, STATED));
     Ok(())
 }
 

@@ -7,7 +7,7 @@ use Rattle.pb_machine.specs.Tables.{count_below}
 use Rattle.pb_machine.specs.Blocks.{interferes}
 use Rattle.pb_machine.specs.Machine.{Machine}
 use Rattle.pb_task.specs.declared.parts.TaskParts.{TaskParts}
-use Rattle.pb_estimate.specs.declared.choice.Choice.{Choice}
+use Rattle.pb_estimate.specs.Choices.{Choice}
 use Rattle.pb_abstract.specs.Graph.{AbstractGraph}
 use Rattle.pb_bundles.specs.Homes.{key_at}
 use Rattle.pb_bundles.specs.Choosing.{IsRivalBy}

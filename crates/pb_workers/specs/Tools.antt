@@ -2,7 +2,7 @@
 use Rattle.std.specs.Prelude.{◌≤◌, List, All, vec_capacity}
 use Rattle.pb_task.specs.declared.parts.TaskParts.{TaskParts}
 use Rattle.pb_task.specs.Parts.{max_degree_of}
-use Rattle.pb_estimate.specs.declared.choice.Choice.{Choice}
+use Rattle.pb_estimate.specs.Choices.{Choice}
 use Rattle.pb_estimate.specs.Tables.{IsOfTask}
 use Rattle.pb_workers.specs.declared.worker.Tools.{Tools}
 

@@ -18,7 +18,7 @@ use Rattle.pb_machine.specs.Machine.{Machine, IsWorked, HasWorked, Tells, tell_m
 use Rattle.pb_machine.proofs.Callers.{known_new, known_more, lesser_one, entry_here, entry_else, moves_keep_lawful, known_stays, runs_go_on, others_keep_whole}
 use Rattle.pb_bundles.specs.Homes.{home_rows}
 use Rattle.pb_abstract.specs.Graph.{AbstractGraph}
-use Rattle.pb_estimate.specs.declared.choice.Choice.{Choice}
+use Rattle.pb_estimate.specs.Choices.{Choice}
 use Rattle.pb_lease.specs.LeaseValue.{LeaseValue, leased_store}
 use Rattle.pb_lease.specs.Leased.{guide_of, grant_of, IsOut}
 use Rattle.pb_lease.specs.GraphValue.{GraphValue, setup_in}

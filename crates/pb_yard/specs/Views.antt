@@ -2,7 +2,7 @@
 use Rattle.std.specs.Prelude.{ℕ, ◌==◌, if◌then◌else◌, List, [], ◌∷◌, Option, Some, None, length, drop}
 use Rattle.pb_model.specs.Store.{lesser}
 use Rattle.pb_task.specs.declared.parts.TaskParts.TheVariants.{Tiles}
-use Rattle.pb_estimate.specs.declared.choice.Choice.TheVariants.{Plain}
+use Rattle.pb_estimate.specs.Choices.{Plain}
 use Rattle.pb_abstract.specs.declared.projection.Projection.TheVariants.{Blank}
 use Rattle.pb_machine.specs.declared.event.Event.{Event}
 use Rattle.pb_machine.specs.Settings.{standard}

@@ -331,7 +331,7 @@ fn start_estimate<R: Abort>(rt: &R, alloc: Global, task: &Task) -> Estimate
     if !task.is_state(&start) {
         panic!(rt; "no state");
     }
-    let mut estimator = Estimator::of(alloc, task, &Choice::Plain).expect(rt, "memory");
+    let mut estimator = Estimator::of(alloc, task, &Choice::plain()).expect(rt, "memory");
     estimator.estimate(task, &start)
 }
 
@@ -357,9 +357,15 @@ fn open<R: Abort>(
     };
     let task = Arc::clone(task).expect(rt, "memory");
     let abstraction = Arc::clone(abstraction).expect(rt, "memory");
-    let graph = LeaseGraph::new(alloc, task, abstraction, Choice::Plain, estimate, settings).expect(
-        rt, "memory",
-    );
+    let graph = LeaseGraph::new(
+        alloc,
+        task,
+        abstraction,
+        Choice::plain(),
+        estimate,
+        settings,
+    )
+    .expect(rt, "memory");
     match Yard::new(alloc, graph) {
         Ok(made) => made,
         Err((_, graph)) => {

@@ -1,7 +1,7 @@
 use Rattle.std.proofs.Common.{◌≡◌, ◌∙◌, true, ap, sym, subst, refl}
-use Rattle.pb_estimate.specs.declared.choice.Choice.{Choice}
+use Rattle.pb_estimate.specs.Choices.{Choice}
 use Rattle.pb_estimate.specs.Estimates.{suits}
-use Rattle.pb_estimate.specs.Spelling.{spelling_of}
+use Rattle.pb_estimate.specs.Spelling.{IsSpelling, spelling_of}
 use Rattle.pb_command.specs.Causes.{solve_meant}
 use Rattle.pb_lists.specs.Store.{store_with}
 use Rattle.pb_answer.proofs.Certified.{choice_suits, is_certificate, no_certificate}
@@ -16,15 +16,21 @@ of-requires-clause-spelling g c =
 
 pub returns-in_ok-certificate-in-Some : goal.returns-in_ok-certificate-in-Some
 returns-in_ok-certificate-in-Some g c = λ stated.
+    let spelled = c.of-spelling.ensures.spelling
+    ∙ ap (λ (choice : Choice). spelling_of c.args.task.now choice) c.with.ensures in
+    let known = c.of-spelling.ensures.known
+    (subst (λ (choice : Choice). suits c.args.task.now choice ≡ true) (sym c.with.ensures)
+    (choice_suits c.args.task.now c.args.solve.now.settings.pattern
+    c.requires.range.settings.pattern)) in
     is_certificate (solve_meant c.args.solve.now) c.args.task.now
     (g.S.Store.home c.args.store.now)
     (store_with (g.S.Store.rows c.args.store.now) (g.S.Store.weight c.args.store.now)
     (g.S.Store.incumbent c.args.store.now))
     c.requires.end c.requires.weight c.max_degree-lawful.ensures.lawful c.requires.range
-    c.in_ok-certificate-in-Some.certificate c.args.plan c.in-Some.name.now
+    (subst IsSpelling spelled known) c.in_ok-certificate-in-Some.certificate c.args.plan
+    c.in-Some.name.now
     (rw c.in-Some.is refl)
-    (c.in_ok-certificate-in-Some.ensures.spelling ∙ c.of-spelling.ensures.spelling
-    ∙ ap (λ (choice : Choice). spelling_of c.args.task.now choice) c.with.ensures)
+    (c.in_ok-certificate-in-Some.ensures.spelling ∙ spelled)
     c.in_ok-certificate-in-Some.ensures.weight c.in_ok-certificate-in-Some.ensures.plan
     c.in_ok-certificate-in-Some.ensures.count c.in_ok-certificate-in-Some.ensures.lines
     c.in_ok-certificate-in-Some.ensures.valid stated

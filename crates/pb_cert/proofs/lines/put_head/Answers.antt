@@ -1,5 +1,5 @@
 use Rattle.std.proofs.Common.{◌≡◌, arith, ◌≤◌, ◌<◌, ◌-◌, length, ◌∙◌}
-use Rattle.pb_estimate.specs.Spelling.{width_text, stated_text}
+use Rattle.pb_estimate.specs.Spelling.{width_text}
 use Rattle.pb_cert.proofs.LineTexts.{version_put, kind_put, width_put, stated_put, head_counted}
 use Rattle.pb_cert.proofs.lines.put_head.Goals as goal
 
@@ -17,11 +17,15 @@ returns-then-at-widths c =
     omega (arith, widths, c.from-widths.ensures, c.if-at-widths.true, past) in
     width_put c.args.out.now c.put_width.new.out c.args.spelling.now c.args.at past (c.put_width.ensures within)
 
+pub put_stated-requires-clause-within : goal.put_stated-requires-clause-within
+put_stated-requires-clause-within c =
+    let widths : c.from-widths.result ≡ length (width_text c.args.spelling.now.version c.args.spelling.now.width) =
+    c.from-widths.ensures ∙ c.width_lines.ensures.lines c.args.spelling.now.width in
+    omega (arith, c.requires.within, head_counted c.args.spelling.now, widths, c.if-at-widths.false)
+
 pub returns-else-at-widths : goal.returns-else-at-widths
 returns-else-at-widths c =
     let widths : c.from-widths.result ≡ length (width_text c.args.spelling.now.version c.args.spelling.now.width) =
     c.from-widths.ensures ∙ c.width_lines.ensures.lines c.args.spelling.now.width in
-    let within : c.args.at - 2 - c.from-widths.result < length (stated_text c.args.spelling.now.version c.args.spelling.now.stated) =
-    omega (arith, c.requires.within, head_counted c.args.spelling.now, widths, c.if-at-widths.false) in
     stated_put c.args.out.now c.put_stated.new.out c.args.spelling.now c.args.at c.from-widths.result widths (omega (arith, c.if-at-widths.false))
-    (c.put_stated.ensures within)
+    c.put_stated.ensures

@@ -1,6 +1,6 @@
 use Rattle.std.proofs.Common.{sym, subst}
 use Rattle.std.proofs.lemmas.Result.{err_from_is_err_and}
-use Rattle.pb_estimate.specs.declared.choice.Choice.{Choice}
+use Rattle.pb_estimate.specs.Choices.{Choice}
 use Rattle.pb_estimate.specs.Tables.{IsOfTask}
 use Rattle.pb_check.proofs.Keeping.{checked_fails, checked_kept, kept_choice_is}
 use Rattle.pb_check.proofs.checker.first_fault.Goals as goal
@@ -13,7 +13,7 @@ returns-in_err-text-clause-exact c =
 pub judge-requires-clause-task : goal.judge-requires-clause-task
 judge-requires-clause-task c =
     subst (λ (choice : Choice). IsOfTask c.args.estimator.now c.args.task.now choice)
-    (kept_choice_is c.args.bytes.now c.in_ok-text.text c.in_ok-text.ensures.kept) c.requires.task
+    (kept_choice_is c.args.task.now c.args.bytes.now c.in_ok-text.text c.in_ok-text.ensures.kept) c.requires.task
 
 pub returns-clause-exact : goal.returns-clause-exact
 returns-clause-exact c = checked_kept c.args.task.now c.args.bytes.now c.in_ok-text.text c.judge.result c.in_ok-text.ensures.kept c.judge.ensures.verdict
@@ -21,4 +21,4 @@ returns-clause-exact c = checked_kept c.args.task.now c.args.bytes.now c.in_ok-t
 pub returns-clause-task : goal.returns-clause-task
 returns-clause-task c =
     subst (λ (choice : Choice). IsOfTask c.judge.new.estimator c.args.task.now choice)
-    (sym (kept_choice_is c.args.bytes.now c.in_ok-text.text c.in_ok-text.ensures.kept)) c.judge.ensures.task
+    (sym (kept_choice_is c.args.task.now c.args.bytes.now c.in_ok-text.text c.in_ok-text.ensures.kept)) c.judge.ensures.task

@@ -1,5 +1,5 @@
 use Rattle.std.proofs.Common.{sym, subst}
-use Rattle.pb_estimate.specs.declared.choice.Choice.{Choice}
+use Rattle.pb_estimate.specs.Choices.{Choice}
 use Rattle.pb_estimate.specs.Tables.{IsOfTask}
 use Rattle.pb_check.proofs.Claims.{suiting_is}
 use Rattle.pb_check.proofs.judging.need_rows.Goals as goal

@@ -1,7 +1,7 @@
 use Rattle.std.proofs.Common.{None, refl, ap, sym, subst, arith}
 use Rattle.pb_machine.specs.Counts.{Counts}
 use Rattle.pb_machine.specs.Machine.{opening_machine}
-use Rattle.pb_estimate.specs.declared.choice.Choice.{Choice}
+use Rattle.pb_estimate.specs.Choices.{Choice}
 use Rattle.pb_expand.specs.Turned.{IsAtWork}
 use Rattle.pb_lease.specs.GraphValue.{setup_in}
 use Rattle.pb_lease.proofs.Callers.{setup_is}

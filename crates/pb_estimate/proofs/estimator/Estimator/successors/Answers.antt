@@ -23,15 +23,15 @@ returns-clause-task c choice of_task =
       | in-Strips-Some w ↦
           let has : HasIndex c.args.task.now (Some w.successors.new.self) =
           subst (λ (task : TaskParts). HasIndex task (Some w.successors.new.self)) (sym w.in-Strips-Some.is-0 ∙ c.parts.ensures.parts) w.successors.ensures.index in
-          subst (λ (i : Inside). IsOfTask (record { plain = i.plain; table = option_map arc_value i.table; index = i.index }) c.args.task.now choice) (sym w.self-inside-is)
+          subst (λ (i : Inside). IsOfTask (record { plain = i.plain; table = option_map arc_value i.table; tables = option_map arc_value i.tables; index = i.index }) c.args.task.now choice) (sym w.self-inside-is)
           (stays_indexed _ c.args.task.now choice viewed (Some w.successors.new.self) has)
       | in_default w ↦
           elim w.in_default.branch [
             | in_default-via-in-Strips+in_default w' ↦
-                subst (λ (i : Inside). IsOfTask (record { plain = i.plain; table = option_map arc_value i.table; index = i.index }) c.args.task.now choice)
+                subst (λ (i : Inside). IsOfTask (record { plain = i.plain; table = option_map arc_value i.table; tables = option_map arc_value i.tables; index = i.index }) c.args.task.now choice)
                 (sym (w.self-inside-is ∙ w'.self-inside-is)) viewed
             | in_default-via-in_default w' ↦
-                subst (λ (i : Inside). IsOfTask (record { plain = i.plain; table = option_map arc_value i.table; index = i.index }) c.args.task.now choice)
+                subst (λ (i : Inside). IsOfTask (record { plain = i.plain; table = option_map arc_value i.table; tables = option_map arc_value i.tables; index = i.index }) c.args.task.now choice)
                 (sym (w.self-inside-is ∙ w'.self-inside-is)) viewed
           ]
     ]

@@ -1,6 +1,6 @@
 use Rattle.std.proofs.Common.{rules}
 use Rattle.pb_estimate.specs.Tables.{AreOfTask}
-use Rattle.pb_estimate.proofs.estimator.Tables.of.Goals as goal
+use Rattle.pb_estimate.proofs.estimator.PlainTables.of.Goals as goal
 
 pub returns : goal.returns
 unfolding AreOfTask
