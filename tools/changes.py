@@ -10,7 +10,7 @@ WORDS_OF_FORMATS = [word.encode() for word in (
     ":action :parameters :precondition :effect :init :goal :objects :types :predicates "
     ":constants :requirements :strips :typing :functions :metric total-cost number minimize "
     "maximize increase decrease object either 0 1 2 3 4 6 7 12 13 15 16 64 256 257 00 01 -1 +1 "
-    "width pattern grounding all reachable estimate "
+    "width pattern grounding all reachable estimate tables table trap "
     "1048576 1048577 9223372036854775807 9223372036854775808 4294967296 1000 1001 999999999 "
     "1000000000").split()]
 
@@ -88,7 +88,77 @@ def change_certificate(random, text):
     """One drawn change of a certificate, of which most keep it spelled as one."""
     ways = [change_text, change_text, drop_row, drop_row, add_row, change_g, change_g, turn_row,
             turn_row, change_plan, change_weight, change_width, change_pattern, change_grounding]
+    ways += [change_tables] * 10 if versions.tables_of(text) else []
     return random.choice(ways)(random, text)
+
+
+def change_tables(random, text):
+    """The certificate with tables that are changed in one value, image, atom, count or line."""
+    lines = versions.tables_of(text)
+    if not lines:
+        return change_text(random, text)
+    ways = [change_value, change_value, change_value, change_image, change_image, drop_image,
+            drop_image, add_image, change_lines, change_number, change_text]
+    return versions.with_tables(text, random.choice(ways)(random, lines))
+
+
+def change_line_of_tables(random, lines, form, change):
+    """The lines of tables with other lines in place of a drawn one of this form."""
+    whole = lines.splitlines(keepends=True)
+    places = [at for at, line in enumerate(whole) if at and re.fullmatch(form, line)]
+    if not places:
+        return change_text(random, lines)
+    at = random.choice(places)
+    whole[at:at + 1] = change(whole[at])
+    return b"".join(whole)
+
+
+def change_value(random, lines):
+    """One value is a little greater or less."""
+    def change(line):
+        words = line.split()
+        at = random.randrange(1, len(words))
+        words[at] = b"%d" % max(int(words[at]) + random.choice([-2, -1, -1, 1, 1, 1, 2, 2**40]), 0)
+        return [b" ".join(words) + b"\n"]
+    return change_line_of_tables(random, lines, rb"[0-9a-f]+(?: [0-9]{1,19})+\n", change)
+
+
+def change_image(random, lines):
+    """One atom more or less in an image, or among the tracked atoms."""
+    def change(line):
+        name, state, rest = re.fullmatch(rb"(table |trap |)([0-9a-f]+)(.*\n)", line).groups()
+        other = int(state, 16) ^ 1 << random.randrange(4 * len(state))
+        return [b"%s%0*x%s" % (name, len(state), other, rest)]
+    form = rb"(?:table |trap |)[0-9a-f]+(?: [0-9]+)*\n"
+    return change_line_of_tables(random, lines, form, change)
+
+
+def drop_image(random, lines):
+    return change_images(random, lines, lambda images: images.pop(random.randrange(len(images))))
+
+
+def add_image(random, lines):
+    """An image is listed twice, or one more is listed behind the last."""
+    def change(images):
+        at = random.randrange(len(images))
+        state, blank, values = images[at].partition(b" ")
+        state = state.strip()
+        other = int(state, 16) + random.choice([0, 1, 2, 4]) & (1 << 4 * len(state)) - 1
+        images.insert(at + 1, b"%0*x" % (len(state), other) + (blank + values or b"\n"))
+    return change_images(random, lines, change)
+
+
+def change_images(random, lines, change):
+    """The lines with other images in a drawn table or trap, and their new number."""
+    lists = re.split(rb"(?m)^(?=table|trap)", lines)
+    places = [at for at, some in enumerate(lists) if at and some.count(b"\n") > 1]
+    if not places:
+        return change_text(random, lines)
+    at = random.choice(places)
+    head, *images = lists[at].splitlines(keepends=True)
+    change(images)
+    lists[at] = b"".join([b" ".join([*head.split()[:2], b"%d\n" % len(images)]), *images])
+    return b"".join(lists)
 
 
 def change_width(random, text):
@@ -206,9 +276,9 @@ def change_plan(random, text):
 
 def weight_of(text):
     """The place of a certificate's weight among its lines: behind the width and what is stated of
-    grounding and estimate, which is a line more in each version."""
+    grounding and estimate."""
     found = versions.digits_of(text)
-    return found[0] + 1 if found else 2
+    return text.count(b"\n", 0, found[2]) if found else 2
 
 
 def change_weight(random, text):

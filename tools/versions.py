@@ -9,7 +9,8 @@ import re
 HEAD = re.compile(rb"pbnf-certificate (?:1\nkind \w+\n|2\nkind \w+\nwidth ([0-9]{1,4})\n"
                   rb"|3\nkind \w+\nwidth ([0-9]{1,4})\npattern [0-9]{1,20}\n"
                   rb"|4\nkind \w+\nwidth ([0-9]{1,4})\ngrounding \w+\n"
-                  rb"estimate (?:plain|pattern [0-9]{1,20})\n)")
+                  rb"estimate (?:plain\n|pattern [0-9]{1,20}\n|tables [0-9 ]{1,63}\n"
+                  rb"(?:(?:(?:table|trap) )?[0-9a-f]+(?: [0-9]+)*\n)*))")
 
 ROW = re.compile(rb"0*([0-9a-f]+) ([0-9]+ (?:closed|cut)\n)")
 
@@ -33,24 +34,52 @@ def grounding_of(text):
 def pattern_of(text):
     """The pattern number of a certificate of version 3 or 4, and 0 of another text."""
     found = digits_of(text)
-    line = text.split(b"\n", 5)[found[0]] if found and found[0] >= 3 else b"plain"
-    return 0 if line.endswith(b"plain") else int(line.split()[-1])
+    line = text.split(b"\n", 5)[found[0]] if found and found[0] >= 3 else b""
+    return int(line.split()[-1]) if b"pattern " in line else 0
 
 
 def estimate_line(pattern):
     return b"estimate pattern %d\n" % pattern if pattern else b"estimate plain\n"
 
 
+def estimate_of(text):
+    """The lines of a certificate in version 4 that say the estimate; of another text the line that
+    would say it."""
+    found = digits_of(text)
+    if not found or found[0] != 4:
+        return estimate_line(pattern_of(text))
+    return text[text.index(b"\nestimate ") + 1:found[2]]
+
+
+def tables_of(text):
+    """The lines that state the tables and traps of a certificate, from `estimate tables` on; of
+    another text there are none."""
+    lines = estimate_of(text)
+    return lines if lines.startswith(b"estimate tables ") else b""
+
+
+def with_tables(text, lines):
+    """The certificate in version 4 with these lines for its estimate. The text itself if it doesn't
+    begin as a certificate."""
+    found = digits_of(text)
+    return text if found is None else _fourth(
+        text.split(b"\n", 2)[1], found[1], grounding_of(text), lines) + text[found[2]:]
+
+
+def _fourth(kind, digits, grounding, estimate):
+    return b"pbnf-certificate 4\n%s\nwidth %d\ngrounding %s\n%s" % (
+        kind, digits, grounding.encode(), estimate)
+
+
 def with_pattern(text, pattern):
     """The certificate with this pattern number, or without one if it is 0. One of version 4 stays
-    so; another is then of version 3, or of version 2 without a number. One of version 1 keeps its
-    states' digits. The text itself if it doesn't begin as a certificate."""
+    so, and loses its tables; another is then of version 3, or of version 2 without a number. One of
+    version 1 keeps its states' digits. The text itself if it doesn't begin as a certificate."""
     found = digits_of(text)
     if found is None:
         return text
     if found[0] == 4:
-        return b"".join(line + b"\n" for line in text.split(b"\n", 4)[:4]) \
-            + estimate_line(pattern) + text[found[2]:]
+        return with_tables(text, estimate_line(pattern))
     kind = text.split(b"\n", 2)[1]
     head = b"pbnf-certificate %d\n%s\nwidth %d\n" % (3 if pattern else 2, kind, found[1])
     return head + (b"pattern %d\n" % pattern if pattern else b"") + text[found[2]:]
@@ -58,21 +87,19 @@ def with_pattern(text, pattern):
 
 def with_grounding(text, grounding):
     """The certificate in version 4 with this word for its grounding, of whatever kind it is. It
-    keeps its pattern number, or that it has none. The text itself if it doesn't begin as a
-    certificate."""
+    keeps its pattern number or its tables, or that it has none. The text itself if it doesn't begin
+    as a certificate."""
     found = digits_of(text)
     if found is None:
         return text
     kind = text.split(b"\n", 2)[1]
-    head = b"pbnf-certificate 4\n%s\nwidth %d\ngrounding %s\n" % (
-        kind, found[1], grounding.encode())
-    return head + estimate_line(pattern_of(text)) + text[found[2]:]
+    return _fourth(kind, found[1], grounding, estimate_of(text)) + text[found[2]:]
 
 
 def as_version(text, version, digits):
     """The certificate in this version, its states with so many digits, which is 64 in version 1.
     In version 3 it keeps its pattern number, and has 1 if it had none. In version 4 it keeps its
-    grounding too.
+    grounding and its tables too.
 
     None if a state needs more digits; the text itself if it doesn't begin as a certificate."""
     found = digits_of(text)
@@ -82,8 +109,11 @@ def as_version(text, version, digits):
     head = b"pbnf-certificate %d\n%s\n" % (version, kind)
     head += b"width %d\n" % digits if version >= 2 else b""
     head += b"pattern %d\n" % (pattern_of(text) or 1) if version == 3 else b""
-    head += b"grounding %s\n" % grounding_of(text).encode() if version == 4 else b""
-    head += estimate_line(pattern_of(text)) if version == 4 else b""
+    if version == 4:
+        estimate = with_digits(estimate_of(text), digits)
+        if estimate is None:
+            return None
+        head = _fourth(kind, digits, grounding_of(text), estimate)
     rest, rows = text[found[2]:], []
     begin = rest.find(b"\nrows ")
     if begin < 0:
@@ -97,6 +127,20 @@ def as_version(text, version, digits):
                 return None
         rows.append(state + blank + after)
     return head + rest[:begin + 1] + b"\n".join([before, *rows])
+
+
+def with_digits(lines, digits):
+    """The lines of an estimate with so many digits for each image and set of atoms; None if one
+    needs more."""
+    found = []
+    for line in lines.splitlines(keepends=True):
+        name, state, rest = re.fullmatch(
+            rb"((?:table|trap) |estimate .*|)([0-9a-f]*)(.*\n)", line).groups()
+        state = state and state.lstrip(b"0").rjust(digits, b"0")
+        if len(state) > digits:
+            return None
+        found.append(name + state + rest)
+    return b"".join(found)
 
 
 def are_same(first, second):

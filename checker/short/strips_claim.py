@@ -24,7 +24,7 @@ def estimate(state):  # the price of the goal's dearest atom, if no action ever 
             now.update({atom: min(dear, now.get(atom, math.inf)) for atom in adds})
     return max([now.get(atom, math.inf) for atom in goal], default=0)
 
-demand(lines[0][-1:] in "12" or lines[4] == "estimate plain", "by a pattern none is read here")
+demand(lines[0][-1:] in "12" or lines[4] == "estimate plain", "by a pattern or tables none is read")
 weight, head = [at for at, line in enumerate(lines) if line.startswith(("weight ", "rows "))]
 num, den = map(int, lines[weight].split()[1:])
 has_plan, state, cost = lines[weight + 1] != "none", start, 0

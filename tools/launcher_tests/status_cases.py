@@ -180,6 +180,34 @@ def other_grounding(place):
     place.run("solve", "strips", domain, problem, "--reachable").wants(1, "none\n")
 
 
+def refused_tables(place):
+    """The line of a table that is at fault is shown, and which sum an action doesn't pay for."""
+    files = [
+        place.file("step.pddl", "(define (domain d) (:predicates (p) (q)) "
+                   "(:functions (total-cost)) (:action a :precondition (p) :effect (and (not (p)) (q) "
+                   "(increase (total-cost) 3))))"),
+        place.file("one-step.pddl", "(define (problem e) (:domain d) (:init (p)) (:goal (q)) "
+                   "(:metric minimize (total-cost)))")]
+    text = ("pbnf-certificate 4\nkind strips\nwidth 1\ngrounding all\nestimate tables 1 1 0\n"
+            "table 3 2\n1 3\n2 0\nweight 1 1\nplan 1\n0\ncost 3\nrows 1\n1 0 cut\nend\n")
+    cert = place.file("tables.cert", text)
+    place.run("check", "strips", cert, *files).wants(0, "accepted cost 3 bound 3\n")
+    for change, out, err in (
+        (("1 3\n", "1 4\n"), "refused Unpaid 0 0\n", [":5: ", "the drops of action 0"]),
+        (("1 3\n", "1 2\n"), "refused Low 14\n", [":14: ", "1 0 cut"]),
+        (("2 0\n", "2 1\n"), "refused Table 8\n", [":8: ", "a value other than 0"]),
+        (("table 3 2", "table 7 2"), "refused Table 6\n", [":6: ", "tracked atoms"]),
+        (("1 3\n2 0\n", "2 0\n1 3\n"), "refused Table 8\n", [":8: ", "isn't above"]),
+        (("table 3 2", "table 2 2"), "refused Table 7\n", [":7: ", "doesn't track"]),
+        (("2 0\n", "2\n"), "refused Syntax 8\n", [":8: ", "`IMAGE V1 .. VM`"]),
+        (("table 3 2", "tables 3 2"), "refused Syntax 6\n", [":6: ", "`table TRACKED N`"]),
+        (("tables 1 1 0", "tables 65 1 0"), "refused Syntax 5\n", [":5: ", "the fifth line is"]),
+        (("cost 3", "cost 4"), "refused Cost 4 3\n", [":12: ", "cost 4"]),
+    ):
+        other = place.file("other.cert", text.replace(*change))
+        place.run("check", "strips", other, *files).wants(3, out, err)
+
+
 def refused_journal(place):
     """The same of a journal."""
     board = place.example("four-moves.tiles")
@@ -275,5 +303,6 @@ def ended_by_a_signal(place):
 
 
 CASES = [words_refused, input_refused, order_of_files, packed_input, refused_certificate,
-         other_row, other_costs, other_grounding, refused_journal, stopped, stopped_in_grounding,
-         no_memory, files_failed, dash_is_a_name, output_failed, ended_by_a_signal]
+         other_row, other_costs, other_grounding, refused_tables, refused_journal, stopped,
+         stopped_in_grounding, no_memory, files_failed, dash_is_a_name, output_failed,
+         ended_by_a_signal]

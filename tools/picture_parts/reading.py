@@ -330,8 +330,30 @@ def read_claim(name):
         raise Refused(name, "", os.strerror(fault.errno or 0)) from None
 
 
+def read_tables(name):
+    """The lines of the tables and traps that a certificate states, and none if it states no tables.
+    Nothing after them is read."""
+    found = []
+    try:
+        with open(name, "rb") as file:
+            _read_certificate_front(_Lines(name, file), found.append)
+    except OSError as fault:
+        raise Refused(name, "", os.strerror(fault.errno or 0)) from None
+    return found
+
+
 def _read_certificate_head(lines):
     """The kind, the digits of a state, the weight, the plan and its cost."""
+    kind, digits = _read_certificate_front(lines, lambda line: None)
+    weight = lines.words([b"weight"], 2)
+    if not 1 <= weight[1] <= weight[0] <= 1000:
+        lines.refuse("the weight isn't 1 to 1000")
+    return kind, digits, weight, *_read_certificate_plan(lines)
+
+
+def _read_certificate_front(lines, take):
+    """The kind and the digits of a state. The lines before the weight are read, and each line of
+    tables and traps is given to `take`."""
     version = re.fullmatch(rb"pbnf-certificate ([1234])\n", lines.next())
     if version is None:
         lines.refuse("expected `pbnf-certificate` and 1, 2, 3 or 4")
@@ -346,23 +368,43 @@ def _read_certificate_head(lines):
     if version.group(1) == b"3":
         _refuse_pattern(lines, lines.words([b"pattern"], 1)[0])
     if is_fourth:
-        _read_stated(lines)
-    weight = lines.words([b"weight"], 2)
-    if not 1 <= weight[1] <= weight[0] <= 1000:
-        lines.refuse("the weight isn't 1 to 1000")
-    return kind.group(1).decode(), digits, weight, *_read_certificate_plan(lines)
+        _read_stated(lines, digits, take)
+    return kind.group(1).decode(), digits
 
 
-def _read_stated(lines):
+def _read_stated(lines, digits, take):
     """The lines of version 4 that say grounding and estimate."""
     if re.fullmatch(rb"grounding (all|reachable)\n", lines.next()) is None:
         lines.refuse("expected `grounding` and all or reachable")
-    form = rb"estimate (?:plain|pattern (" + NUMBER.pattern + rb"))\n"
-    estimate = re.fullmatch(form, lines.next())
+    form = rb"estimate (?:plain|pattern (N)|tables (N) (N) (N))\n".replace(b"N", NUMBER.pattern)
+    estimate = re.fullmatch(form, line := lines.next())
     if estimate is None:
-        lines.refuse("expected `estimate plain`, or `estimate pattern` and a number")
+        lines.refuse("expected `estimate plain`, `estimate pattern` and a number, or `estimate "
+                     "tables` and three numbers")
     if estimate.group(1):
         _refuse_pattern(lines, lines.number(estimate.group(1)))
+    elif estimate.group(2):
+        take(line)
+        _read_lists(lines, digits, [lines.number(word) for word in estimate.groups()[1:]], take)
+
+
+def _read_lists(lines, digits, counts, take):
+    """The lines of so many tables and traps, an image of a table with so many values."""
+    if not 1 <= counts[0] <= 64 or max(counts[1:]) > 4096:
+        lines.refuse("there are 1 to 64 sums, and at most 4,096 tables and traps each")
+    state = rb"[0-9a-f]{%d}" % digits
+    for word, count, values in ((b"table", counts[1], counts[0]), (b"trap", counts[2], 0)):
+        head = re.compile(rb"%s %s (0|[1-9][0-9]*)\n" % (word, state))
+        image = re.compile(state + rb"(?: (?:0|[1-9][0-9]{0,12})){%d}\n" % values)
+        for _ in range(count):
+            found = head.fullmatch(line := lines.next())
+            if found is None:
+                lines.refuse(f"expected `{word.decode()}`, its tracked atoms and a number")
+            take(line)
+            for _ in range(lines.number(found.group(1))):
+                if image.fullmatch(line := lines.next()) is None:
+                    lines.refuse(f"not an image of a {word.decode()}")
+                take(line)
 
 
 def _refuse_pattern(lines, number):
