@@ -59,7 +59,7 @@ def chain_is_proved_in_turn(place):
     begun = [it for it in calls(place) if it.startswith("run begins with ")]
     if len(all_check) != 1 or len(run) != 1 or len(begun) != 1:
         raise Failed(f"one call of each was wanted: {calls(place)}")
-    if begun[0] != "run begins with 41 crates":
+    if begun[0] != "run begins with 43 crates":
         raise Failed(f"rt run was to prove pb_made and pb_run: {begun[0]}")
     nothing_runs(place)
 
