@@ -1,6 +1,7 @@
 """What the scripts of bench/ share: builds of plain searches, and measured runs."""
 
 import math
+import resource
 import subprocess
 import sys
 from pathlib import Path
@@ -19,22 +20,30 @@ def build_plain(folder):
 
 
 class Run:
-    """The least processor time, wall time (ms) and peak memory (MiB) of several runs."""
+    """The least processor time, wall time (ms) and peak memory (MiB) of several runs. A run that
+    takes more processor time than the limit (s) is stopped, and counts as the limit."""
 
-    def __init__(self):
+    def __init__(self, limit=None):
+        self.limit = limit
+        self.is_stopped = False
         self.processor = self.wall = self.memory = math.inf
         self.cost = None
         self.bound = None
         self.expanded = None
 
+    def set_limit(self):
+        if self.limit is not None:
+            resource.setrlimit(resource.RLIMIT_CPU, (self.limit, self.limit))
+
     def add(self, plain, words, folder, statuses=(0, 1)):
         """One run, which ends with one of these statuses; what it prints, without the line of
         `measure`."""
         run = subprocess.run([plain, "measure", *words], cwd=folder, capture_output=True,
-                             text=True, check=True)
+                             text=True, check=True, preexec_fn=self.set_limit)
         text, _, last = run.stdout.rstrip("\n").rpartition("\n")
         processor, wall, memory, status = map(int, last.split(" "))
-        if status not in statuses:
+        self.is_stopped = self.limit is not None and status == -1 and processor >= self.limit * 1e6
+        if status not in statuses and not self.is_stopped:
             sys.exit(f"{' '.join(map(str, words))}: status {status}: {text} {run.stderr}")
         self.processor = min(self.processor, processor / 1000)
         self.wall = min(self.wall, wall / 1000)
@@ -44,6 +53,8 @@ class Run:
     def add_search(self, plain, words, folder):
         """One run of the program, with the cost and the bound that it prints."""
         text = self.add(plain, words, folder)
+        if self.is_stopped:
+            return
         lines = [line.split(" ") for line in text.split("\n")]
         self.cost = lines[0][1] if lines[0][0] == "plan" else lines[0][0]
         self.bound = lines[-1][1] if lines[-1][0] == "bound" else "none"
