@@ -32,18 +32,21 @@ class Run:
         self.expanded = None
 
     def set_limit(self):
-        if self.limit is not None:
-            resource.setrlimit(resource.RLIMIT_CPU, (self.limit, self.limit))
+        resource.setrlimit(resource.RLIMIT_CPU, (self.limit, self.limit))
 
     def add(self, plain, words, folder, statuses=(0, 1)):
         """One run, which ends with one of these statuses; what it prints, without the line of
         `measure`."""
         run = subprocess.run([plain, "measure", *words], cwd=folder, capture_output=True,
-                             text=True, check=True, preexec_fn=self.set_limit)
+                             text=True, check=True,
+                             preexec_fn=self.limit and self.set_limit)
         text, _, last = run.stdout.rstrip("\n").rpartition("\n")
         processor, wall, memory, status = map(int, last.split(" "))
-        self.is_stopped = self.limit is not None and status == -1 and processor >= self.limit * 1e6
-        if status not in statuses and not self.is_stopped:
+        # The kernel may stop a run some milliseconds before the limit.
+        self.is_stopped = bool(self.limit) and status == -1 and processor > self.limit * 950_000
+        if self.is_stopped:
+            processor = self.limit * 1_000_000
+        elif status not in statuses:
             sys.exit(f"{' '.join(map(str, words))}: status {status}: {text} {run.stderr}")
         self.processor = min(self.processor, processor / 1000)
         self.wall = min(self.wall, wall / 1000)
