@@ -1,3 +1,4 @@
+//! What actions of STRIPS do to the tracked atoms, and the scopes of the blocks that these make.
 ghost use Rattle.std.specs.Prelude.{◌≡◌, ◌<◌, ◌≤◌, ◌^◌, ◌↔◌, ◌⊎◌, ◌==◌, ◌||◌, ◌&&◌, ◌++◌, ◌∷◌, ℕ, [], Bool, IsTrue, IfOk, OnOk, length, slice_index_or, if◌then◌else◌};
 ghost use Rattle.std.specs.List.{list_any};
 ghost use Rattle.pb_task.specs.Strips.{action_at, IsStrips};
@@ -115,6 +116,7 @@ pub fn scopes(
         → IsTrue (has (slice_index_or scopes.items block []) other)
         ↔ ((block ≡ other) ⊎ IsTrackedEdge strips.now atoms.now block other)) }
 {
+    // Many actions do the same to the tracked atoms. Each block is looked at once for each change.
     let changes = each_once(all_changes(alloc, &strips.actions, atoms)?);
     let mut scopes = Vec::new(alloc);
     for block in 0..atoms.set_count() {

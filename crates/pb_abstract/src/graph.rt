@@ -1,3 +1,4 @@
+//! The abstract graph of a task: its blocks, their scopes and their interference.
 ghost use Rattle.std.specs.Prelude.{◌≡◌, ◌<◌, ◌≤◌, ℕ, All, IsTrue, IfOk};
 ghost use Rattle.std.specs.List.Sorted.{IsStrictlyIncreasing};
 ghost use Rattle.pb_machine.specs.Blocks.{interferes};
@@ -61,6 +62,7 @@ impl AbsGraph {
         ensures block { result ≡ home_of task.now self.now state.now }
         ensures below { result < (blocks_of self.now).count }
     {
+        // `IsGraphOf` says that the projection fits the kind of task, so no other pair comes.
         match (task.parts(), self.projection) {
             (TaskParts::Grid(grid), Projection::Squares { side, columns }) => squares::square(
                 grid, side, columns, state,

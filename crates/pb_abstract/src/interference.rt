@@ -1,3 +1,4 @@
+//! Which blocks interfere: those whose scopes have a block in common.
 ghost use Rattle.std.specs.Prelude.{◌≡◌, ◌<◌, ◌≤◌, ◌||◌, ◌&&◌, ◌==◌, not, ℕ, [], All, length, slice_index_or, IfOk, OnOk, replicate};
 ghost use Rattle.std.specs.List.{list_any, filter};
 ghost use Rattle.pb_machine.specs.Blocks.{interferes};

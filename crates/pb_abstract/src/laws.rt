@@ -1,3 +1,4 @@
+//! The laws of this crate. Each is the contract of a function without a body.
 ghost use Rattle.pb_abstract.specs.Laws.{AbstractGraphsAreBlocks, EdgesAreSteps, GraphsAreUnique, BlocksAskForNoCosts};
 
 /// Each state's home is a block of the task's graph, and each step stays in its block or goes along
@@ -6,8 +7,8 @@ pub fn abstract_graphs_are_blocks()
     ensures { AbstractGraphsAreBlocks }
 {}
 
-/// An edge leads from one block to another exactly if some state of the one has a successor in the
-/// other.
+/// An edge leads from one block to another if and only if some state of the one has a successor in
+/// the other.
 pub fn edges_are_steps()
     ensures { EdgesAreSteps }
 {}

@@ -1,3 +1,4 @@
+//! The number of a board's block, from the cells of the blank and the tiles, and back.
 ghost use Rattle.std.specs.Prelude.{◌≡◌, ◌≢◌, ◌+◌, ◌-◌, ◌<◌, ◌≤◌};
 ghost use Rattle.pb_abstract.specs.Placings.{IsPlacing, placing_count, placing_number, rank_beside, rank_beside_two, finest_of};
 
@@ -122,6 +123,7 @@ pub fn placing_at(count: u32, projection: Projection, block: u32) -> Placing
     ensures placing { IsPlacing count result }
     ensures number { placing_number count projection result ≡ block }
 {
+    // Squares and atoms have no placings, so there is no such block.
     match projection {
         Projection::Squares { .. } => unreachable!(),
         Projection::Blank => with_ranks(count, block, 0, 0),

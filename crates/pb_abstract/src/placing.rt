@@ -1,3 +1,5 @@
+//! The cells of the blank and of two tiles, by which boards are mapped to blocks.
+
 /// The cells of a board that the blank and the tiles 1 and 2 are in.
 #[derive(Clone, Copy)]
 pub struct Placing {

@@ -1,3 +1,5 @@
+//! The projections: how the states of a task are mapped to blocks.
+
 use crate::tracked::TrackedAtoms;
 
 /// How the states of a task are mapped to blocks.

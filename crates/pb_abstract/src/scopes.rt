@@ -1,3 +1,4 @@
+//! The finest projection of a task, and the scopes of its blocks, for each kind of task.
 ghost use Rattle.std.specs.Prelude.{◌≡◌, ◌≤◌, ◌<◌, ◌↔◌, ◌⊎◌, ℕ, [], IsTrue, IfOk, length, slice_index_or};
 ghost use Rattle.pb_task.specs.Parts.{IsTask};
 ghost use Rattle.pb_abstract.specs.Projection.{Fits, block_count, IsEdge, IsFinest};
@@ -52,6 +53,7 @@ pub fn scopes(
         → IsTrue (has (slice_index_or scopes.items block []) other)
         ↔ ((block ≡ other) ⊎ IsEdge parts.now projection.now block other)) }
 {
+    // `Fits` says that the projection is one for the kind of task, so no other pair comes.
     match (parts, projection) {
         (TaskParts::Grid(grid), Projection::Squares { side, .. }) => squares::scopes(
             alloc, grid, *side,

@@ -1,3 +1,4 @@
+//! The blocks of a grid: squares of cells, and which squares lie beside each other.
 ghost use Rattle.std.specs.Prelude.{◌≡◌, ◌<◌, ◌≤◌, ◌^◌, ◌*◌, ◌↔◌, ◌⊎◌, ℕ, [], IsTrue, IfOk, length, slice_index_or};
 ghost use Rattle.std.specs.Int.{div_ceil};
 ghost use Rattle.pb_packed.specs.Bits.{bits_of};
@@ -34,6 +35,8 @@ pub fn least_side(grid: &GridParts, wish: u32) -> u32
     ensures small { result ≤ 2048 }
 {
     let mut side = 1;
+    // No side of a grid has more than 2,048 cells. At that side there is one square, so the loop
+    // ends.
     while wish < square_count(grid, side) {
         side += 1;
     }

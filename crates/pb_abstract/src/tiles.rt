@@ -1,3 +1,4 @@
+//! The blocks of boards of tiles, and their scopes by the moves of the blank.
 ghost use Rattle.std.specs.Prelude.{◌≡◌, ◌*◌, ◌+◌, ◌<◌, ◌≤◌, ◌^◌, ◌↔◌, ◌⊎◌, ℕ, [], IsTrue, IfOk, IfSome, length, slice_index, slice_index_or};
 ghost use Rattle.pb_task.specs.Tiles.{IsTiles, cell_count, board_of, is_board, is_board_state, neighbour};
 ghost use Rattle.pb_abstract.specs.Placings.{IsPlacing, placing_count, placing_number, placing_of, placing_after, tile_after, number_after, cell_with, IsTileEdge};

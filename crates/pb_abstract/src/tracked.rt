@@ -1,3 +1,4 @@
+//! The ground atoms on which the blocks of a STRIPS task depend.
 ghost use Rattle.std.specs.Prelude.{◌≡◌, ◌<◌, ◌≤◌, ◌^◌, ◌++◌, ◌∷◌, [], All, length};
 ghost use Rattle.pb_packed.specs.Sizes.{state_bits};
 ghost use Rattle.pb_abstract.specs.Tracked.{tracked_set};
@@ -83,6 +84,7 @@ impl TrackedAtoms {
     {
         let atoms = self.as_slice();
         let mut tracked = 0;
+        // From the last atom on, so that the first becomes the least bit.
         for at in (0..atoms.len()).rev() {
             tracked = 2 * tracked + u32::from(set.has(u32::from(atoms[at])));
         }

@@ -1,3 +1,4 @@
+//! The choice of the tracked atoms: those that the fewest ground actions change.
 ghost use Rattle.std.specs.Prelude.{◌≡◌, ℕ, ◌+◌, ◌<◌, ◌≤◌, true, false, length, slice_index, IfOk, IfSome, IfNone};
 ghost use Rattle.pb_packed.specs.Sizes.{most_atoms};
 ghost use Rattle.pb_machine.specs.Tables.{one_if};
@@ -116,6 +117,7 @@ pub fn choose_atoms(
     let counts = counts(alloc, strips)?;
     let mut atoms = TrackedAtoms::new();
     let mut blocks = 1;
+    // Each atom more doubles the number of blocks.
     while 2 * blocks <= wish {
         let Some(atom) = next(counts.as_slice(), &atoms) else {
             return Ok(atoms);

@@ -26,7 +26,7 @@ impl Homes {
     }
 
     /// The best of the blocks that pass and have an Opened row, as far as the keys were noted. None
-    /// exactly if there is no such block.
+    /// if and only if there is no such block.
     pub fn first_choice<F: Fn(u32) -> bool>(&self, pass: F) -> Option<u32>
         requires { (block : ℕ) → block < length self.now.bundles → F.pre pass block }
         ensures { (test : ℕ → Bool) → ((block : ℕ) (answer : Bool) → block < length self.now.bundles
@@ -36,8 +36,8 @@ impl Homes {
         self.keys.first(&pass)
     }
 
-    /// The best of the blocks nearby that are better than the block. None exactly if no such block
-    /// is better.
+    /// The best of the blocks nearby that are better than the block. None if and only if no such
+    /// block is better.
     pub fn rival(&self, block: u32, near: &[u32]) -> Option<u32>
         ensures { IsRivalBy (is_among near.now) (key_at self.now) block result }
     {

@@ -105,6 +105,7 @@ impl Homes {
             → content_at self.new other ≡ content_at self.old other) }
         ensures err { OnErr result (self.new ≡ self.old) }
     {
+        // The offer may fail, and leaves all as before then: so the key is noted after it.
         let key = offer_in(&mut self.bundles[block as usize], start, estimate)?;
         self.keys.set(block, key);
         Ok(())

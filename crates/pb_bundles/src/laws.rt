@@ -1,13 +1,14 @@
+//! The laws of this crate. Each is the contract of a function without a body.
 ghost use Rattle.pb_bundles.specs.Laws.{BettersAreByKey, OpenedIsByKey, RivalsAreByKey, FirstChoicesAreByKey, HomeKeysAreBest, KeysAtHomeAreBest, OpeningRowsAreHome, NotedKeysAreBest, IncreasingScopesAreDistinct, MovesTakeRows, TakenPlacesAreVacant, MovesBringRows, ChangesAreApart, AwayRowsAreOfBlocks, TakenRowsAreRestricted, BroughtRowsAreMerged, MovesTurnBack};
 
-/// If the keys are those of a store, the one block is better by them exactly if it is better by its
-/// rows.
+/// If the keys are those of a store, the one block is better by them if and only if it is better by
+/// its rows.
 pub fn betters_are_by_key()
     ensures { BettersAreByKey }
 {}
 
-/// A block has a key exactly if a row of it is Opened, and the store is quiet exactly if no block
-/// has a key.
+/// A block has a key if and only if a row of it is Opened. The store is quiet if and only if no
+/// block has a key.
 pub fn opened_is_by_key()
     ensures { OpenedIsByKey }
 {}

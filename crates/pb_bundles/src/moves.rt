@@ -93,6 +93,7 @@ fn move_one(bundles: &mut Vec<Option<Bundle>>, block: u32, parts: &mut IndexMap<
     match bundles[block as usize].take() {
         Some(bundle) => match parts.insert(block, bundle) {
             Ok(_) => {}
+            // By the clause `room` there is a place, so this takes no memory.
             Err(_) => unreachable!(),
         },
         None => unreachable!(),
@@ -110,6 +111,7 @@ fn move_home(
     ensures empty { result.entries ≡ [] }
 {
     let mut rest = parts;
+    // Taken from the end, so that no entry has to move. Each goes to a place of its own.
     while let Some((block, bundle)) = rest.pop() {
         put_home(bundles, block, bundle);
     }

@@ -103,7 +103,9 @@ fn adopt_all(bundles: &mut Vec<Option<Bundle>>, sets: Vec<OpenedSet>)
     ensures { bundles.new.items ≡ adopted bundles.old.items sets.items }
 {
     let mut rest = sets;
+    // The label names the loop in its proof.
     'sets: while let Some(set) = rest.pop() {
+        // The sets are in the blocks' order, so the last one is that of this block.
         let block = rest.len();
         adopt_one(&mut bundles[block], set);
     }

@@ -73,7 +73,7 @@ impl KeyTree {
         climb(&self.keys, &mut self.winners, block);
     }
 
-    /// The best of the blocks that pass and have an Opened row. None exactly if there is no such
+    /// The best of the blocks that pass and have an Opened row. None if and only if there is no such
     /// block. No block is tested that is worse than another block that was met and passes.
     pub fn first<F: Fn(u32) -> bool>(&self, pass: &F) -> Option<u32>
         requires { (block : ℕ) → block < length self.now → F.pre pass.now block }
@@ -146,6 +146,8 @@ fn node_of(keys: &[Option<Key>], winners: &[Winner], at: usize) -> Winner
     requires few { length keys.now < 2 ^ 32 }
     ensures { result ≡ node keys.now winners.now at }
 {
+    // The root is node 1, and below a node are its double and the next. From `count` on they are
+    // the blocks.
     let count = keys.len();
     if at < count {
         return winners[at];

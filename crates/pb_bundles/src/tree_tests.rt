@@ -1,3 +1,4 @@
+//! Tests of the tree of winners: it chooses as a look at all blocks does.
 ghost use Rattle.std.specs.Prelude.{◌≡◌, ◌<◌, length};
 
 use crate::choice::comes_before;
@@ -31,6 +32,7 @@ fn fill(keys: &mut KeyTree, count: u32, seed: u64)
     ensures { length keys.new ≡ count }
 {
     for block in 0..count {
+        // Any key will do, so the numbers may wrap.
         let drawn = (seed.wrapping_mul(u64::from(block).wrapping_add(seed)) >> 3) % 7;
         let key = match drawn {
             0 => None,

@@ -1,3 +1,4 @@
+//! The certificate of a search: its spelling, its plan, and its rows in order of the states.
 ghost use Rattle.std.specs.Prelude.{◌≡◌, ◌^◌, ◌<◌, ◌≤◌, ℕ, Option, IfOk, length, option_copied};
 ghost use Rattle.pb_model.specs.Space.{Space};
 ghost use Rattle.pb_model.specs.Guide.{Guide};
@@ -97,8 +98,9 @@ impl<'a> Certificate<'a> {
         ensures lines { IfOk result (λ c. (guide : Guide) → IsPlaced guide.home (S.rows store.now)
             → AreLinesOf guide (S.rows store.now) c.certificate.lines) }
         // If the store is sound, whatever its incumbent is, the lines are those of its rows. The
-        // certificate is valid if the store is also quiet, and there is a plan exactly if there is
-        // an incumbent. Such a plan must be one of the space, and cost no more than the incumbent.
+        // certificate is valid if the store is also quiet, and there is a plan if and only if there
+        // is an incumbent. Such a plan must be one of the space, and cost no more than the
+        // incumbent.
         ensures rows { IfOk result (λ c. (space : Space) (guide : Guide) (incumbent : Option ℕ)
             → IsSound space guide (store_with (S.rows store.now) (S.weight store.now) incumbent)
             → AreLinesOf guide (S.rows store.now) c.certificate.lines) }

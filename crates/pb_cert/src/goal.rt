@@ -1,3 +1,4 @@
+//! The goal that a plan is traced back from: the one whose row has the least g.
 ghost use Rattle.std.specs.Prelude.{◌≡◌, ◌⊎◌, ◌↔◌, ◌<◌, ◌^◌, ℕ, IsTrue, Some, IfSome, IfNone};
 ghost use Rattle.pb_lists.specs.Bundle.{row_of};
 ghost use Rattle.pb_task.specs.Parts.{space_of};
@@ -42,6 +43,7 @@ fn first_in(task: &Task, so_far: Option<Goal>, bundle: &Bundle) -> Option<Goal>
 {
     let mut first = so_far;
     'rows: for i in 0..bundle.len() {
+        // Few states are goals, so the rows of the others aren't read.
         if task.is_goal(&bundle.state_at(i)) {
             let (state, row) = bundle.at(i);
             first = first_of(task, first, &state, &row);

@@ -1,3 +1,4 @@
+//! The lines of a certificate's text, each put by its number.
 ghost use Rattle.std.specs.Prelude.{◌≡◌, ◌+◌, ◌<◌, ◌≤◌, ◌^◌, ◌++◌, ⊤, Some, length, slice_get};
 ghost use Rattle.std.specs.Fmt.{decimal};
 ghost use Rattle.pb_packed.specs.Sizes.{most_digits};
@@ -152,6 +153,7 @@ fn put_tables(tables: &Tables, digits: u32, starts: &Option<LineStarts>, at: u12
     requires room { length out.old + longest_line ≤ 4096 }
     ensures { PutsLine out.old out.new (tables_lines digits tables.now) at }
 {
+    // Where the choice has tables, the certificate has their starts by its invariant.
     let Some(starts) = starts else { unreachable!() };
     put_tables_line(tables, digits, starts, at, out);
 }

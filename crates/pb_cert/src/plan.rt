@@ -1,3 +1,4 @@
+//! A plan: its actions and their cost.
 ghost use Rattle.std.specs.Prelude.{◌≡◌};
 
 use std::marker::Model;

@@ -170,11 +170,13 @@ fn put_respelled(text: &[u8], width: u32, out: &mut Piece)
     ensures line { out.new ≡ out.old ++ line (respelled_line width text.now) }
     ensures short { length out.new ≤ length out.old + longest_line }
 {
+    // Only the line of a row is longer than the 64 digits of its state.
     if text.len() <= DIGITS {
         put_text(text, out);
         return;
     }
     let digits = width as usize;
+    // A wider state gets zeros in front, and a narrower one loses some. One difference is 0.
     put_zeros(digits.saturating_sub(DIGITS), out);
     out.push(&text[DIGITS.saturating_sub(digits)..]);
     out.push(b"\n");
@@ -198,6 +200,8 @@ impl<'a> Rewriting<'a> {
         requires { (verdict : Verdict) × IsAccepted task.now bytes.now verdict }
         ensures { text_saved result ≡ rewritten_text task.now bytes.now }
     {
+        // The laws and the call show that the bytes spell a certificate, that its states fit the
+        // width, and that the task is lawful.
         read_as_spelled();
         states_fit_their_width();
         let _lawful = task.max_degree();

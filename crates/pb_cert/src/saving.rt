@@ -1,3 +1,4 @@
+//! A certificate's length in bytes, and saving it as a file.
 ghost use Rattle.std.specs.Prelude.{◌≡◌, Some, IsOk, IsSome, OnOk, OnErr, length};
 ghost use Rattle.pb_outside.specs.Outside.{IfTold, KeepsOthers, KeepsHolds, HasCause};
 ghost use Rattle.pb_outside.specs.Calls.{KeepsLoads};

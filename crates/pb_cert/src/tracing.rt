@@ -1,3 +1,4 @@
+//! A plan, traced back from a goal to the start by the parents and actions of the rows.
 ghost use Rattle.std.specs.Prelude.{◌≡◌, ◌≢◌, ◌≤◌, ℕ, IsTrue, None, Some, IfOk};
 ghost use Rattle.pb_model.specs.declared.row.Row.{Row};
 ghost use Rattle.pb_model.specs.Plan.{IsPlan};
@@ -46,6 +47,7 @@ fn last_step<S: Store>(task: &Task, store: &S, state: &Packed) -> Step
         (rows_at_home (S.home store.now) (S.rows store.now)) state.now result.action
         result.parent result.cost }
 {
+    // In a sound store each state on the way has a row, and each but the start a parent.
     let Some(row) = row_at_home(task, store, state) else {
         unreachable!()
     };

@@ -1,3 +1,4 @@
+//! Checking with one worker: the verdict on a certificate, or its first fault.
 ghost use Rattle.std.specs.Prelude.{◌≡◌, ◌+◌, ◌<◌, ◌^◌, length, IfOk, Ok, Err};
 ghost use Rattle.pb_task.specs.Parts.{space_of, IsTask};
 ghost use Rattle.pb_estimate.specs.Tables.{IsOfTask};

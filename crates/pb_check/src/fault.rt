@@ -1,3 +1,4 @@
+//! Why a certificate is refused, and the verdict on one that isn't.
 ghost use Rattle.std.specs.Prelude.{◌≡◌};
 ghost use Rattle.pb_check.specs.declared.fault.CheckError.TheVariants.{Memory};
 

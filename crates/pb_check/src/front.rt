@@ -40,6 +40,7 @@ fn row_front<'a>(width: u32, text: &'a [u8], words: &mut [u64]) -> Option<(RowEn
     ensures words { AreWords (length words.old) words.new }
     ensures shorter { IfSome result (λ x. length x.1.now + 1 ≤ length text.now) }
 {
+    // The number of the line doesn't matter: a line that isn't a row only ends the rows.
     match row_at(width, 0, text, words) {
         Ok((end, rest)) => Some((end, rest)),
         Err(_) => None,

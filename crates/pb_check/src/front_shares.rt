@@ -47,6 +47,7 @@ fn last_share(long: usize, piece: u64, shares: u64) -> usize
     let all = long as u64;
     let pieces = all.div_ceil(piece);
     let before = pieces - pieces / shares;
+    // The product may pass the end of the text, and even 64 bits: then the share begins at the end.
     before.saturating_mul(piece).min(all) as usize
 }
 

@@ -122,6 +122,7 @@ fn estimate_at(
 {
     let (first, rest) = line_at(line, text)?;
     if behind(first, b"estimate tables ").is_some() {
+        // This line is the first of the tables, so they are read from it on and not behind it.
         return tables_choice_at(alloc, width, line, text);
     }
     let choice = estimate_in(line, first)?;

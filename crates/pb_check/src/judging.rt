@@ -85,7 +85,7 @@ fn table_fault(tables: &Tables, fault: TablesFault) -> CertificateFault
     }
 }
 
-// The first fault that keeps tables from suiting the task. They suit no task but STRIPS.
+// The first fault that keeps tables from suiting the task. They suit only STRIPS tasks.
 fn tables_fault_for(task: &Task, tables: &Tables) -> Option<CertificateFault>
     ensures { result ≡ tables_fault_for task.now tables.now }
 {
@@ -202,6 +202,7 @@ pub fn judge_head(task: &Task, text: &StatedText<'_>) -> Result<bool, CheckError
         CertificateFault::Kind,
     )?;
     pass(width_fault(task, text.spelling.version, text.spelling.width))?;
+    // The grounding decides which atoms and actions all later numbers name, so it comes first.
     pass(grounding_fault(task, stated))?;
     pass(stated_fault(task, stated))?;
     need(is_weight(weight), CertificateFault::Weight)?;
@@ -234,13 +235,14 @@ fn judge_before(task: &Task, text: &StatedText<'_>) -> Result<bool, CheckError>
     let rows = &text.rows;
     let first = text.first;
     judge_head(task, text)?;
+    // Rows are looked up by halving, so their order is judged before any look-up.
     pass(rows_order_fault(first, rows))?;
     pass(states_fault(task, first, rows))?;
     need_start(task, rows)
 }
 
 /// The verdict on what a text says, or its first fault. The estimator is by the choice that the
-/// text states, or by the plain one if that choice suits no task.
+/// text states, or by the plain one if that choice doesn't suit this task.
 pub fn judge(
     alloc: Global,
     task: &Task,

@@ -1,3 +1,4 @@
+//! Laws on reading, refusing and verdicts. Each is the contract of a function without a body.
 ghost use Rattle.pb_check.specs.Cases.{CasesAreRefused, RefusalsHaveTheirCase};
 ghost use Rattle.pb_check.specs.Shown.{BoundsAreLeast, CutCertificatesAreRefused};
 ghost use Rattle.pb_check.specs.Judging.{StatedChoicesSuit};

@@ -36,6 +36,7 @@ impl Numbers {
         ensures width { IfOk result (λ numbers. numbers.width ≡ width) }
         ensures none { IfOk result (λ numbers. numbers.numbers ≡ []) }
     {
+        // If the product doesn't fit, the room is refused as out of memory.
         let words = Vec::with_capacity(alloc, width.saturating_mul(room))?;
         Ok(Numbers {
             width,

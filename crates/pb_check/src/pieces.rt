@@ -357,6 +357,7 @@ fn judge_before<R: Threads + Sync>(
     let rows = &text.rows;
     let first = text.first;
     judge_head(task, text)?;
+    // Rows are looked up by halving, so their order is judged before any look-up.
     pass(order_fault_by_shares(rt, task, first, rows, workers))?;
     pass(states_fault_by_shares(rt, task, first, rows, workers))?;
     need_start(task, rows)

@@ -24,6 +24,7 @@ fn step(task: &Task, from: &Packed, action: u64) -> Option<(Packed, u64)>
     ensures state { IfSome result (λ x. IsTrue ((space_of task.now).is_state x.0)) }
     ensures small { IfSome result (λ x. x.1 ≤ greatest_cost) }
 {
+    // Compared in 64 bits: a stated number need not fit 32.
     if action < u64::from(task.actions()) {
         task.apply(from, action as u32)
     } else {

@@ -113,6 +113,7 @@ fn rest_of(width: u32, text: &[u8], left: usize) -> &[u8]
     requires { left ≡ length (rows_while width text.now).1 }
     ensures { result.now ≡ (rows_while width text.now).1 }
 {
+    // Only the contract speaks of the width.
     let _ = width;
     &text[text.len() - left..]
 }

@@ -101,6 +101,7 @@ fn place_near(places: &[usize], action: u32) -> usize {
 
 // Keeps where the next state that an action leads to may have its row.
 fn keep_near(places: &mut [usize], action: u32, near: usize) {
+    // Places are only hints, so no clause says that there is one for each action.
     if (action as usize) < places.len() {
         places[action as usize] = near;
     }

@@ -1,3 +1,4 @@
+//! The rows of a certificate, by their arrays, and the look-up of a state's row.
 ghost use Rattle.std.specs.Prelude.{◌≡◌, ◌-◌, ◌<◌, ◌≤◌, Some, length, slice_get};
 ghost use Rattle.pb_check.specs.Judging.{Rise, g_of};
 ghost use Rattle.pb_check.specs.Rows.{rises_at};

@@ -1,3 +1,4 @@
+//! What a certificate states: its weight, its plan, what comes before the rows, and the rows.
 ghost use Rattle.std.specs.Prelude.{◌≡◌};
 
 use crate::actions::StatedActions;

@@ -1,3 +1,5 @@
+//! The commands that words may ask for, with all their values.
+
 use pb_machine::Settings;
 use pb_task::{Grounding, Kind};
 
@@ -76,7 +78,7 @@ pub struct SolveCommand<'a> {
 
 /// `solve KIND FILE [FILE] --falling S` and its other options: runs at falling weights over the
 /// same rows (Likhachev, Gordon and Thrun, "ARA*: Anytime A* with Provable Bounds on
-/// Sub-Optimality", 2004; Hansen and Zhou, "Anytime Heuristic Search", 2007).
+/// Sub-Optimality", 2003; Hansen and Zhou, "Anytime Heuristic Search", 2007).
 #[derive(Clone, Copy)]
 pub struct FallingCommand<'a> {
     /// The task, and what the first run is run with. It is searched by leases, and no journal is

@@ -1,3 +1,4 @@
+//! The files that a command loads, each with its limit in bytes.
 ghost use Rattle.std.specs.Prelude.{◌≡◌, ◌++◌, ◌∷◌, [], IfOk, OnOk, map};
 ghost use Rattle.pb_command.specs.Causes.{input_meant, meaning_of};
 ghost use Rattle.pb_command.specs.Files.{file_meant, input_file, input_files, loaded_files};
@@ -53,6 +54,7 @@ fn push_file<'a>(files: &mut Vec<LoadedFile<'a>>, file: LoadedFile<'a>) -> Resul
     ensures { OnOk result (map file_meant files.new.items
         ≡ map file_meant files.old.items ++ file_meant file.entry ∷ []) }
 {
+    // A failed push gives the file back; `?` drops it and leaves the `AllocError`.
     files.push(file)?;
     Ok(())
 }

@@ -1,3 +1,4 @@
+//! Laws on options and on refusals, as contracts of functions without a body.
 ghost use Rattle.pb_command.specs.Options.{SolveReadsOptions, LowWeightIsRefused, OneNameIsRefused};
 ghost use Rattle.pb_command.specs.Options.{JournalOfOwnersIsRefused, FallingReadsOptions};
 ghost use Rattle.pb_command.specs.Options.{FallingOfOwnersIsRefused, FallingWithJournalIsRefused};

@@ -50,6 +50,7 @@ fn settings(matches: &ArgMatches<'_>) -> Settings
     ensures range { AreEachInRange result }
 {
     Settings {
+        // No cast loses anything, by the ranges of the table.
         workers: number_at(matches, ValuedOption::Workers) as u32,
         num: number_at(matches, ValuedOption::Num),
         den: number_at(matches, ValuedOption::Den),
@@ -74,6 +75,7 @@ fn tested_solve<'a>(
     ensures read { Answers meaning_of (solve_tested falling (solve_meant command.entry)) result }
     ensures ranges { IfOk result (λ c. IsInRange (meaning_of c)) }
 {
+    // The first test that fails is reported, so they are in the order of `CommandFault`.
     if command.settings.num < command.settings.den {
         return Err(CommandFault::Weight);
     }
@@ -133,6 +135,7 @@ fn read_solve<'a>(matches: &ArgMatches<'a>) -> Result<CommandLine<'a>, CommandFa
             }
             None => Err(CommandFault::Files),
         },
+        // Clap requires the word, but its clauses don't say that it is there.
         None => Err(CommandFault::Form),
     }
 }
@@ -259,6 +262,7 @@ fn read_command<'a>(name: &str, matches: &ArgMatches<'a>) -> Result<CommandLine<
         "solve" => read_solve(matches),
         "check" => read_check(matches),
         "journal" => read_journal(matches),
+        // Clap knows no other command than these four.
         _ => read_make(matches),
     }
 }
@@ -316,6 +320,7 @@ pub fn read_words<'a>(alloc: Global, words: &'a [String]) -> Result<CommandLine<
     match parse(alloc, words) {
         Ok(matches) => match matches.subcommand() {
             Some((name, inner)) => read_subcommand(alloc, name, inner),
+            // `parse` states that a subcommand was found.
             None => unreachable!(),
         },
         Err(error) => Err(form_refusal(alloc, &error)),

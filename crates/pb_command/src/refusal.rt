@@ -1,3 +1,4 @@
+//! Why words are refused, and what is printed of it.
 ghost use Rattle.std.specs.Prelude.{◌≡◌, ◌≢◌, ◌≤◌, ◌+◌, true, length, IfOk, codes};
 ghost use Rattle.std.specs.String.{string_bytes};
 ghost use Rattle.std.specs.String.Boundary.{IsSplitPoint};
@@ -103,6 +104,7 @@ fn end_last_line(text: String) -> Result<String, AllocError>
     if text.len() <= REST_MOST && is_ended(text.as_str()) {
         return Ok(text);
     }
+    // One byte is left for the line feed.
     let end = cut_at(&text, REST_MOST - 1);
     text.truncate(end);
     text.push_str("\n")?;
@@ -215,6 +217,7 @@ fn form_message(alloc: Global, name: &str, word: Option<&str>) -> Result<Message
     ensures { IfOk result IsErrorText }
 {
     let Some(word) = word else {
+        // No words lead here, since clap tests all else. Its clauses don't say so.
         return clap_message(alloc, name, "a required value is missing");
     };
     let mistake = format!(in alloc;

@@ -44,6 +44,7 @@ pub(crate) fn number(
     match matches.try_get_one::<u64>(id) {
         Ok(None) => default,
         Ok(Some(n)) => {
+            // Clap tested the range too, but states it for values of the top level alone.
             if least <= n && n <= most {
                 Some(n)
             } else {
@@ -58,6 +59,7 @@ pub(crate) fn number(
 fn is_given(matches: &ArgMatches<'_>, id: &str) -> bool
     ensures { result ≡ flag_of id.now (rows_of (found_of matches.now)) }
 {
+    // Read as a text, since `get_flag` states nothing about texts other than `true` and `false`.
     match text(matches, id) {
         Some("true") => true,
         _ => false,
@@ -78,6 +80,7 @@ fn fits(matches: &ArgMatches<'_>, option: ValuedOption) -> bool
             None => false,
         },
         ValueForm::OptionalNumber { least, most } => {
+            // Any default in the range would do: an option that is not given fits.
             match number(matches, option.name(), least, most, Some(least)) {
                 Some(_) => true,
                 None => false,
@@ -115,6 +118,7 @@ pub(crate) fn number_at(matches: &ArgMatches<'_>, option: ValuedOption) -> u64
             Some(n) => n,
             None => default,
         },
+        // The number of an option of another form is never asked for.
         ValueForm::OptionalNumber { least, .. } => least,
         ValueForm::FileName => 0,
         ValueForm::OneOf(_, _) => 0,
@@ -149,6 +153,7 @@ pub(crate) fn engine_at(matches: &ArgMatches<'_>) -> Engine
 {
     match text_at(matches, ValuedOption::Engine) {
         Some(word) => {
+            // Any third word is refused by `values_fit`.
             if word == Engine::Owners.word() {
                 Engine::Owners
             } else {

@@ -1,5 +1,5 @@
-// The successors of a state of a STRIPS task with many actions. An action is looked at only if the
-// state has the atom that it is listed under, or if it needs none.
+//! The successors of a state of a STRIPS task with many actions. An action is looked at only if the
+//! state has the atom that it is listed under, or if it needs none.
 ghost use Rattle.std.specs.Prelude.{◌≡◌, ℕ, ◌+◌, ◌*◌, ◌<◌, ◌≤◌, ◌++◌, All, IfOk, IsTrue, None, length, true, false, [], slice_index, slice_index_or, vec_capacity, vec_len};
 ghost use Rattle.pb_packed.specs.Sizes.{most_atoms};
 ghost use Rattle.pb_model.specs.Space.{steps, successor_list};
@@ -36,6 +36,7 @@ fn count_uses(uses: &mut [u32], set: &Packed, count: u32)
     let mut atom = next_atom(set, 0, count);
     while atom < count {
         let at = atom as usize;
+        // Saturating needs no proof that the count stays small.
         uses[at] = uses[at].saturating_add(1);
         atom = next_atom(set, atom + 1, count);
     }
@@ -103,6 +104,7 @@ fn mark_candidates(lists: &FlatLists, marks: &mut [u64], atoms: u32, state: &Pac
         mark_each(marks, lists.at(atom as usize));
         atom = next_atom(state, atom + 1, atoms);
     }
+    // The list behind those of the atoms has the actions that need none.
     mark_each(marks, lists.at(atoms as usize));
 }
 
@@ -123,6 +125,7 @@ fn push_step(out: &mut Vec<Succ>, action: u32, step: Option<(Packed, u64)>)
         };
         match out.push(successor) {
             Ok(()) => {}
+            // The list has room by the contract.
             Err(_) => unreachable!(),
         }
     }

@@ -1,4 +1,4 @@
-// Sets of atoms, gone through by their bits.
+//! Sets of atoms, gone through by their bits.
 ghost use Rattle.std.specs.Prelude.{◌≡◌, ◌≢◌, ℕ, ◌<◌, ◌≤◌, ◌&&◌, ◌||◌, not, true, false, IfOk};
 ghost use Rattle.pb_packed.specs.Sizes.{most_atoms};
 ghost use Rattle.pb_task.specs.Strips.{has_atom};
@@ -68,6 +68,7 @@ fn with_atom(set: &Packed, atom: u32) -> Packed
     ensures has { has_atom result atom ≡ true }
     ensures others { (other : ℕ) → other ≢ atom → has_atom result other ≡ has_atom set.now other }
 {
+    // The law says that no other atom's bit changes.
     fields_are_replaced();
     set.with(atom, true)
 }

@@ -47,10 +47,11 @@ pub enum ChoiceCase<'a> {
     /// The estimate of the task's kind: the Manhattan distance or hmax.
     Plain,
     /// The greater of that estimate and the value of the pattern that has this number. Any number
-    /// can be stated; a task is searched and judged by the numbers 1 to 12 alone.
+    /// can be stated; a task is searched and judged only by the numbers 1 to 12.
     Pattern(u64),
-    /// The greatest sum of these tables. They can be stated for any task; a task is searched and
-    /// judged by tables that suit it alone.
+    /// The estimate by these tables: Dead for a state in one of their traps, 0 if a table doesn't
+    /// list the state's image, and else the greatest of their sums. Any tables can be stated for a
+    /// task; it is judged only by tables that suit it.
     Tables(&'a Tables),
 }
 
@@ -88,6 +89,7 @@ impl Choice {
     pub fn of_tables(tables: Arc<Tables>) -> Choice
         ensures { result ≡ TablesOf (arc_value tables) }
     {
+        // The call shows that the tables are lawful, which a choice has as its invariant.
         let _ = tables.sums();
         Choice {
             kept: Kept::Tables(tables),

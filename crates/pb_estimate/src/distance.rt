@@ -1,3 +1,4 @@
+//! The Manhattan distance of two cells.
 ghost use Rattle.std.specs.Prelude.{◌≡◌};
 ghost use Rattle.pb_estimate.specs.Estimates.{apart, manhattan};
 

@@ -1,3 +1,4 @@
+//! The estimator of a task: a state's estimate by the choice, and a state's successors.
 ghost use Rattle.std.specs.Prelude.{◌≡◌, ◌≤◌, true, IsTrue, IfOk, None, vec_capacity};
 ghost use Rattle.std.specs.Option.{option_map, option_copied};
 ghost use Rattle.std.specs.Arc.{arc_value};
@@ -124,6 +125,7 @@ fn by_tables(task: &Task, tables: &Tables, state: &Packed) -> Estimate
     ensures { result ≡ estimate_by_tables task.now tables.now state.now }
 {
     match task.parts() {
+        // Tables track atoms alone, and such a goal asks for a fact that is no atom.
         TaskParts::Strips(strips) if strips.never => Estimate::Dead,
         TaskParts::Strips(strips) => tables.estimate(strips, state),
         TaskParts::Grid(_) | TaskParts::Tiles(_) => unreachable!(),

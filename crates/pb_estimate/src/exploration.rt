@@ -1,3 +1,5 @@
+//! The costs of atoms without deletes, and the queue of the atoms that were reached: what hmax
+//! is computed with.
 ghost use Rattle.std.specs.Prelude.{[], ◌∷◌, ◌≡◌, ℕ, ◌+◌, ◌-◌, ◌^◌, ◌<◌, ◌≤◌, ◌↔◌, IsTrue, IfOk, IfSome, IfNone, All, length, slice_index, slice_set, true, None, is_some};
 ghost use Rattle.pb_packed.specs.Sizes.{most_atoms};
 ghost use Rattle.pb_task.specs.Strips.{has_atom};
@@ -140,6 +142,7 @@ fn least(costs: &[CostWord], atoms: &[u16], level: u32) -> Option<(u16, u32)>
     for atom in atoms {
         if let AtomCost::Open(cost) = costs[*atom as usize].read() {
             if cost == level {
+                // No open cost is less, so the other atoms need not be looked at.
                 return Some((*atom, cost));
             }
             best = lesser(best, (*atom, cost));

@@ -1,3 +1,4 @@
+//! Lists of numbers that lie in one array.
 ghost use Rattle.std.specs.Prelude.{[], ◌∷◌, ◌≡◌, ◌<◌, ◌++◌, OnOk, length, slice_index_or};
 
 use std::alloc::{AllocError, Global};

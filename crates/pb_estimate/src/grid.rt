@@ -1,3 +1,4 @@
+//! The plain estimate on a grid: the Manhattan distance to the goal.
 ghost use Rattle.std.specs.Prelude.{◌≡◌};
 ghost use Rattle.pb_packed.specs.Bits.{bits_of};
 ghost use Rattle.pb_estimate.specs.Estimates.{cell_of, manhattan};

@@ -1,3 +1,4 @@
+//! Laws on the estimates. Each is the contract of a function without a body.
 ghost use Rattle.pb_estimate.specs.Laws.{EstimatesAreAdmissible, EstimatesCountTiles, HmaxIsFixed};
 
 /// No walk from a state to a goal costs less than the state's estimate by a choice that suits the

@@ -5,8 +5,9 @@
 //! choice it is `estimate_of`. For grids that is the Manhattan distance to the goal. For tiles it
 //! is the sum of the Manhattan distances of all tiles from their cells on the goal board. For
 //! STRIPS tasks it is hmax: the cost of the dearest atom of the goal if nothing is deleted. By a
-//! pattern it is the greater of the plain estimate and the pattern value. By tables it is the
-//! greatest of their sums.
+//! pattern it is the greater of the plain estimate and the pattern value. By tables it is Dead
+//! for a state in one of their traps, and for every state if the goal asks for a fact that never
+//! holds. Else it is the greatest of their sums, or 0 if a table doesn't list the state's image.
 #![tactic(auto)]
 
 mod action_index;

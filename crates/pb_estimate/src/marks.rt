@@ -1,4 +1,4 @@
-// A mark for each action of a task: a bit of a word, 64 actions a word.
+//! A mark for each action of a task: a bit of a word, 64 actions a word.
 ghost use Rattle.std.specs.Prelude.{◌≡◌, ◌≢◌, ℕ, ◌<◌, ◌≤◌, ◌*◌, All, length, true, false};
 ghost use Rattle.pb_estimate.specs.Indexed.{is_marked};
 

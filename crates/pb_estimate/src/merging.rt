@@ -1,4 +1,4 @@
-// Actions that need the same and cost the same, merged into one that adds what any of them adds.
+//! Actions that need the same and cost the same, merged into one that adds what any of them adds.
 ghost use Rattle.std.specs.Prelude.{[], ◌∷◌, ◌≡◌, ℕ, ◌+◌, ◌^◌, ◌<◌, ◌≤◌, ◌++◌, List, IfOk, IfSome, OnOk, length};
 ghost use Rattle.pb_packed.specs.Sizes.{most_atoms};
 ghost use Rattle.pb_task.specs.declared.parts.GroundAction.{GroundAction};
@@ -31,7 +31,7 @@ struct Common {
 
 // The merged actions so far. By what actions have in common, `places` has the place of the action
 // into which they are merged. Each place that is found is looked at before it is used, so no proof
-// rests on the map.
+// depends on the map.
 #[derive(Drop)]
 struct Merging {
     actions: Vec<MergedAction>,

@@ -1,3 +1,4 @@
+//! The delete relaxation of a STRIPS task: its merged actions without what they delete.
 ghost use Rattle.std.specs.Prelude.{[], ◌∷◌, ◌≡◌, ℕ, ◌<◌, ◌≤◌, ◌++◌, All, Contains, IfOk, List, OnOk, length, replicate, false, slice_index, slice_index_or, slice_set, if◌then◌else◌, ◌==◌};
 ghost use Rattle.pb_packed.specs.Sizes.{most_atoms};
 ghost use Rattle.pb_task.specs.Strips.{has_atom, IsStrips};

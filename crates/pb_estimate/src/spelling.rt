@@ -1,4 +1,4 @@
-//! How a certificate is spelled. What writes certificates and what reads them both stand on this.
+//! How a certificate is spelled. The crates that write and that read certificates depend on this.
 ghost use Rattle.std.specs.Prelude.{◌≡◌, ◌<◌, ◌≤◌, ◌^◌, ℕ, length, true};
 ghost use Rattle.pb_estimate.specs.Estimates.{suits};
 ghost use Rattle.pb_estimate.specs.Spelling.{IsSpelling, spelling_of, version_of, width_text, choice_text, estimate_text, stated_text, head_lines};
@@ -113,6 +113,7 @@ impl Spelling {
         ensures spelling { result ≡ spelling_of task.now choice }
         ensures known { suits task.now choice ≡ true → IsSpelling result }
     {
+        // Only lawful tables and a lawful task have a spelling: the two calls show that they are.
         let _ = choice.case();
         let _ = task.parts();
         let grounding = task.grounding();

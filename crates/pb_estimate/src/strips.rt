@@ -1,3 +1,4 @@
+//! The plain estimate of a STRIPS task: hmax, computed with a counter for each action.
 ghost use Rattle.std.specs.Prelude.{◌⊎◌, ◌≡◌, ℕ, ◌+◌, ◌-◌, ◌<◌, ◌≤◌, ◌^◌, All, Contains, IfOk, length, slice_index, slice_set, None};
 ghost use Rattle.pb_task.specs.Strips.{IsStrips};
 ghost use Rattle.pb_estimate.specs.Hmax.{IsAtMost, goal_cost, hmax};
@@ -161,10 +162,12 @@ fn goal_cost(
     let mut wanted = task.wanted;
     let mut level = 0;
     while let Some((atom, cost)) = exploration.next(level) {
+        // Costs become final in ascending order, so no open cost is below this one.
         level = cost;
         if task.goal[atom as usize] {
             wanted -= 1;
             if wanted == 0 {
+                // Of the goal's atoms this one became final last, so it is the dearest.
                 return Some(cost);
             }
         }
@@ -192,6 +195,7 @@ pub fn estimate(strips: &StripsParts, counters: &mut Counters, state: &Packed) -
     if counters.task.wanted == 0 {
         return Estimate::Cost(0);
     }
+    // The estimate of the state before has counted them down.
     counters
         .counts
         .copy_from_slice(counters.task.needs.as_slice());

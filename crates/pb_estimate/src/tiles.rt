@@ -1,3 +1,4 @@
+//! The plain estimate of a board of tiles: the sum of the tiles' Manhattan distances.
 ghost use Rattle.std.specs.Prelude.{◌≡◌, ◌<◌, ◌≤◌, ◌==◌, length, position, IfSome};
 ghost use Rattle.pb_task.specs.Tiles.{IsTiles, board_of, cell_count};
 ghost use Rattle.pb_estimate.specs.Estimates.{cell_with, place_of, way_home, ways_home};
@@ -76,6 +77,7 @@ pub fn distance(tiles: &TilesParts, ways: &[u8; WAYS], state: &Packed) -> u64
         (board_of (cell_count tiles.now) state.now) (cell_count tiles.now) }
 {
     let count = (tiles.rows * tiles.cols) as usize;
+    // One read for the whole board: each read looks at the state's form.
     let mut rest = state.bits(0, 64);
     let mut sum = 0;
     for cell in 0..count {

@@ -31,6 +31,7 @@ pub fn first(lease: &Lease) -> Option<(Packed, Row)>
     let state = bundle.first()?;
     match bundle.row(&state) {
         Some(row) => Some((state, row)),
+        // Each Opened state has a row.
         None => unreachable!(),
     }
 }
@@ -80,6 +81,7 @@ pub fn offer(
     let bundle = lease.bundle_mut(block);
     match bundle.place_of(&succ.state) {
         Some(place) => {
+            // The row keeps its estimate, which need not be computed again.
             bundle.offer_at(place, g, Some(parent), succ.action)?;
             Ok(())
         }

@@ -53,6 +53,7 @@ pub fn expand(
 {
     estimator.successors(task, state, succs);
     offer_all(task, estimator, abstraction, lease, succs, state, row.g)?;
+    // Only now: a row whose successors weren't all offered must be expanded again.
     close(lease, state);
     lease.spend();
     Ok(())

@@ -9,7 +9,7 @@ use pb_lease::Lease;
 /// cost of its own. Costs are in the unit of the task's action costs. Neither call waits or takes
 /// memory.
 pub trait Watch {
-    // What the watch knows, or None if it reads none and is told nothing.
+    // What the watch knows, or None if it reads none and keeps nothing that is reported.
     ghost seen: { Self → Option WatchView };
 
     // What both calls need, and keep.
@@ -39,7 +39,8 @@ pub trait Watch {
         ensures told { Tells (seen self.old) cost (seen self.new) };
 }
 
-/// The watch of a worker that has nobody to hear of: it reads none, and what it is told is lost.
+/// The watch of a worker that has nobody to hear of: it reads none, and what is reported to it is
+/// lost.
 #[derive(Drop)]
 pub struct NoWatch;
 

@@ -68,8 +68,8 @@ fn next_row<W: Watch>(lease: &mut Lease, watch: &mut W) -> Option<(Packed, Row)>
     first(lease)
 }
 
-// Cuts the first Opened row if it may be cut. If it is a goal's, takes it after its cost was told.
-// Answers whether it did either.
+// Cuts the first Opened row if it may be cut. If it is a goal's, takes it after its cost was
+// reported. Answers whether it did either.
 fn settle_row<W: Watch>(
     task: &Task,
     lease: &mut Lease,
@@ -96,6 +96,7 @@ fn settle_row<W: Watch>(
         cut(lease, state);
         true
     } else if task.is_goal(state) {
+        // First: a cost that the lease has as its incumbent can no longer be reported.
         watch.tell(lease, row.g);
         lease.lower_incumbent(row.g);
         cut(lease, state);
@@ -136,8 +137,8 @@ fn settle<W: Watch>(task: &Task, lease: &mut Lease, watch: &mut W) -> Option<(Pa
 /// Raphael 1968), on the rows of one block. A turn cuts the first Opened row if it may be cut,
 /// takes it if it is a goal's, and else expands it. The turns end when no row of the block is
 /// Opened, or the lease's quota is used up. Before each turn the incumbent is read and taken into
-/// the lease. The cost of a goal's row is told before the lease has it as its incumbent. The list
-/// is for successors alone. Only bundles take memory.
+/// the lease. The cost of a goal's row is reported before the lease has it as its incumbent. The
+/// list is for successors alone. Only bundles take memory.
 pub fn work_watched<W: Watch>(
     task: &Task,
     estimator: &mut Estimator,
@@ -166,7 +167,7 @@ pub fn work_watched<W: Watch>(
     ensures counted { lease.old.used ≤ lease.new.used }
     ensures within { lease.new.used ≤ lease.new.quota }
 
-    // The lease has the least cost that was read or told, and shows what was told.
+    // The lease has the least cost that was read or reported, and shows what was reported.
     ensures copy { IsLevel (W.seen watch.new) lease.new }
     ensures watched { IsUnder (space_of task.now) (guide_of task.now abstraction.now
         lease.old.choice)
@@ -192,6 +193,7 @@ pub fn work_watched<W: Watch>(
 {
     let quota = lease.quota();
     while let Some((state, row)) = settle(task, lease, watch) {
+        // Only here: with the quota used up, rows are still cut and goals taken.
         if lease.used() == quota {
             return Worked::Spent;
         }

@@ -1,3 +1,4 @@
+//! The work on a lease without a watch, and why work on a lease stops.
 ghost use Rattle.std.specs.Prelude.{◌≡◌, ◌-◌, ◌<◌, ◌≤◌, ℕ, ◌↔◌, vec_capacity};
 ghost use Rattle.pb_model.specs.Store.{HasOpened};
 ghost use Rattle.pb_model.specs.declared.row.Row.{Row};

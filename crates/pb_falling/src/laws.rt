@@ -1,3 +1,5 @@
+//! Laws on falling weights and on the claims after each run. Each is the contract of a function
+//! that cites other laws at most.
 ghost use Rattle.pb_falling.specs.Laws.{WeightsFall, ClaimsHold, WorkedWeights};
 
 use pb_machine::reopening_is_lawful;
@@ -11,6 +13,7 @@ pub fn weights_fall()
 pub fn claims_hold()
     ensures { ClaimsHold }
 {
+    // Each run after the first begins with the machine of the one before, opened again.
     reopening_is_lawful();
 }
 

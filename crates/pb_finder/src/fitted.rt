@@ -221,6 +221,7 @@ fn put(tables: &mut Vec<Table>, sums: usize, table: Table) -> Result<(), AllocEr
     requires table { IsTable sums table }
     ensures { All (IsTable sums) tables.new.items }
 {
+    // Only the contract speaks of `sums`.
     let _ = sums;
     tables.push(table)?;
     Ok(())

@@ -59,6 +59,7 @@ impl Candidate {
     }
 
     fn has(&self, atom: u32) -> bool {
+        // A place may be left of an atom that was taken out, so the member there is compared.
         let place = place_at(&self.places, atom as usize);
         place < self.members.len() && self.members[place] == atom
     }

@@ -57,6 +57,7 @@ impl ImageSearch {
         let Some(next) = operators.step(kind, code) else {
             return Ok(());
         };
+        // A step from an image to itself lowers nothing.
         if next == code {
             return Ok(());
         }
@@ -164,6 +165,7 @@ impl Images {
         list_actions(alloc, &self.operators, &mut self.actions)?;
         self.steps
             .fill(&self.search.found, self.search.codes.len())?;
+        // They are kept by their ends now, so their memory is given back.
         self.search.found = Vec::new(alloc);
         Ok(())
     }

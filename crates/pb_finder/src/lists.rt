@@ -117,6 +117,7 @@ impl Lists {
     fn turn(&mut self, lists: &Lists, numbers: usize) -> Result<(), AllocError> {
         self.ends.resize(numbers, 0)?;
         self.items.resize(lists.items.len(), 0)?;
+        // Counts, then starts; each item that is written moves its list's start towards the end.
         count(&lists.items, &mut self.ends);
         starts_of(&mut self.ends);
         lists.turn_into(&mut self.ends, &mut self.items);

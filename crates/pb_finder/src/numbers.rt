@@ -25,6 +25,8 @@ pub fn set(list: &mut [u64], place: usize, value: u64) {
 
 /// Adds to the number at a place.
 pub fn raise(list: &mut [u64], place: usize, by: u64) {
+    // No clause bounds these numbers, so the sum saturates: if tables are wrong by it, they are
+    // refused.
     if place < list.len() {
         list[place] = list[place].saturating_add(by);
     }

@@ -243,6 +243,8 @@ impl Operators {
             }
             operator.add(rules, action, field, variable);
             if may_clear(rules, action, variable) {
+                // So no two such actions are one operator: what is taken away is listed by
+                // operator.
                 operator.clears = (action as u64).saturating_add(1);
             }
         }
@@ -324,6 +326,7 @@ impl Operators {
     ) -> Result<(), AllocError> {
         let mut next = 0;
         for action in actions {
+            // The actions ascend, so one that stands there again is below `next`.
             if *action >= next {
                 self.push(rules, variables, *action as usize)?;
                 next = action.saturating_add(1);

@@ -79,6 +79,7 @@ impl Alone {
 
 // What the actions of a pattern lower in all.
 fn used_by(alloc: Global, images: &Images, values: &[u64]) -> Result<u64, AllocError> {
+    // A copy: the values by themselves keep `UNKNOWN`, by which traps are found.
     let mut settled = Vec::from_slice(alloc, values)?;
     settle(&mut settled);
     let drops = drops_of(alloc, images, &settled)?;

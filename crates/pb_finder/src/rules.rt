@@ -47,6 +47,7 @@ impl Rules {
     fn push(&mut self, strips: &StripsParts, action: usize) -> Result<(), AllocError>
         requires strips { IsStrips strips.now }
     {
+        // No clause bounds the number, and the calls below need that.
         if action >= strips.actions.len() {
             return Ok(());
         }

@@ -74,6 +74,7 @@ impl Steps {
     pub fn fill(&mut self, found: &[FoundStep], images: usize) -> Result<(), AllocError> {
         self.ends.resize(images, 0)?;
         self.steps.resize(found.len(), Step::default())?;
+        // Counts, then starts; each step that is written moves its image's start towards the end.
         count(found, &mut self.ends);
         starts_of(&mut self.ends);
         put_all(&mut self.ends, &mut self.steps, found);

@@ -1,3 +1,4 @@
+//! Why the texts of a map and a scenario are refused.
 ghost use Rattle.std.specs.Prelude.{◌≡◌};
 ghost use Rattle.pb_grid.specs.declared.error.GridError.TheVariants.{Memory};
 

@@ -1,3 +1,4 @@
+//! The first four lines of a map, which state its height and width.
 ghost use Rattle.std.specs.Prelude.{◌≡◌, [], ◌∷◌, codes, drop, IfOk};
 ghost use Rattle.pb_grid.specs.Lines.{lines_of, words_of};
 ghost use Rattle.pb_grid.specs.Reading.{Gives, are_words, number_named, size_of_map};

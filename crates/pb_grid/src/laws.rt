@@ -1,3 +1,4 @@
+//! Laws on what two texts spell and on refusals, as contracts of functions without a body.
 ghost use Rattle.pb_grid.specs.Laws.{ReadAsSpelled, SpelledGridsAreUnique, SwampChangesMarksAlone, SpelledGridsAreGrids, RefusalsAreOfTexts, RefusalsHaveTheirCase};
 
 /// If two texts are read without a refusal, the result is a grid that they spell. A grid that they
@@ -27,7 +28,7 @@ pub fn refusals_are_of_texts()
     ensures { RefusalsAreOfTexts }
 {}
 
-/// Each refusal is reported exactly in its case, as the formats describe it.
+/// A refusal is reported if and only if its case holds, as the formats describe it.
 pub fn refusals_have_their_case()
     ensures { RefusalsHaveTheirCase }
 {}

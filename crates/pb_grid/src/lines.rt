@@ -1,3 +1,4 @@
+//! Lines of a text.
 ghost use Rattle.std.specs.Prelude.{◌≡◌, ◌≤◌, ◌+◌, [], ◌∷◌, length, drop, position, IfSome, IfNone};
 ghost use Rattle.std.specs.Str.Lines.{strip_carriage_return};
 ghost use Rattle.pb_grid.specs.Lines.{is_line_feed, lines_of, line_at};
@@ -49,6 +50,7 @@ pub fn next_line(text: &[u8]) -> (&[u8], &[u8])
 {
     match split_line(text) {
         Some((line, rest)) => (line, rest),
+        // The text is empty, so it is its own missing line and its own rest.
         None => (text, text),
     }
 }

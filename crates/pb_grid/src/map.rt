@@ -80,6 +80,7 @@ fn add_row(
     ensures marks { IfOk result (λ _. marks.new.items ≡ marks.old.items
         ++ map (is_swamp_byte swamp) row.now) }
 {
+    // The length is judged before the bytes, as the order of refusals has it.
     if row.len() != width as usize {
         return Err(GridError::Rows { line });
     }
@@ -99,6 +100,7 @@ fn rows_of_map(
         ≡ map (is_swamp_byte swamp) (concat (take height (lines_of text.now)))) }
     ensures rest { IfOk result (λ x. lines_of x.2.now ≡ drop height (lines_of text.now)) }
 {
+    // No room is reserved for the stated size, which the text may not have.
     let mut cells = Vec::new(alloc);
     let mut marks = Vec::new(alloc);
     let mut rest = text;

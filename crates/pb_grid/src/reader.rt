@@ -1,3 +1,4 @@
+//! The grid of a map and of the chosen row of a scenario.
 ghost use Rattle.std.specs.Prelude.{◌≡◌, ◌≢◌, IfOk, IfErr, Ok, Err};
 ghost use Rattle.pb_task.specs.declared.parts.GridParts.{GridParts};
 ghost use Rattle.pb_task.specs.declared.parts.TaskParts.TheVariants.{Grid};
@@ -39,6 +40,7 @@ fn grid_of_parts(
 ) -> Result<GridParts, GridError>
     ensures { Gives (λ x. x) result (grid_of_parts map swamp scenario) }
 {
+    // The tests are in the order of `GridError`, whose first name that fits is reported.
     if scenario.width != map.width || scenario.height != map.height {
         return Err(GridError::ScenarioSize);
     }
@@ -74,6 +76,7 @@ fn parts_of_texts(
 ) -> Result<GridParts, GridError>
     ensures { Gives (λ x. x) result (grid_reading map.now scenario.now row swamp) }
 {
+    // The whole map is judged before the scenario, so its refusals come first.
     let (parts, marks) = read_map(alloc, map, swamp)?;
     let chosen = read_scenario(scenario, row)?;
     grid_of_parts(parts, marks, chosen)

@@ -1,3 +1,4 @@
+//! The chosen row of a scenario: the size of its map, the start and the goal.
 ghost use Rattle.std.specs.Prelude.{◌≡◌, length, reverse, slice_get, None, IfSome, IfNone};
 ghost use Rattle.pb_grid.specs.Lines.{lines_of, words_of};
 ghost use Rattle.pb_grid.specs.declared.error.GridError.TheVariants.{NoRow};
@@ -35,6 +36,8 @@ fn number_words(line: &[u8]) -> Option<NumberWords<'_>>
         (pair_of w.goal_x.now w.goal_y.now)) }
     ensures none { IfNone result (scenario_of_words (reverse (words_of line.now)) ≡ None) }
 {
+    // Words are taken from the right, since a map's name may have several.
+    // The last word, the optimal length, isn't looked at.
     let Some((before_way, _)) = split_last_word(line) else {
         return None;
     };
@@ -59,6 +62,7 @@ fn number_words(line: &[u8]) -> Option<NumberWords<'_>>
     let Some((before_name, _)) = split_last_word(before_width) else {
         return None;
     };
+    // The bucket may be any word, but a row without one has too few words.
     let Some(_) = split_last_word(before_name) else {
         return None;
     };

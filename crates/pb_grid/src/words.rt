@@ -1,3 +1,4 @@
+//! Words of a line, taken from its front or from its end.
 ghost use Rattle.std.specs.Prelude.{◌≡◌, ◌<◌, ℕ, [], ◌∷◌, length, reverse, position, slice_index, not, true, false, IfSome, IfNone};
 ghost use Rattle.pb_grid.specs.Lines.{is_blank, IsLastAt, words_of, is_blank_line};
 

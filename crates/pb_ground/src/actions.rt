@@ -1,3 +1,4 @@
+//! The ground actions of a lifted task: instances of its schemas, with the numbers of their atoms.
 ghost use Rattle.std.specs.Prelude.{◌≡◌, ◌≤◌, ◌++◌, map, length, IfOk, OnOk, IfErr};
 ghost use Rattle.pb_ground.specs.Actions.{action_of, actions_from, actions_of, ground_actions, TellsActions};
 ghost use Rattle.pb_ground.specs.Looks.{TellsHalt, TellsStop};
@@ -106,6 +107,7 @@ fn add_actions(
         atoms: schema.pre.as_slice(),
         tested: numbers.as_slice(),
         kinds: schema.params.as_slice(),
+        // By `few` there are at most `LIMIT` actions so far, so this cannot wrap.
         limit: LIMIT - actions.as_slice().len(),
     };
     let rows = instances(alloc, &search, looks)?;
@@ -146,6 +148,7 @@ pub fn actions_in(
     ensures since { looks.new.since ≡ looks.old.since }
     ensures rising { looks.old.taken ≤ looks.new.taken }
 {
+    // `Statics::of` goes over all atoms of `:init`; each of them takes a look before that.
     look_at_all(task.init.as_slice(), looks)?;
     let statics = Statics::of(alloc, task)?;
     let mut actions = Listed::new(alloc);

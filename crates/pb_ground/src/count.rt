@@ -1,3 +1,4 @@
+//! Counting the ground atoms of a lifted task without building them.
 ghost use Rattle.std.specs.Prelude.{◌≡◌, length};
 ghost use Rattle.pb_ground.specs.Atoms.{ground_atoms};
 ghost use Rattle.pb_ground.specs.Errors.{told};
@@ -31,6 +32,7 @@ fn count_instances(lifted: &Lifted, kinds: &[usize]) -> u64
 {
     let mut count: u64 = 1;
     for kind in kinds {
+        // A later factor 0 still gives 0, and any other keeps the count at `MOST`.
         count = count
             .saturating_mul(count_fitting(lifted, *kind) as u64)
             .min(MOST);
@@ -46,6 +48,7 @@ pub(crate) fn count_atoms(fluent: &BTreeSet<usize>, lifted: &Lifted) -> u64
     let mut count: u64 = 0;
     for (predicate, kinds) in lifted.predicates.as_slice().iter().enumerate() {
         if fluent.contains(&predicate) {
+            // Both are at most `MOST`, so the sum cannot wrap.
             count = (count + count_instances(lifted, kinds.as_slice())).min(MOST);
         }
     }

@@ -1,3 +1,4 @@
+//! Why a lifted task was not grounded.
 ghost use Rattle.std.specs.Prelude.{◌≡◌};
 ghost use Rattle.pb_ground.specs.declared.error.GroundError.TheVariants.{Memory};
 

@@ -1,3 +1,4 @@
+//! Which objects fit a parameter, by the tree of types.
 ghost use Rattle.std.specs.Prelude.{◌≡◌, IfOk, length, slice_index};
 ghost use Rattle.pb_lifted.specs.Tree.{comes_to};
 ghost use Rattle.pb_ground.specs.Instances.{fitting, candidates};

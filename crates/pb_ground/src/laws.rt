@@ -1,3 +1,4 @@
+//! Laws on ground atoms, instances and steps. Each is the contract of a function without a body.
 ghost use Rattle.pb_ground.specs.Keeping.{AllAtomsAreACase, KeptAtomsAreAll, KeptAtomsSuffice, KeptStepsCorrespond};
 ghost use Rattle.pb_ground.specs.Members.{AtomsAreAll, InstancesAreAll};
 ghost use Rattle.pb_ground.specs.Steps.{StaticsAreKept, StepsCorrespond};
@@ -14,8 +15,8 @@ pub fn atoms_are_all()
 {}
 
 /// For a state by bits, and an instance of a schema whose fluent preconditions are numbered: the
-/// instance is applicable by atoms exactly if its static preconditions hold and its ground action
-/// is applicable by bits. Both lead to the same state.
+/// instance is applicable by atoms if and only if its static preconditions hold and its ground
+/// action is applicable by bits. Both lead to the same state.
 pub fn steps_correspond()
     ensures { StepsCorrespond }
 {}
@@ -43,8 +44,8 @@ pub fn kept_atoms_suffice()
 {}
 
 /// For a state by bits in which only kept atoms hold, and an instance of a schema whose kept fluent
-/// preconditions are numbered: the instance is applicable by atoms exactly if its preconditions are
-/// kept and its ground action is applicable by bits. Both lead to the same state.
+/// preconditions are numbered: the instance is applicable by atoms if and only if its preconditions
+/// are kept and its ground action is applicable by bits. Both lead to the same state.
 pub fn kept_steps_correspond()
     ensures { KeptStepsCorrespond }
 {}

@@ -1,3 +1,4 @@
+//! How often grounding looked at a row, and when it stops.
 ghost use Rattle.std.specs.Prelude.{◌≡◌, ◌≤◌, Some, None, OnOk, OnErr, IfErr};
 ghost use Rattle.pb_ground.specs.Looks.{TellsHalt, after_look, most_looks};
 

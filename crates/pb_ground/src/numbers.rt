@@ -1,3 +1,5 @@
+//! The numbers of the atoms of `:init`, of the goal and of instances, and whether a static atom
+//! is missing.
 ghost use Rattle.std.specs.Prelude.{◌≡◌, [], ℕ, List, true, not, nat_eq, map, IfOk, OnOk};
 ghost use Rattle.std.specs.List.{list_any};
 ghost use Rattle.pb_lifted.specs.Facts.{value_of};
@@ -118,6 +120,7 @@ pub fn is_missing(alloc: Global, task: &Lifted, atoms: &[LiftedAtom]) -> Result<
     ensures { IfOk result (λ missing. missing ≡ not (statics_hold task.now atoms.now [])) }
 {
     let fluent = fluent_of(alloc, task.actions.as_slice())?;
+    // Without a static atom the atoms of `:init` need not be gathered.
     if all_fluent(&fluent, task, atoms) {
         return Ok(false);
     }

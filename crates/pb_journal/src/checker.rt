@@ -1,3 +1,4 @@
+//! Judging the text of a journal, line by line.
 ghost use Rattle.std.specs.Prelude.{◌≡◌, ◌+◌, ◌<◌, ◌^◌, ℕ, Ok, Err, length, OnOk, IfOk};
 ghost use Rattle.pb_machine.specs.Settings.{AreInRange};
 ghost use Rattle.pb_machine.specs.Counts.{opening_counts};
@@ -69,8 +70,10 @@ fn read_events(
     ensures { Reads (λ n. n) result
         (events_of (blocks_of graph.now) settings.now (counts_of replay.old) text.now) }
 {
+    // The header has six lines.
     let mut line: u64 = 7;
     let mut rest = text;
+    // The label names the loop in its proof.
     'lines: while let Some((first, after)) = part(rest, b'\n') {
         read_event(replay, graph, settings, line, first)?;
         rest = after;
@@ -96,6 +99,7 @@ pub(crate) fn judge_events(
         (opening_counts settings.now 0) text.now) }
 {
     let mut replay = Replay::new(alloc, blocks, settings)?;
+    // `?` makes a `JournalError` of the fault.
     let events = read_events(&mut replay, graph, settings, text)?;
     Ok(events)
 }

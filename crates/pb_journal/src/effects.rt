@@ -89,6 +89,7 @@ impl Replay {
         let lease = self.leases[worker as usize];
         self.leases[worker as usize] = with_quota(lease, quota);
         self.spent += used;
+        // No clause here says that the quota covers what was used, so the difference is cut at 0.
         self.left = self.left + quota_of(lease).saturating_sub(used) - quota;
     }
 

@@ -1,3 +1,4 @@
+//! The errors of reading a journal: the line that is refused, and why.
 ghost use Rattle.std.specs.Prelude.{◌≡◌};
 ghost use Rattle.pb_machine.specs.declared.event.EventRefusal.{EventRefusal};
 ghost use Rattle.pb_journal.specs.declared.error.JournalError.TheVariants.{Memory, At};

@@ -1,3 +1,4 @@
+//! The header of a journal: the settings of its search.
 ghost use Rattle.std.specs.Prelude.{◌≡◌, ◌≤◌, ◌+◌, Ok, length, IfOk};
 ghost use Rattle.pb_machine.specs.declared.settings.Settings.{Settings as TheSettings};
 ghost use Rattle.pb_machine.specs.Settings.{AreInRange, weight_of, settings_with_weight};
@@ -29,6 +30,7 @@ pub(crate) fn header(bytes: &[u8]) -> Result<(Settings, &[u8]), Fault>
         lot,
         wish: wish as u32,
         plain,
+        // The weight and the pattern, which no header states.
         ..STANDARD
     };
     Ok((settings, rest))

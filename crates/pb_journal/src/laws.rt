@@ -3,8 +3,8 @@ ghost use Rattle.pb_journal.specs.Shown.{AcceptedJournalsAreFinished, CutJournal
 ghost use Rattle.pb_journal.specs.Lengths.{JournalTextsAreShort};
 ghost use Rattle.pb_journal.specs.Searched.{PlainJournalsHaveNoHot, PlainTextsHaveNoHot, RunsAreAccepted, SearchesAreAccepted};
 
-/// A journal is accepted, with its number of events, exactly if it is the text of a finished legal
-/// history.
+/// A journal is accepted, with its number of events, if and only if it is the text of a finished
+/// legal history.
 pub fn accepted_journals_are_finished()
     ensures { AcceptedJournalsAreFinished }
 {}

@@ -28,6 +28,7 @@ impl Replay {
         ensures { result
             ≡ own_refusal (blocks_of graph.now) settings.now self.now (Lease worker block quota) }
     {
+        // In the order of the formats: of several reasons the first is reported.
         if self.end.is_some() {
             return Some(EventRefusal::Ended);
         }
@@ -271,6 +272,8 @@ impl Replay {
         ensures { result
             ≡ refusal (blocks_of graph.now) settings.now (counts_of self.now) (event_of event.now) }
     {
+        // After a report that memory ran out only that end may follow, whatever else is true of the
+        // event.
         if self.trouble && !is_memory_end(event) {
             return Some(EventRefusal::Trouble);
         }

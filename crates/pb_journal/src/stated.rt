@@ -1,3 +1,5 @@
+//! An event as a line of a journal states it, before it is judged.
+
 use pb_machine::End;
 
 /// An event as a line of a journal states it, with numbers of any size below 2^63. The fields are

@@ -1,3 +1,4 @@
+//! Saving a journal as a file.
 ghost use Rattle.std.specs.Prelude.{◌≡◌, Some, IsSome, IsOk, OnOk, OnErr, length};
 ghost use Rattle.pb_outside.specs.Outside.{IfTold, KeepsOthers, KeepsHolds, HasCause};
 ghost use Rattle.pb_outside.specs.Calls.{KeepsLoads};

@@ -1,8 +1,8 @@
-//! What a worker is answered that asks for a lease, or for more work on the lease that it has.
+//! The replies to a worker that asks for a lease, or for more work on the lease that it has.
 use crate::lease::Lease;
 use pb_machine::End;
 
-/// What a worker is answered that asks for a lease.
+/// The reply to a worker that asks for a lease.
 pub enum LeaseReply {
     /// It has this lease, of the first choice.
     Leased(Lease),
@@ -15,7 +15,7 @@ pub enum LeaseReply {
     Memory,
 }
 
-/// What a worker is answered that asks for more work on the lease that it has.
+/// The reply to a worker that asks for more work on the lease that it has.
 pub enum Renewed {
     /// The lease goes on: with it home its block would be the first choice.
     Kept(Lease),
@@ -23,7 +23,7 @@ pub enum Renewed {
     Given,
 }
 
-/// What a worker is answered that asks to go on with its lease, or else with another one.
+/// The reply to a worker that asks to go on with its lease, or else with another one.
 pub enum SwitchReply {
     /// The lease came back, and the worker has this one, of the first choice then.
     Switched(Lease),

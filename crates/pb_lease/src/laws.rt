@@ -2,7 +2,7 @@
 //! the contract of a function without a body.
 ghost use Rattle.pb_lease.specs.Laws.{OpenedBlocksMayBeLeased, NoneOutCanBeLeased, LeasesStayOut, WorkedLeasesAreOut, TellsKeepMoments, NoneOutIsMoment, EventsLeaveOthers};
 
-/// A block with an Opened row may be leased exactly if it can be, by the numbers.
+/// A block with an Opened row may be leased if and only if it can be, by the numbers.
 pub fn opened_blocks_may_be_leased()
     ensures { OpenedBlocksMayBeLeased }
 {}
@@ -29,8 +29,8 @@ pub fn tells_keep_moments()
     ensures { TellsKeepMoments }
 {}
 
-/// If no lease is out, a graph that has its machine's incumbent has no told cost that is still to
-/// be shown.
+/// If no lease is out, a graph that has its machine's incumbent has no reported cost that is still
+/// to be shown.
 pub fn none_out_is_moment()
     ensures { NoneOutIsMoment }
 {}

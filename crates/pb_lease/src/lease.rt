@@ -1,3 +1,4 @@
+//! A lease: the bundles of a block's scope, with what its worker may do with them.
 ghost use Rattle.std.specs.Prelude.{◌≡◌, ◌+◌, ◌<◌, ◌≤◌, ◌^◌, Some, IsSome};
 ghost use Rattle.std.specs.Borrow.{sem};
 ghost use Rattle.pb_model.specs.Store.{lesser};

@@ -1,3 +1,4 @@
+//! The first place of each cause in the atoms of preconditions, effects, `:init` and the goal.
 ghost use Rattle.std.specs.Prelude.{◌≡◌, option_copied};
 ghost use Rattle.pb_lifted.specs.Names.{earliest};
 ghost use Rattle.pb_lifted.specs.Scope.{IsScope};
@@ -37,6 +38,7 @@ fn is_misfit(scope: &Scope<'_>, term: &Term, wanted: &Typed) -> bool
             kind_text(entry),
             kind_text(wanted),
         ),
+        // Such an argument has the cause `UnknownObject`, and no type to compare.
         None => false,
     }
 }
@@ -56,6 +58,7 @@ fn first_wrong_type(
 {
     let mut found = first;
     for (i, term) in terms.iter().enumerate() {
+        // Arguments beyond the last parameter have the cause `Arity`, and no type to fit.
         if i >= wanted.len() {
             return found;
         }
@@ -89,6 +92,7 @@ fn first_in_atom(cause: Cause, scope: &Scope<'_>, atom: &Atom, first: Option<u64
         Cause::UnknownObject => first_unknown_term(scope, terms, first),
         Cause::WrongType => match predicate {
             Some(predicate) => first_wrong_type(scope, terms, predicate.params.as_slice(), first),
+            // The cause is `UnknownPredicate`: there are no parameters to compare with.
             None => first_wrong_type(scope, terms, &[], first),
         },
         _ => first,

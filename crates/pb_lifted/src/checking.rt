@@ -1,3 +1,4 @@
+//! Resolving a domain and a problem: the first refusal in the stated order, or the lifted task.
 ghost use Rattle.std.specs.Prelude.{◌≡◌, [], length, None, OnOk, IfOk, IfErr};
 ghost use Rattle.pb_lifted.specs.Objects.{objects_of};
 ghost use Rattle.pb_lifted.specs.Tables.{AreTables};

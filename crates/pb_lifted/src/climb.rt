@@ -1,3 +1,4 @@
+//! Ways up the tree of types, by numbers: where they end, and whether one passes a type.
 ghost use Rattle.std.specs.Prelude.{◌≡◌, ◌<◌, ℕ, [], IfOk, length, slice_index};
 ghost use Rattle.pb_lifted.specs.Tree.{climb, comes_to, IsFar, followed};
 
@@ -43,6 +44,7 @@ pub(crate) fn far_up(alloc: Global, parents: &[usize]) -> Result<Vec<usize>, All
     let mut step = Vec::from_slice(alloc, parents)?;
     let mut left = parents.len();
     while left > 0 {
+        // Binary exponentiation: a turn doubles the steps of `step`; an odd `left` takes them.
         if left % 2 == 1 {
             far = follow(alloc, far.as_slice(), step.as_slice())?;
         }
@@ -62,6 +64,7 @@ pub(crate) fn climbs(parents: &[usize], from: usize, to: usize) -> bool
         if now == to {
             return true;
         }
+        // Type 0 is `object`, which is above itself, so no further step leads elsewhere.
         if now == 0 {
             return false;
         }

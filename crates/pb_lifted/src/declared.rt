@@ -1,3 +1,4 @@
+//! What is declared under a name, and entering these names, with the first that is there twice.
 ghost use Rattle.std.specs.Prelude.{◌≡◌, [], ◌++◌, map, OnOk, IfOk};
 ghost use Rattle.pb_lifted.specs.Names.{fault_if, repeated, earliest};
 ghost use Rattle.pb_lifted.specs.Types.{declared_types, kinds_of, is_idle, is_object, kind_text};
@@ -143,6 +144,7 @@ pub(crate) fn enter_kinds(names: &mut Names, types: &[Typed]) -> Result<(), Allo
 {
     for typed in types {
         if let Some(kind) = &typed.kind {
+            // Many types may have the same type above them, so a repeated name is no fault.
             let _fresh = names.enter(&kind.text)?;
         }
     }

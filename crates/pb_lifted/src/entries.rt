@@ -1,3 +1,4 @@
+//! Looking up the declaration of a name.
 ghost use Rattle.std.specs.Prelude.{◌≡◌, ◌++◌, map, find, option_copied, slice_get};
 ghost use Rattle.std.specs.Str.{bytes_eq};
 ghost use Rattle.pb_lifted.specs.Types.{name_text};

@@ -1,3 +1,5 @@
+//! Laws on typing, and on the task by numbers as the task by names. Each is the contract of a
+//! function without a body.
 ghost use Rattle.pb_lifted.specs.Plans.{GroundPlansArePlans, PlansAreGroundPlans, GroundPlansCostTheSame};
 ghost use Rattle.pb_lifted.specs.InstanceTypes.{InstancesAreTyped, StartIsTyped, GoalIsTyped};
 ghost use Rattle.pb_lifted.specs.WaysUp.{MoreStepsChangeNothing, MoreStepsOfNumbersChangeNothing, ObjectIsReached, BelowIsReflexive, BelowIsTransitive};
@@ -25,8 +27,8 @@ pub fn accepted_is_well_typed()
     ensures facts { FittingAtomsKeepFacts }
 {}
 
-/// A domain and a problem that are well typed are refused for nothing. So they are refused exactly
-/// if they are not well typed.
+/// A domain and a problem that are well typed are refused for nothing. So they are refused if
+/// and only if they are not well typed.
 pub fn well_typed_is_accepted()
     ensures { WellTypedIsAccepted }
 {}

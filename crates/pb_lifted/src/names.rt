@@ -1,3 +1,4 @@
+//! Lists of names in which a name is looked up by an ordered map.
 ghost use Rattle.std.specs.Prelude.{◌≡◌, [], ◌∷◌, ◌++◌, not, OnOk, OnErr, IfOk};
 ghost use Rattle.pb_lifted.specs.Names.{number_of, is_among};
 
@@ -55,6 +56,8 @@ impl Names {
     {
         let fresh = !self.numbers.contains_key(text.as_slice());
         let copy = text.share()?;
+        // Room is made before the map changes, so that the last push cannot fail.
+        // Else the map could have a number for a name that the list lacks.
         self.texts.reserve(1)?;
         if fresh {
             let key = Vec::from_slice(self.alloc, text.as_slice())?;

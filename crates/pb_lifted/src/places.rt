@@ -1,3 +1,4 @@
+//! The first place of each cause in the domain and in the problem.
 ghost use Rattle.std.specs.Prelude.{◌≡◌, [], map, None};
 ghost use Rattle.pb_lifted.specs.Names.{earliest};
 ghost use Rattle.pb_lifted.specs.Types.{name_text};
@@ -118,6 +119,7 @@ fn first_in_actions(
 {
     let mut found = first;
     for (i, action) in domain.actions.as_slice().iter().enumerate() {
+        // The tables have one list of parameter names for each action, in this order.
         let names = &tables.params[i];
         found = first_in_action(cause, tables, domain, problem, action, names, found);
     }
@@ -195,6 +197,7 @@ pub(crate) fn first_in_problem(
             note_metric(domain.has_cost, problem.metric, found)
         }
         Cause::CostTwice => first_again(costs, None),
+        // `:init` may set the cost to 0 alone.
         Cause::CostRange => first_too_great(0, costs, None),
         Cause::ZeroCost => None,
         _ => {

@@ -1,3 +1,4 @@
+//! Why a domain and a problem are no task: the causes, and the places of what is at fault.
 ghost use Rattle.std.specs.Prelude.{◌≡◌};
 ghost use Rattle.pb_lifted.specs.declared.refusal.LiftedError.TheVariants.{Memory};
 

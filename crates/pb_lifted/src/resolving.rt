@@ -1,3 +1,4 @@
+//! Writing the trees of a domain and a problem as a lifted task, in numbers.
 ghost use Rattle.std.specs.Prelude.{◌≡◌, [], ◌++◌, map, OnOk, IfOk};
 ghost use Rattle.pb_lifted.specs.Types.{name_text};
 ghost use Rattle.pb_lifted.specs.Lifted.{kind_numbers, argument_of, arguments_of, atom_of, atoms_of, atom_if, effect_of, schema_of, schemas_of, predicate_kinds, lifted_of};

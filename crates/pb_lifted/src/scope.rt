@@ -1,3 +1,4 @@
+//! What the names in an atom refer to: objects, parameters and predicates.
 ghost use Rattle.std.specs.Prelude.{◌≡◌, [], option_copied};
 ghost use Rattle.pb_lifted.specs.Objects.{entry_of_term, term_name, objects_of, predicate_of};
 ghost use Rattle.pb_lifted.specs.Scope.{IsScope};

@@ -1,3 +1,4 @@
+//! The names of a domain and a problem, and the first of them that is declared twice.
 ghost use Rattle.std.specs.Prelude.{◌≡◌, [], map, None, OnOk, IfOk};
 ghost use Rattle.pb_lifted.specs.Names.{earliest, repeated};
 ghost use Rattle.pb_lifted.specs.declared.refusal.Cause.TheVariants.{Twice};

@@ -1,3 +1,4 @@
+//! The tree of types: types in a circle, unknown types, and which type is below which.
 ghost use Rattle.std.specs.Prelude.{◌≡◌, ◌++◌, ◌∷◌, [], OnOk, IfOk, option_copied, unwrap_or};
 ghost use Rattle.pb_lifted.specs.Names.{earliest, number_of, is_among};
 ghost use Rattle.pb_lifted.specs.Types.{object, type_names, is_object, kind_text, name_text, cyclic_types, is_below, unknown_kind, unknown_kinds};
@@ -51,6 +52,8 @@ fn enter_types(alloc: Global, names: &mut Names, types: &[Typed]) -> Result<(), 
     ensures { OnOk result (names.new ≡ type_names types.now) }
 {
     enter_object(alloc, names)?;
+    // `object` is there already, so a mere entry `object` would count as repeated here.
+    // `twice_in_types` finds the repeated declarations.
     let _twice = enter_all(names, types, None)?;
     enter_kinds(names, types)
 }

@@ -38,6 +38,7 @@ fn value_of(digits: &[u8]) -> u32
     requires { is_short_number digits.now ≡ true }
     ensures { result ≡ value_behind 0 digits.now }
 {
+    // Nine digits make a number below 2^32, so no step overflows.
     let mut value = 0;
     for digit in digits {
         value = value * 10 + u32::from(*digit - b'0');

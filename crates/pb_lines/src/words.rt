@@ -25,6 +25,7 @@ pub fn part(text: &[u8], byte: u8) -> Option<(&[u8], &[u8])>
 {
     let place = place_of(text, byte);
     if place < text.len() {
+        // The byte itself is in neither part.
         let (front, _) = text.split_at(place);
         let (_, rest) = text.split_at(place + 1);
         Some((front, rest))
@@ -66,6 +67,7 @@ pub fn number_of(word: &[u8]) -> Option<u64>
     if word.len() == 0 {
         return None;
     }
+    // A number has one spelling, so only 0 itself begins with a zero.
     if word[0] == b'0' && word.len() > 1 {
         return None;
     }
@@ -86,6 +88,7 @@ fn digits(value: u64, word: &[u8]) -> Option<u64>
             if *byte < b'0' || *byte > b'9' {
                 return None;
             }
+            // Ten times a number below 2^63 may not fit in 64 bits.
             let next = u128::from(value) * 10 + u128::from(*byte - b'0');
             if next >= 1 << 63 {
                 return None;

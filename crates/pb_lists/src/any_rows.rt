@@ -158,6 +158,7 @@ impl AnyRows {
     {
         match self.rows.insert(*state, *row) {
             Ok(_) => {}
+            // By the clause `room` the table has a place, so it takes no memory.
             Err(_) => unreachable!(),
         }
     }
@@ -183,6 +184,7 @@ impl AnyRows {
             → self.new.entries ≡ insert_entry nat_eq self.old.entries state row.now }
         ensures width { self.new.width ≡ self.old.width }
     {
+        // The contract says nothing of a place without a row.
         let Some(old) = self.rows.get_index_mut(place as usize) else {
             return;
         };

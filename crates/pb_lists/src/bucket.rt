@@ -191,6 +191,7 @@ fn add_wide(
     match wide {
         Some(entries) => entries.push(h, state, place),
         None => {
+            // The new part is filled and boxed first, so after an error the bucket is as before.
             let mut entries = WideEntries::new(alloc);
             entries.push(h, state, place)?;
             *wide = Some(Box::new(alloc, entries)?);

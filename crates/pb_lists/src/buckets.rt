@@ -29,6 +29,7 @@ pub(crate) fn key_of(num: u64, den: u64, g: u64, estimate: &Estimate) -> Key
 {
     match estimate {
         Estimate::Dead => Key::Dead,
+        // A weight's numbers are at most 1,000, so the sum fits 128 bits.
         Estimate::Cost(h) => Key::Sum {
             sum: den as u128 * g as u128 + num as u128 * *h as u128,
             h: *h,
@@ -97,6 +98,8 @@ pub(crate) fn file(
             Ok(())
         }
         None => {
+            // Filled before it is inserted, so no bucket without an entry is left if memory runs
+            // out.
             let mut bucket = Bucket::new(alloc);
             bucket.push(alloc, h, state, place)?;
             buckets.insert(sum, bucket)?;

@@ -1,3 +1,4 @@
+//! The bundle: the rows of one part of a search by state, and the first row that is Opened.
 ghost use Rattle.std.specs.Prelude.{◌≡◌, false, ℕ, ◌<◌, ◌≤◌, Option, Some, None, [], IfOk, IfSome, IfNone, OnOk, OnErr, nat_eq, option_copied, slice_get, length};
 ghost use Rattle.std.specs.Map.{keys_of};
 ghost use Rattle.std.specs.List.{IsDistinct};
@@ -203,6 +204,7 @@ impl Bundle {
             → answer ≡ offer_of (Some row) g) }
         ensures err { OnErr result (self.new ≡ self.old) }
     {
+        // Called for its clause `distinct`: no state has two rows.
         let _ = self.len();
         if self.rows.g_at(place) <= g {
             return Ok(Offer::Worse);
@@ -281,6 +283,7 @@ impl Bundle {
             ≡ reopened_row (weight_in set) (Some (bound_in set)) (row_of self.old state) }
         ensures weight { self.new.weight ≡ weight_in set }
     {
+        // Nothing here can fail: `prepare` took the memory.
         reopen_rows(&mut self.rows, set.num, set.den, set.bound);
         self.opened = set.opened;
         self.num = set.num;

@@ -68,6 +68,7 @@ impl<const W: usize> Heap<W> {
         ensures first { result ≡ first_of self.now.items }
         ensures top { IsTop (λ entry. is_among entry self.now.items) (first_of self.now.items) }
     {
+        // For the invariant: `W` is 1 to 16, as `from_words` needs.
         let _ = &self.items;
         match self.first() {
             Some(entry) => Some((entry.0, Packed::from_words(&entry.1), entry.2)),

@@ -1,3 +1,4 @@
+//! The laws of this crate. Each is the contract of a function without a body.
 ghost use Rattle.pb_lists.specs.Laws.{KeysAreOrdered, EntriesAreRows};
 
 /// The comparison of two keys says which comes first.

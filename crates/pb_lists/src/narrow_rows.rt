@@ -76,6 +76,7 @@ impl<const W: usize> NarrowRows<W> {
     pub(crate) fn row(&self, state: &Packed) -> Option<Row>
         ensures { result ≡ row_in self.now.entries state.now }
     {
+        // For the invariant: `W` is 1 to 16, as the calls for words need.
         let _ = &self.rows;
         match state.as_words::<W>() {
             Some(words) => match self.found(&words) {
@@ -193,6 +194,7 @@ impl<const W: usize> NarrowRows<W> {
             ≡ insert_entry nat_eq self.old.entries state.now row.now }
         ensures width { self.new.width ≡ self.old.width }
     {
+        // For the invariant: `W` is 1 to 16, as the calls for words need.
         let _ = &self.rows;
         let Some(words) = state.as_words::<W>() else {
             unreachable!()
@@ -202,6 +204,7 @@ impl<const W: usize> NarrowRows<W> {
         };
         match self.rows.insert(words, narrow) {
             Ok(_) => {}
+            // By the clause `room` the table has a place, so it takes no memory.
             Err(_) => unreachable!(),
         }
     }
@@ -233,6 +236,7 @@ impl<const W: usize> NarrowRows<W> {
         let Some(narrow) = NarrowRow::<W>::of(row) else {
             unreachable!()
         };
+        // The contract says nothing of a place without a row.
         let Some(old) = self.rows.get_index_mut(place as usize) else {
             return;
         };

@@ -58,6 +58,7 @@ pub(crate) fn opened_again(
         (reopened_entries (weight_of num den) bound rows.now.entries) opened) }
 {
     let mut opened = BTreeMap::new(alloc);
+    // The label names the loop in its proof.
     'places: for place in 0..rows.len() {
         file_at(alloc, rows, &mut opened, place, num, den, bound)?;
     }
@@ -89,6 +90,7 @@ fn file_at(
         HasPlaces (reopened_entries (weight_of num den) bound rows.now.entries) opened.old
         → HasPlaces (reopened_entries (weight_of num den) bound rows.now.entries) opened.new) }
 {
+    // Called for its clause `distinct`: no state has two rows.
     let _ = rows.len();
     let costs = rows.costs_at(place);
     match reopened(num, den, bound, &costs) {
@@ -108,6 +110,7 @@ pub(crate) fn reopen_rows(rows: &mut Rows, num: u64, den: u64, bound: u64)
     ensures { rows.new.entries
         ≡ reopened_entries (weight_of num den) bound rows.old.entries }
 {
+    // The label names the loop in its proof.
     'places: for place in 0..rows.len() {
         reopen_at(rows, place, num, den, bound);
     }
@@ -121,6 +124,7 @@ fn reopen_at(rows: &mut Rows, place: u64, num: u64, den: u64, bound: u64)
         → rows.new.entries ≡ insert_entry nat_eq rows.old.entries state
         (reopened_at (weight_of num den) bound row) }
 {
+    // Called for its clause `distinct`: no state has two rows.
     let _ = rows.len();
     let costs = rows.costs_at(place);
     if let Status::Cut = costs.2 {

@@ -1,3 +1,4 @@
+//! The test whether a row may be cut at a weight under an incumbent.
 ghost use Rattle.std.specs.Prelude.{◌≡◌, ◌↔◌, IsTrue};
 ghost use Rattle.pb_model.specs.Store.{MayBeCut};
 ghost use Rattle.pb_model.specs.Weight.{Weight, IsWeight};

@@ -239,6 +239,7 @@ impl WideRows {
             → (wide_of self.new).entries
             ≡ insert_entry nat_eq (wide_of self.old).entries state.now row.now }
     {
+        // Only the contract speaks of `state`.
         let _ = state;
         match self {
             WideRows::Few(rows) => rows.put_at(place, row),
@@ -276,8 +277,10 @@ pub(crate) fn widened<const W: usize>(
     ensures place { IfOk result (λ wide. HasPlaceFor (wide_of wide) state.now row.now) }
 {
     let mut wide = empty::<W>(alloc, rows.len() as usize, state, row)?;
+    // The label names the loop in its proof.
     'entries: for i in 0..rows.len() {
         let (known, its_row) = rows.at(i);
+        // There is room already, but only this call has a clause that says so.
         wide.reserve()?;
         wide.insert(&known, &its_row);
     }

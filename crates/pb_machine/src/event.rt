@@ -1,3 +1,5 @@
+//! Events, grants and ends of the lease machine, and the reasons to refuse an event.
+
 /// How a search ends.
 #[derive(Clone, Copy, Debug, PartialEq, Eq)]
 pub enum End {

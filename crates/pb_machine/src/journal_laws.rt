@@ -1,3 +1,5 @@
+//! Laws on journals: the events of a search, without its rows. Each is the contract of a function
+//! without a body.
 ghost use Rattle.pb_machine.specs.JournalLaws.{JournalsAreShort, LeasesTakeTheirRoom, RoomGoesOn, HistoriesAreLawful, HistoriesGrow, BeginningsAreHistories, SigningOffIsTold, FinishedWorkersSignOff, RefusalsAreFirst, RefusedJournalsFail, NoneOutNoneHot, InterferenceIsMutual, BusyIsCounted, HotIsCounted, CountersFit, EventsChangeBusy, EventsChangeHot, MarksChangeHot, FirstChoicesAreUnique, RivalsAreUnique, ChosenLeasesAreLegal, ChosenRenewalsAreLegal, FirstViewsAreTrue, HoldingKeepsViews, SplittingKeepsViews, MeetingKeepsViews, LastViewsTellAll, WorkedJournalsAreLegal, WorkedJournalsAreRefused, LeasesAreOfWorkers, ReleasesAreLegal, MarksAreLegal, SignOffsAreLegal, EndsAreLegal, MemoryEndsAreReported, ReportsEndSearches, SignedOffIsFinished, LastViewsSignOff, CountersBeginAtNone, LeasedAreNeverHot, SpentIsUsed, UsedFitsBudget, EndsAreTold, EndsStand, AllOffNoneOut, HistoriesHaveAnyWeight, ChoicesOutliveReleases, ReleasesCoolNear};
 
 /// A legal history leads to counts that are lawful.
@@ -27,7 +29,7 @@ pub fn used_fits_budget()
     ensures { UsedFitsBudget }
 {}
 
-/// A worker has signed off exactly if one of its own events says so.
+/// A worker has signed off if and only if one of its own events says so.
 pub fn signing_off_is_told()
     ensures { SigningOffIsTold }
 {}
@@ -83,12 +85,12 @@ pub fn interference_is_mutual()
     ensures { InterferenceIsMutual }
 {}
 
-/// A block is busy exactly if the number of leased blocks in its interference is not 0.
+/// A block is busy if and only if the number of leased blocks in its interference is not 0.
 pub fn busy_is_counted()
     ensures { BusyIsCounted }
 {}
 
-/// A hot block interferes exactly if the number of hot blocks in the interference is not 0.
+/// A hot block interferes if and only if the number of hot blocks in the interference is not 0.
 pub fn hot_is_counted()
     ensures { HotIsCounted }
 {}
@@ -245,7 +247,7 @@ pub fn leases_take_their_room()
     ensures { LeasesTakeTheirRoom }
 {}
 
-/// A longer journal keeps within room exactly if its first part does, and the rest has the room
+/// A longer journal keeps within room if and only if its first part does, and the rest has the room
 /// that this part leaves.
 pub fn room_goes_on()
     ensures { RoomGoesOn }

@@ -1,3 +1,4 @@
+//! Laws on runs of the machine with its rows. Each is the contract of a function without a body.
 ghost use Rattle.pb_machine.specs.Laws.{OpeningIsLawful, MovesKeepLawful, RunsAreLawful, JournalsAreHistories, LawfulStoresAreSound, IncumbentsArePlans, IncumbentsFall, KnownStays, OthersAreLeft, RecordedWhereLeased, CostsGrowByExpansions, CostsStaySmall, CostsFit, ScopesAreApart, NoneOutMayLease, QuietEndsAreBest, ReopeningIsLawful, LeaseWorkGoesOn, LeaseWorkStays, WaitingReportsAreOne, LeaseWorkStands, TurnsCarryOver, OrderedRunsAreRuns, ReturnsLeaveIncumbents, LeasingKeepsWhole, RenewingKeepsWhole, ReleasingKeepsWhole, OthersKeepWhole, AllIsHome, RecordedRowsAreLent, BudgetEndsAreSpent, NoneOutIsShown, NoneOutUntold, ReturnsShowWork, LeaseTurnsGoOn, LeaseCostsStaySmall, LeaseCostsFit, RunsGoOn};
 
 /// The machine is lawful when it opens.
@@ -5,7 +6,7 @@ pub fn opening_is_lawful()
     ensures { OpeningIsLawful }
 {}
 
-/// Every event and every told cost keeps the machine lawful.
+/// Every event and every reported cost keeps the machine lawful.
 pub fn moves_keep_lawful()
     ensures { MovesKeepLawful }
 {}
@@ -42,7 +43,7 @@ pub fn known_stays()
 {}
 
 /// Moves of others leave these as before: a worker's lease, the incumbent that it was given, and
-/// the cost that it told.
+/// the cost that it reported.
 pub fn others_are_left()
     ensures { OthersAreLeft }
 {}
@@ -191,7 +192,7 @@ pub fn none_out_is_shown()
     ensures { NoneOutIsShown }
 {}
 
-/// If no lease is out, nobody has told a cost that is still to be shown.
+/// If no lease is out, no worker has reported a cost that is still to be shown.
 pub fn none_out_untold()
     ensures { NoneOutUntold }
 {}

@@ -1,3 +1,5 @@
+//! The settings of a search, with their ranges and standard values.
+
 /// The settings of a search.
 #[derive(Clone, Copy, PartialEq, Eq)]
 pub struct Settings {

@@ -1,3 +1,5 @@
+//! A letter: the offer of a state to the owner of its row.
+
 use pb_packed::Packed;
 
 /// An offer of a state to its owner.

@@ -37,6 +37,8 @@ impl<K: LetterRule> Post<K> {
                     queue_passes.push_reserved(queue_pass);
                 }
                 Err(error) => {
+                    // A queue can't be dropped, so those that are open are ended before the error
+                    // is returned.
                     end_queues(queues);
                     return Err(error);
                 }
@@ -66,6 +68,7 @@ impl<K: LetterRule> Post<K> {
         ensures views { IfOk result (IsSplit (owners_of self.now) pass.old pass.new) }
         ensures err { OnErr result (pass.new ≡ pass.old) }
     {
+        // The one step that may fail comes first, so after an error the pass is as before.
         let mut queue_passes = Vec::with_capacity(alloc, self.queues.len())?;
         let number = pass.made;
         for at in 0..self.queues.len() {
@@ -94,6 +97,7 @@ impl<K: LetterRule> Post<K> {
             made: _,
         } = other;
         while let Some(queue_pass) = queue_passes.pop() {
+            // After the pop the length is the number of the queue whose pass was last.
             self.meet_at(pass, queue_passes.len(), queue_pass);
         }
     }

@@ -1,4 +1,4 @@
-//! The rule of each queue, and what each step tells.
+//! The rule of each queue, and what each step reports.
 use crate::letter::Sent;
 use crate::view::View;
 use crossbeam_queue::protocol::{Join, Lesson, Outcome, Protocol, Split};

@@ -1,3 +1,4 @@
+//! The text of a 3 by 3 board of tiles, after drawn moves of the blank from the goal.
 ghost use Rattle.std.specs.Prelude.{◌≡◌, ◌≤◌, ◌<◌, ◌++◌, IfOk, IfSome, OnOk, length};
 ghost use Rattle.pb_make.specs.Boards.{blank_of, board_text, cell_beside, made_board, moved, row_line, tiles_text};
 
@@ -30,6 +31,7 @@ fn move_blank(board: &mut [u8], draw: u32)
     requires { length board.old ≡ 9 }
     ensures { board.new ≡ moved board.old draw }
 {
+    // It is looked for at each move, so no clause has to say that a kept place is the blank's.
     if let Some(blank) = find_blank(board) {
         if let Some(cell) = beside(blank, draw % 4) {
             board.swap(blank, cell);

@@ -1,3 +1,4 @@
+//! The domain of the blocks world in PDDL.
 ghost use Rattle.std.specs.Prelude.{◌≡◌};
 ghost use Rattle.pb_make.specs.Domain.{domain_text};
 

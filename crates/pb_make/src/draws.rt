@@ -1,3 +1,4 @@
+//! Pseudorandom numbers, drawn from a seed.
 ghost use Rattle.std.specs.Prelude.{◌≡◌};
 ghost use Rattle.pb_make.specs.Draws.{next_number, draw_from};
 
@@ -26,6 +27,7 @@ impl Generator {
         ensures draw { result ≡ draw_from self.old.number }
         ensures after { self.new.number ≡ next_number self.old.number }
     {
+        // The generator counts modulo 2^64, so both steps are meant to wrap.
         let product = Self::MULTIPLIER.wrapping_mul(self.number);
         self.number = product.wrapping_add(Self::INCREMENT);
         (self.number >> 32) as u32

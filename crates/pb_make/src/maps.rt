@@ -1,3 +1,4 @@
+//! The texts of a map with drawn cells and of its scenario.
 ghost use Rattle.std.specs.Prelude.{◌≡◌, ◌≤◌, ◌*◌, ◌++◌, IfOk, OnOk, length, map, vec_len};
 ghost use Rattle.pb_make.specs.Draws.{draws};
 ghost use Rattle.pb_make.specs.Lines.{line, lines, rows_of};
@@ -13,6 +14,7 @@ pub fn make_map(alloc: Global, seed: u32, side: u32) -> Result<Vec<u8>, AllocErr
     requires most { side ≤ 2048 }
     ensures { IfOk result (λ text. text.items ≡ map_text seed side) }
 {
+    // The cells take their size twice, here and in the text: at most 4 MiB each time.
     let cells = make_cells(alloc, seed, side)?;
     let mut text = make_header(alloc, side)?;
     push_rows(&mut text, cells.as_slice(), side as usize, side as usize)?;

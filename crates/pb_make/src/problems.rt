@@ -1,3 +1,4 @@
+//! The text of a problem of blocks with a drawn goal.
 ghost use Rattle.std.specs.Prelude.{◌≡◌, ◌≤◌, ◌<◌, ◌++◌, ◌-◌, ◌^◌, IfOk, OnOk};
 ghost use Rattle.pb_make.specs.Draws.{draws};
 ghost use Rattle.pb_make.specs.Problems.{facts_from, facts_of, goal_atom, goal_from, object, objects_from, problem_text};
@@ -36,6 +37,7 @@ fn push_objects(alloc: Global, text: &mut Vec<u8>, blocks: u32) -> Result<(), Al
 fn push_object(alloc: Global, text: &mut Vec<u8>, block: u32) -> Result<(), AllocError>
     ensures { OnOk result (text.new.items ≡ text.old.items ++ object block) }
 {
+    // Each piece ends with its space, so the next is added without a look at what is there.
     let name = format!(in alloc; "b{block} ")?;
     text.extend_from_slice(name.as_bytes())
 }

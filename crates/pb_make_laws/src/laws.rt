@@ -1,3 +1,4 @@
+//! Laws on how made texts are read, as contracts of functions without a body.
 ghost use Rattle.pb_make_laws.specs.Laws.{BlocksDomainIsRead, MadeBoardsAreSpelled, MadeMapsAreSpelled, MadeProblemsAreTasks};
 
 /// The texts of a made map and its scenario spell a grid: the drawn cells, from the first to the

@@ -1,3 +1,5 @@
+//! Laws on work, incumbents, plans, certificates and first rows. Each is the contract of a
+//! function without a body.
 ghost use Rattle.pb_model.specs.Laws.{FirstRowsAreUnique, FirstRowsAreBest, StepsAreSuccessors, WorkKeepsSound, CostsNeverRise, WeightsStay, IncumbentsAreBacked, WorkIsLocal, WorkInOnePart, BestKeysAreUnique, RowsAreTraced, TracesAreWalks, WalksAreDetermined, QuietIncumbentsHold, IncumbentsAreShown, IncumbentsNeverRise, WorkGoesOn, CostsGrowByWork, WorkByRows, GoalsArePlans, BoundsHold, QuietIsBest, ValidCertificatesHold, QuietStoresCertify};
 
 /// The list of a state's successors has the steps from it and no others.

@@ -1,3 +1,5 @@
+//! The rows of a search, with their estimates and statuses, and the successors of a state.
+
 use pb_packed::Packed;
 
 /// A lower bound on the cost of every walk from a state to a goal, in the unit of the task's action

@@ -28,6 +28,7 @@ impl Buffer {
     pub(crate) fn of(alloc: Global, bytes: &[u8], room: usize) -> Result<Buffer, Memory>
         ensures { IfOk result (λ buffer. buffer ≡ record { bytes = bytes.now; room = room }) }
     {
+        // The bytes of a file may be more than the room that is reserved for its name.
         let mut copy = Vec::with_capacity(alloc, room.max(bytes.len()))?;
         copy.extend_from_slice(bytes)?;
         Ok(Buffer { bytes: copy, room })
@@ -63,11 +64,13 @@ impl Buffer {
         ensures part { IfErr result (λ n. n ≡ min (most_kept kept (self.old.room - length self.old.bytes))
             (length piece.now)) }
     {
+        // The bytes may be more than the room; then nothing more fits.
         let most = most_of(kept, self.room.saturating_sub(self.bytes.len()));
         let fits = most.min(piece.len());
         let (front, rest) = piece.split_at(fits);
         match self.bytes.extend_from_slice(front) {
             Ok(()) => {}
+            // The capacity is at least `room`, so this needs no memory.
             Err(_) => unreachable!(),
         }
         if kept.is_none() && rest.is_empty() {

@@ -55,6 +55,7 @@ impl Calls {
         ensures kept { result ≡ kept_next self.old }
         ensures after { self.new ≡ record self.old { count = counted self.old.count } }
     {
+        // The count stays at its last number, as `counted` says.
         self.count = self.count.saturating_add(1);
         listed_at(&self.listed, self.count)
     }

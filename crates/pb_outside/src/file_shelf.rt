@@ -1,3 +1,4 @@
+//! The files of the system as a shelf.
 ghost use Rattle.std.specs.Prelude.{◌≡◌, ◌≤◌, ◌∷◌, ◌++◌, [], None, length, IfOk, IfErr, OnOk, OnErr};
 ghost use Rattle.pb_outside.specs.Outside.{HasCause, HasLoadCause, SeesOneMore, count_after, count_after_load};
 ghost use Rattle.pb_outside.specs.Calls.{Loaded, LoadFailed, Appended, create_call, Notes};
@@ -69,6 +70,7 @@ fn append_file<R: Files>(rt: &R, name: &str, piece: &[u8]) -> Result<(), usize>
     ensures within { IfErr result (λ kept. kept ≤ length piece.now) }
 {
     let mut options = OpenOptions::new();
+    // No file is created: a file that isn't there stays so, and the call fails.
     options.append(true);
     let Ok(mut file) = options.open(rt, name) else {
         return Err(0);
@@ -108,6 +110,7 @@ impl<'a, R: Files> Shelf for FileShelf<'a, R> {
                 Ok(bytes)
             }
             Err(why) => {
+                // A file that is too long and a lack of memory are no faults of the outside.
                 if why == Load::Failed {
                     self.faults = self.faults.saturating_add(1);
                 }
@@ -126,6 +129,7 @@ impl<'a, R: Files> Shelf for FileShelf<'a, R> {
         ensures opened { OnOk result R.File }
         ensures count { self.new.faults ≡ count_after self.old.faults result }
     {
+        // The transcript has a call whether it succeeded or not.
         let done = fs::create(self.rt, name).is_ok();
         self.transcript = self.transcript.and(&Begun { name, done });
         if !done {

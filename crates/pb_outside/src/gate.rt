@@ -1,3 +1,5 @@
+//! The gate, which is called when a lease is given, and before it is renewed or given back.
+
 /// A gate is called when a worker has got a lease, and each time before the lease is renewed or
 /// given back. A call may hold the worker up, and changes nothing else: tests use it to bring
 /// workers together.

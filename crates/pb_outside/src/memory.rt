@@ -1,3 +1,4 @@
+//! The error of a call that ran out of memory.
 ghost use Rattle.std.specs.Prelude.{◌≡◌};
 
 use std::alloc::{AllocError, AllocFailed};

@@ -1,3 +1,4 @@
+//! A shelf in memory, whose calls can be made to fail.
 ghost use Rattle.std.specs.Prelude.{◌≡◌, ◌+◌, ◌-◌, ◌≤◌, ◌↔◌, ℕ, Some, None, [], length, not, is_some, is_ok, IsTrue, IsSome, IsOk, IsErrOf, IsSomeAnd, IfSome, IfOk, IfErr, OnOk, OnErr, if◌then◌else◌, unwrap_or, false};
 ghost use Rattle.std.specs.Option.{option_map};
 ghost use Rattle.std.specs.List.{position};
@@ -61,6 +62,7 @@ fn put_file(alloc: Global, places: &mut Vec<Place>, name: &str, bytes: &[u8]) ->
         return places[i].put(alloc, bytes);
     }
     let mut place = Place::new(alloc, name)?;
+    // The place is complete before it is added, so an error leaves the places as they were.
     place.put(alloc, bytes)?;
     places.push(place)?;
     Ok(())
@@ -82,6 +84,7 @@ fn reserve_room(
         return places[i].reserve(alloc, room);
     }
     let mut place = Place::new(alloc, name)?;
+    // The place is complete before it is added, so an error leaves the places as they were.
     place.reserve(alloc, room)?;
     places.push(place)?;
     Ok(())
@@ -224,8 +227,8 @@ impl Shelf for MemShelf {
             (LoadFailed name.now most e)) }
         ensures cause { HasLoadCause self.old.calls.faults self.new.calls.faults result }
 
-        // It fails exactly if the call is listed or no file has the name. Memory runs out only for
-        // a file that isn't too long.
+        // It fails if and only if the call is listed or no file has the name. Memory runs out only
+        // for a file that isn't too long.
         ensures exact { IsErrOf result Load.Failed ↔ IsTrue (load_fails self.old name.now) }
         ensures memory { IsErrOf result Load.Memory
             → IsSomeAnd (file_of self.old name.now) (λ bytes. length bytes ≤ most) }
@@ -233,6 +236,7 @@ impl Shelf for MemShelf {
         ensures calls { self.new.calls ≡ after_call self.old.calls
             (not (load_fails self.old name.now)) }
     {
+        // The call is counted first, so one that runs out of memory counts too.
         let listed = self.calls.begin();
         match load_from(alloc, &self.places, name, most, listed.is_some()) {
             Ok(bytes) => {
@@ -268,13 +272,15 @@ impl Shelf for MemShelf {
             (create_call name.now result) }
         ensures cause { HasCause self.old.calls.faults self.new.calls.faults result }
 
-        // It fails exactly if the call is listed or no room is reserved, and then changes no file.
+        // It fails if and only if the call is listed or no room is reserved. Then it changes no
+        // file.
         ensures exact { IsOk result ↔ CreateSucceeds self.old name.now }
         ensures unchanged { OnErr result (KeepsFiles self.old self.new) }
         ensures rooms { KeepsRooms self.old self.new }
         ensures calls { self.new.calls ≡ after_call self.old.calls (is_ok result) }
     {
         let listed = self.calls.begin();
+        // A listed call isn't tried, so it leaves the file as it was.
         if listed.is_none() {
             if create_file(&mut self.places, name) {
                 self.transcript = self.transcript.and(&Begun { name, done: true });
@@ -303,8 +309,8 @@ impl Shelf for MemShelf {
             (Some (file_of self.old)) (Some (file_of self.new)) name.now piece.now) }
         ensures cause { HasCause self.old.calls.faults self.new.calls.faults result }
 
-        // It fails exactly if the call is listed, no file has the name or the room ends. It then
-        // keeps as much as is allowed and fits.
+        // It fails if and only if the call is listed, no file has the name or the room ends. It
+        // then keeps as much as is allowed and fits.
         ensures exact { IsOk result ↔ AppendSucceeds self.old name.now (length piece.now) }
         ensures kept { file_of self.new name.now ≡ grown_file self.old name.now piece.now }
         ensures rooms { KeepsRooms self.old self.new }
@@ -352,6 +358,7 @@ fn copy_of(alloc: Global, bytes: &[u8], most: u64) -> Result<Vec<u8>, Load>
     ensures short { IfOk result (λ copy. length copy.items ≤ most) }
     ensures causes { IfErr result (λ e. IsCopyError e (length bytes.now) most) }
 {
+    // The length comes first, so memory runs out only for a file that isn't too long.
     if bytes.len() as u64 > most {
         return Err(Load::TooLong { seen: most + 1 });
     }

@@ -1,3 +1,4 @@
+//! A sink in memory, whose calls can be made to fail.
 ghost use Rattle.std.specs.Prelude.{◌≡◌, ◌-◌, ◌↔◌, Some, [], ◌++◌, take, length, is_ok, IsOk, IfOk, OnOk, OnErr};
 ghost use Rattle.pb_outside.specs.Outside.{IfTold, Appends, AppendsPart, HasCause};
 ghost use Rattle.pb_outside.specs.Calls.{Put, Notes, NotesPutFailed, KeepsTakes};
@@ -92,8 +93,8 @@ impl Sink for MemSink {
             (Some self.old.bytes) (Some self.new.bytes) piece.now) }
         ensures cause { HasCause self.old.calls.faults self.new.calls.faults result }
 
-        // It fails exactly if the call is listed or the room ends. It then keeps as much as is
-        // allowed and fits.
+        // It fails if and only if the call is listed or the room ends. It then keeps as much as
+        // is allowed and fits.
         ensures exact { IsOk result ↔ PutSucceeds self.old (length piece.now) }
         ensures bytes { self.new.bytes ≡ self.old.bytes ++ take
             (most_kept (kept_next self.old.calls) (self.old.room - length self.old.bytes))

@@ -1,3 +1,4 @@
+//! Standard output, or any other writer, as a sink.
 ghost use Rattle.std.specs.Prelude.{◌≡◌, [], None, OnOk, OnErr};
 ghost use Rattle.std.specs.Io.KnownBytes.{Appends};
 ghost use Rattle.pb_outside.specs.Outside.{HasCause, count_after};

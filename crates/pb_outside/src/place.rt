@@ -67,6 +67,7 @@ impl Place {
         ensures ok { OnOk result (self.new ≡ record self.old { bytes = Some bytes.now }) }
         ensures err { OnErr result (self.new ≡ self.old) }
     {
+        // The file goes into a new buffer, so an error leaves the old one as it was.
         self.buffer = Buffer::of(alloc, bytes, self.buffer.room())?;
         self.is_there = true;
         Ok(())
@@ -77,6 +78,7 @@ impl Place {
         ensures ok { OnOk result (self.new ≡ record self.old { room = Some room }) }
         ensures err { OnErr result (self.new ≡ self.old) }
     {
+        // A copy with the new room, so an error leaves the old buffer as it was.
         self.buffer = Buffer::of(alloc, self.buffer.as_slice(), room)?;
         self.is_reserved = true;
         Ok(())
@@ -89,6 +91,7 @@ impl Place {
             else self.old) }
     {
         if self.is_reserved {
+            // Clearing keeps the capacity, so the reserved room stays.
             self.buffer.clear();
             self.is_there = true;
         }

@@ -1,3 +1,4 @@
+//! The trait of shelves: files by name, which are loaded, created and appended to.
 ghost use Rattle.std.specs.Prelude.{◌≡◌, ◌≤◌, ◌∷◌, ◌++◌, Option, Some, [], ℕ, List, IsOk, OnOk, OnErr, IfOk, IfErr, IfSome, length};
 ghost use Rattle.pb_outside.specs.Outside.{Files, IfTold, IfHeld, KeepsAll, KeepsOthers, KeepsHolds, IsTooLong, SeesOneMore, IsSameOrEmpty, AppendsTo, AppendsPartTo, HasCause};
 

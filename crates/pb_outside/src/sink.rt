@@ -1,3 +1,4 @@
+//! The trait of sinks, which take bytes as standard output does.
 ghost use Rattle.std.specs.Prelude.{OnOk, OnErr, IsOk, Option, List, ℕ, length};
 ghost use Rattle.pb_outside.specs.Outside.{IfTold, Appends, AppendsPart, HasCause};
 

@@ -19,6 +19,7 @@ fn read_some<S: Read>(file: &mut S, piece: &mut [u8]) -> Result<usize, Failed>
         → IsAtEnd (S.remaining file.new)) }
     ensures err { OnErr result (Keeps (S.remaining file.old) (S.remaining file.new)) }
 {
+    // A loop without a bound need not end, since each call may be interrupted.
     'tries: for _ in 0..u64::MAX {
         match file.read(piece) {
             Ok(count) => return Ok(count),
@@ -41,6 +42,7 @@ fn next_count(most: u64, len: usize) -> usize
 {
     let left = most - len as u64;
     if left < PIECE as u64 {
+        // One byte more than is allowed shows that the file is too long.
         left as usize + 1
     } else {
         PIECE
@@ -67,6 +69,7 @@ pub(crate) fn read_whole<S: Read>(alloc: Global, file: &mut S, most: u64) -> Res
         if count == 0 {
             return Ok(bytes);
         }
+        // No more than `most` bytes are kept, so the subtraction doesn't wrap.
         if count as u64 > most - bytes.len() as u64 {
             return Err(Load::TooLong { seen: most + 1 });
         }
@@ -83,6 +86,7 @@ fn write_some<W: Write>(file: &mut W, piece: &[u8]) -> Result<usize, Failed>
         (take count piece.now)) }
     ensures err { OnErr result (Keeps (W.contents file.old) (W.contents file.new)) }
 {
+    // A loop without a bound need not end, since each call may be interrupted.
     'tries: for _ in 0..u64::MAX {
         match file.write(piece) {
             Ok(count) => return Ok(count),
@@ -108,11 +112,13 @@ pub(crate) fn write_whole<W: Write>(file: &mut W, bytes: &[u8]) -> Result<(), us
         let Ok(count) = write_some(file, &bytes[done..]) else {
             return Err(done);
         };
+        // A writer that takes nothing might do so at each call, and the loop would not end.
         if count == 0 {
             return Err(done);
         }
         done += count;
     }
+    // Otherwise bytes could stay in the writer's buffer, and their loss would be no error.
     match file.flush() {
         Ok(()) => Ok(()),
         Err(_) => Err(done),

@@ -49,6 +49,7 @@ pub fn offer(
     ensures tables { IsOfTask estimator.new task.now choice.now }
 {
     match share.bundle.place_of(state) {
+        // The row keeps its estimate, which need not be computed again.
         Some(place) => match share.bundle.offer_at(place, g, Some(parent), action) {
             Ok(_) => Ok(()),
             Err(error) => Err(error),
@@ -192,6 +193,7 @@ pub fn expand<K: LetterRule, R: Wait>(
         row.g,
     ) {
         Ok(()) => {
+            // Only now: a row whose successors weren't all offered must be expanded again.
             share.bundle.close_row(state);
             Ok(())
         }

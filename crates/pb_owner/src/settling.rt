@@ -24,6 +24,7 @@ fn first(share: &Share) -> Option<(Packed, Row)>
     let state = share.bundle.first()?;
     match share.bundle.row(&state) {
         Some(row) => Some((state, row)),
+        // Each Opened state has a row.
         None => unreachable!(),
     }
 }

@@ -1,3 +1,5 @@
+//! What one owner has: its rows and its copy of the incumbent.
+
 use pb_lists::Bundle;
 
 /// What one owner has: the rows of its states, and its own copy of the incumbent.

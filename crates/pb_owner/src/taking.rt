@@ -38,6 +38,7 @@ pub fn take_in<K: LetterRule, R: Wait>(
         × HasTakenIn task.now choice.now takes share.old share.new) }
     ensures tables { IsOfTask estimator.new task.now choice.now }
 {
+    // `forever` marks a loop whose end isn't proved.
     for _ in rt.forever() {
         match post.take(rt, pass) {
             Some((_, letter)) => {

@@ -93,6 +93,7 @@ pub fn work<K: LetterRule, R: Wait>(
 {
     let mut used = 0u64;
     while let Some((state, row)) = settle(task, weight, share) {
+        // Only here: with no quota left, rows are still cut and goals taken.
         if used == quota {
             return (used, WorkEnd::Spent);
         }

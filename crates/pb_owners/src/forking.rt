@@ -72,6 +72,7 @@ fn both_halves<R: Threads + Sync, T: Send, F: Fn(usize, &mut T) + Sync>(
 {
     let low_works = any_busy(busy, from, from + low.len());
     let high_works = any_busy(busy, middle, middle + high.len());
+    // The half without work runs on this thread, before the half that may start others.
     if !low_works {
         calls_from(rt, f, busy, from, low);
         calls_from(rt, f, busy, middle, high);

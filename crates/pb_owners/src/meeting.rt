@@ -15,6 +15,7 @@ fn pass_of(seat: &mut Seat) -> PostPass
 {
     match seat.pass.take() {
         Some(pass) => pass,
+        // Each owner has got its pass in this round.
         None => unreachable!(),
     }
 }

@@ -23,7 +23,7 @@ fn is_memory(end: WorkEnd) -> bool
 }
 
 /// The owner works within its quota, and sends letters. With no quota it still cuts rows and takes
-/// goals. The gate is told before.
+/// goals. The gate is called before.
 pub fn begin<K: LetterRule, R: Wait, G: Gate>(
     rt: &R,
     plan: &Plan,
@@ -71,7 +71,7 @@ pub fn begin<K: LetterRule, R: Wait, G: Gate>(
     }
 }
 
-/// The owner takes its letters in, until its queue is found empty. The gate is told after.
+/// The owner takes its letters in, until its queue is found empty. The gate is called after.
 pub fn end<K: LetterRule, R: Wait, G: Gate>(
     rt: &R,
     plan: &Plan,

@@ -1,3 +1,5 @@
+//! What all owners of a search have in common.
+
 use pb_abstract::AbsGraph;
 use pb_estimate::Choice;
 use pb_task::Task;

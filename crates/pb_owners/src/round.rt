@@ -51,6 +51,7 @@ fn run_with<K: LetterRule + Send + Sync, R: Threads + Wait + Sync, G: Gate>(
     if any_failed(seats) {
         return Err(AllocError);
     }
+    // All letters were sent before any owner takes letters in.
     end_all(rt, plan, gate, post, seats);
     if any_failed(seats) {
         return Err(AllocError);
@@ -81,6 +82,7 @@ pub fn run_round<K: LetterRule + Send + Sync, R: Threads + Wait + Sync, G: Gate>
     draw(seats, lot, left);
     let (post, pass) = Post::<K>::new(alloc, plan.owners)?;
     let result = run_with(rt, alloc, plan, gate, &post, pass, seats);
+    // A post isn't dropped: it is closed whether or not memory ran out.
     post.close();
     result
 }

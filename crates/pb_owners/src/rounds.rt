@@ -65,6 +65,7 @@ fn run_rounds<K: LetterRule + Send + Sync, R: Threads + Wait + Sync, G: Gate>(
     let mut spent = 0u64;
     for _ in rt.forever() {
         spent += run_round::<K, R, G>(rt, alloc, plan, gate, seats, lot, budget - spent)?;
+        // Tested before the budget: a search that ends with it may still be quiet.
         if !any_opened(seats) {
             return Ok((End::Quiet, spent));
         }
@@ -95,6 +96,7 @@ fn seats_for(
             Err(error) => return Err(error),
         }
     }
+    // The shares were taken from the back.
     seats.reverse();
     Ok(seats)
 }
@@ -138,6 +140,7 @@ fn search<K: LetterRule + Send + Sync, R: Threads + Wait + Sync, G: Gate>(
     ensures many { IfOk result (λ r. vec_len r.2 ≡ plan.now.owners) }
     ensures end { IfOk result (λ r. IsEnd budget r.1 (share_at r.2.items) r.0) }
 {
+    // Room for the last shares is taken first, so that no rows are lost at the end for want of it.
     let kept = Vec::with_capacity(alloc, shares.len())?;
     let mut seats = seats_for(alloc, plan, shares, table)?;
     let (end, spent) = run_rounds::<K, R, G>(
@@ -152,9 +155,9 @@ fn search<K: LetterRule + Send + Sync, R: Threads + Wait + Sync, G: Gate>(
     Ok((end, spent, shares_of(seats, kept)))
 }
 
-/// Searches in rounds, until no row is Opened or the budget is used up. The gate is told of each
-/// owner's part in each round, as if the owner had leased its own block: before it works and after
-/// it took its letters in. An error is out of memory: then the owners have nothing left.
+/// Searches in rounds, until no row is Opened or the budget is used up. The gate is called for
+/// each owner's part in each round, as if the owner had leased its own block: before it works and
+/// after it took its letters in. An error is out of memory: then the owners have nothing left.
 pub fn run_owners<R: Threads + Wait + Sync, G: Gate>(
     rt: &R,
     alloc: Global,
@@ -172,6 +175,7 @@ pub fn run_owners<R: Threads + Wait + Sync, G: Gate>(
     ensures same { IsSameSearch owners.old owners.new }
     ensures end { IfOk result (λ end. OwnersEnd end owners.new) }
 {
+    // The call shows that the task is lawful.
     let _lawful = task.parts();
     let settings = owners.settings;
     let choice = owners.choice.clone()?;
@@ -182,6 +186,7 @@ pub fn run_owners<R: Threads + Wait + Sync, G: Gate>(
         weight: (settings.num, settings.den),
         owners: settings.workers,
     };
+    // The seats own the shares during the search, and give them back after it.
     let shares = mem::replace(&mut owners.shares, Vec::new(alloc));
     let (end, spent, shares) = search::<Brand, R, G>(
         rt,

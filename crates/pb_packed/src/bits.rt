@@ -1,3 +1,4 @@
+//! The fields of bits of a packed state: reading and replacing them.
 ghost use Rattle.std.specs.Prelude.{◌≡◌, ◌+◌, ◌*◌, ◌%◌, ◌^◌, ◌<◌, ◌≤◌, ◌↔◌, IsTrue};
 ghost use Rattle.pb_packed.specs.Bits.{bits_of, with_bits_of, bit_number};
 ghost use Rattle.pb_packed.specs.Sizes.{state_bits};
@@ -30,6 +31,7 @@ fn bits_of_few(words: &Words<4>, at: u32, len: u32) -> u64
     if at >= 256 {
         return 0;
     }
+    // The bits above the words are 0, so the field may end with the words.
     words.bits(at, len.min(256 - at))
 }
 
@@ -41,6 +43,7 @@ impl Packed {
         requires within { at + len ≤ state_bits }
         ensures { result ≡ bits_of self.now at len }
     {
+        // A mask of `len` bits is made by a shift by `64 - len`, which may not be 64.
         if len == 0 {
             return 0;
         }
@@ -59,6 +62,7 @@ impl Packed {
         requires fits { value < 2 ^ len }
         ensures { result ≡ with_bits_of self.now at len value }
     {
+        // A state of one word is changed without making its 16 words.
         if at + len <= 64 {
             if let Form::Word(word) = self.form {
                 let changed = Words::<1>::of_word(word).with_bits(at, len, value);

@@ -1,3 +1,4 @@
+//! A packed state as hexadecimal digits, read and written.
 ghost use Rattle.std.specs.Prelude.{◌≡◌, ◌*◌, ◌^◌, ◌<◌, ◌≤◌, IfSome, IfNone, IsTrue, All, length, take, drop};
 ghost use Rattle.pb_packed.specs.Digits.{hex_digit, hex_digits, is_hex_digit, AreHexDigits};
 ghost use Rattle.pb_packed.specs.Sizes.{most_digits};
@@ -41,6 +42,7 @@ fn word_spelled(digits: &[u8]) -> Option<u64>
         let Some(digit) = digit_of(digits[i]) else {
             return None;
         };
+        // At most 16 digits of 4 bits each fit the word, so this doesn't overflow.
         word = word * 16 + u64::from(digit);
     }
     Some(word)
@@ -80,6 +82,7 @@ impl Packed {
         if MOST_DIGITS < digits.len() {
             return None;
         }
+        // `number_spelled` makes a new state for each digit, which one word doesn't need.
         if digits.len() <= 16 {
             match word_spelled(digits) {
                 Some(word) => Some(Packed::of_word(word)),

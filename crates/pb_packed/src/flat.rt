@@ -1,4 +1,4 @@
-// The words of a state, for those who keep states and sets in flat arrays of words.
+//! The words of a state, for those who keep states and sets in flat arrays of words.
 ghost use Rattle.std.specs.Prelude.{◌≡◌, ◌*◌, ◌^◌, ◌<◌, ◌≤◌};
 ghost use Rattle.pb_packed.specs.Sizes.{state_bits};
 ghost use Rattle.pb_packed.specs.Words.{number_of, AreWords};

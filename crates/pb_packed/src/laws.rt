@@ -1,3 +1,4 @@
+//! Laws on fields of bits and on digits. Each is the contract of a function without a body.
 ghost use Rattle.pb_packed.specs.Laws.{FieldsAreReplaced, DigitsAreHex, DigitsTellNumbers};
 
 /// After a field of bits is replaced, it has the value. The bits above and below it are as before.

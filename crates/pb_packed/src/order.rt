@@ -1,3 +1,4 @@
+//! Equality, order and hash of packed states: those of their numbers.
 ghost use Rattle.std.specs.Prelude.{◌≡◌, nat_eq, Some};
 ghost use Rattle.std.specs.Ordering.{nat_cmp};
 ghost use Rattle.std.proofs.Common.{rules};
@@ -19,6 +20,7 @@ impl PartialEq for Packed {
             (Form::Word(word), Form::Word(other)) => *word == *other,
             (Form::Few(words), Form::Few(other)) => *words == *other,
             (Form::Many(words), Form::Many(other)) => *words == *other,
+            // Each number has one form, the smallest that it fits. So these numbers differ.
             _ => false,
         }
     }
@@ -34,6 +36,7 @@ impl Hash for Packed {
     ghost respects_eq = { Prim.search (hashing, rules) };
 
     fn hash<H: Hasher>(&self, state: &mut H) {
+        // Equal numbers have the same form, so they feed the same words.
         match &self.form {
             Form::Word(word) => word.hash(state),
             Form::Few(words) => words.hash(state),
@@ -66,6 +69,7 @@ impl Ord for Packed {
             (Form::Word(word), Form::Word(other)) => word.cmp(other),
             (Form::Few(words), Form::Few(other)) => words.cmp(other),
             (Form::Many(words), Form::Many(other)) => words.cmp(other),
+            // The number of a larger form doesn't fit the smaller form, so it is greater.
             (Form::Word(_), _) => Ordering::Less,
             (Form::Few(_), Form::Word(_)) => Ordering::Greater,
             (Form::Few(_), Form::Many(_)) => Ordering::Less,

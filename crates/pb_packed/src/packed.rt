@@ -1,3 +1,4 @@
+//! The type of packed states, its three forms, and their conversion to and from words.
 ghost use Rattle.std.specs.Prelude.{◌≡◌, ◌<◌, ◌≤◌, ◌^◌, IfSome, IfNone, length};
 ghost use Rattle.pb_packed.specs.Words.{number_of, AreWords};
 

@@ -1,3 +1,4 @@
+//! A packed state in a given count of words, for tables that keep so many words of each state.
 ghost use Rattle.std.specs.Prelude.{◌≡◌, ◌*◌, ◌<◌, ◌≤◌, ◌^◌, IfSome, IfNone};
 
 use crate::packed::Form;

@@ -1,3 +1,5 @@
+//! The sizes of states: bits, digits and ground atoms.
+
 /// How many bits a state has.
 pub const BITS: u32 = 1024;
 

@@ -1,4 +1,4 @@
-// Numbers that are held as slices of words, the lowest first.
+//! Numbers that are held as slices of words, the lowest first: fields of bits, comparison, copies.
 ghost use Rattle.std.specs.Prelude.{◌≡◌, ◌+◌, ◌*◌, ◌^◌, ◌<◌, ◌≤◌, ◌↔◌, IsTrue, length, nat_eq, replicate};
 ghost use Rattle.std.specs.Ordering.{nat_cmp};
 ghost use Rattle.pb_packed.specs.Bits.{bits_of, with_bits_of};
@@ -34,6 +34,7 @@ fn with_bits_of_word(word: u64, at: u32, len: u32, value: u64) -> u64
     requires fits { value < 2 ^ len }
     ensures { result ≡ with_bits_of word at len value }
 {
+    // The field is 0 after the subtraction, so the addition carries into no other bit.
     word - (bits_of_word(word, at, len) << at) + (value << at)
 }
 
@@ -75,6 +76,7 @@ pub(crate) fn bits_in(words: &[u64], at: u32, len: u32) -> u64
     if shift + len <= 64 {
         return bits_of_word(words[first], shift, len);
     }
+    // The field crosses into the next word. A product makes the pair, so no shift is by 64 bits.
     let pair = u128::from(words[first + 1]) * (1 << 64) + u128::from(words[first]);
     bits_of_pair(pair, shift, len)
 }
@@ -195,6 +197,7 @@ pub(crate) fn copy_words(words: &[u64], out: &mut [u64])
     ensures number { number_of out.new ≡ number_of words.now }
     ensures words { AreWords (length out.old) out.new }
 {
+    // The number fits `out`, so the words left out are 0.
     for i in 0..words.len().min(out.len()) {
         out[i] = words[i];
     }

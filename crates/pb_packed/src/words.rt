@@ -1,3 +1,4 @@
+//! A number in a fixed count of words.
 ghost use Rattle.std.specs.Prelude.{◌≡◌, ◌+◌, ◌*◌, ◌<◌, ◌≤◌, ◌^◌, ◌%◌, ◌↔◌, IsTrue, length, nat_eq};
 ghost use Rattle.std.specs.Ordering.{nat_cmp};
 ghost use Rattle.std.specs.Hash as fed;
@@ -157,6 +158,7 @@ impl<const W: usize> Words<W> {
     pub(crate) fn feed<H: Hasher>(&self, state: &mut H)
         ensures { state.new ≡ fold H.write state.old (flat_map fed.u64 (words_of W self.now)) }
     {
+        // Their count isn't fed, as the hash of an array would: the type fixes it.
         u64::hash_slice(&self.words, state);
     }
 }

@@ -1,3 +1,4 @@
+//! The fields of bits of a number in words: reading and replacing them.
 ghost use Rattle.std.specs.Prelude.{◌≡◌, ◌+◌, ◌*◌, ◌%◌, ◌^◌, ◌<◌, ◌≤◌, ◌↔◌, IsTrue};
 ghost use Rattle.pb_packed.specs.Bits.{bits_of, with_bits_of, bit_number};
 
@@ -12,6 +13,7 @@ impl<const W: usize> Words<W> {
         ensures { result ≡ bits_of self.now at len }
     {
         if len == 0 {
+            // A mask of `len` bits is made by a shift by `64 - len`, which may not be 64.
             return 0;
         }
         self.bits_of_some(at, len)

@@ -1,3 +1,4 @@
+//! Costs of images, and a look at one step that may lower such a cost.
 ghost use Rattle.std.specs.Prelude.{◌≡◌, ◌<◌, ◌≤◌, ◌^◌, ℕ, IfSome, length};
 ghost use Rattle.pb_pattern.specs.Costs.{cost_in, is_cheaper, costs_after};
 
@@ -19,6 +20,7 @@ pub fn relax(costs: &mut [u64], from: u32, step: Option<(u32, u64)>) -> bool
     let Some((to, price)) = step else {
         return false;
     };
+    // It fits: `UNKNOWN` is 2^62, and a step costs at most 2^20.
     let cost = price + costs[to as usize];
     if cost < costs[from as usize] {
         costs[from as usize] = cost;

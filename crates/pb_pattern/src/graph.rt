@@ -1,3 +1,4 @@
+//! The least costs of all images of a projected task, whichever kind of task it is.
 ghost use Rattle.std.specs.Prelude.{◌≡◌, ◌<◌, ◌≤◌, ◌^◌, IfOk, if◌then◌else◌};
 ghost use Rattle.pb_pattern.specs.Costs.{AreLeast, IsTable, Looks, IsAnyStep};
 ghost use Rattle.pb_pattern.specs.Graphs.{space_in, images_in, IsGraph};
@@ -87,6 +88,7 @@ impl Graph {
         ensures { IsTable (space_in self.now) (images_in self.now) costs.new }
     {
         let mut level = 0;
+        // Each round has another level, so there are no more rounds than images.
         for _ in 0..self.images() {
             self.look_into_level(costs, level);
             match next_level(costs, level) {
@@ -103,6 +105,8 @@ impl Graph {
         requires table { IsTable (space_in self.now) (images_in self.now) costs.old }
         ensures { AreLeast (space_in self.now) (images_in self.now) costs.new }
     {
+        // A walk of least cost visits no image twice. So after as many rounds as images all costs
+        // are least.
         for _round in 0..self.images() {
             if !self.look(costs) {
                 return;

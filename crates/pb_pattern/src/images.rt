@@ -1,4 +1,4 @@
-// Images of states: the tracked atoms of a set, and the cells of the tracked pieces of a board.
+//! Images of states: the tracked atoms of a set, and the cells of the tracked pieces of a board.
 ghost use Rattle.std.specs.Prelude.{[], ◌≡◌, ◌+◌, ◌*◌, ◌<◌, ◌≤◌, ◌^◌, ◌==◌, All, IfOk, IfSome, IsTrue, length, map, not, OnOk, position, take, ◌++◌};
 ghost use Rattle.pb_packed.specs.Sizes.{most_atoms};
 ghost use Rattle.pb_packed.specs.Bits.{bit_number};
@@ -142,6 +142,7 @@ fn unpack(word: u64, count: usize) -> [u8; MOST_CELLS]
     requires { count ≤ 16 }
     ensures { take count result ≡ board_of count word }
 {
+    // As large for every board, so that it takes no memory: `least` promises that.
     let mut cells = [0; MOST_CELLS];
     let mut rest = word;
     for cell in 0..count {

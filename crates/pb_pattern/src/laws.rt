@@ -1,3 +1,4 @@
+//! The laws of this crate. Each is the contract of a function without a body.
 ghost use Rattle.pb_pattern.specs.Laws.{LeastCostsAreUnique, RoundsGiveLeast, LeastCostsAreSmall, StableCostsAreLeast, ProjectionsAreAdmissible, StripsProject, TilesProject, PatternValuesAreLeast, PatternsAreAdmissible};
 
 /// A state has one least cost.

@@ -1,4 +1,4 @@
-// Projected tasks of sliding tiles: the images are the cells of the blank and of a few tiles.
+//! Projected tasks of sliding tiles: the images are the cells of the blank and of a few tiles.
 ghost use Rattle.std.specs.Prelude.{◌≡◌, ◌+◌, ◌*◌, ◌<◌, ◌≤◌, ◌^◌, ◌==◌, IsTrue, IfSome, map, nat_lt, slice_index};
 ghost use Rattle.std.specs.List.{list_all};
 ghost use Rattle.pb_task.specs.Tiles.{board_state, board_of, neighbour};
@@ -105,6 +105,8 @@ impl Pieces {
         requires image { image < 16 ^ self.now.count }
         ensures { result ≡ (board_space self.now).step image action }
     {
+        // Four bits can also name a cell that a small board lacks. From such an image no step
+        // leads.
         if !are_cells(self.rows * self.cols, self.count, image) {
             return None;
         }
@@ -152,6 +154,8 @@ impl Pieces {
         requires table { IsTable (board_space self.now) (16 ^ self.now.count) costs.old }
         ensures { IsTable (board_space self.now) (16 ^ self.now.count) costs.new }
     {
+        // A slide is undone by the opposite slide. So the images before this one are those that its
+        // own steps lead to.
         for action in 0..DIRECTIONS {
             if let Some((before, _)) = self.step(image, action) {
                 self.look_from(costs, before);

@@ -1,4 +1,4 @@
-// Projected tasks of STRIPS: the images are the sets of a few atoms.
+//! Projected tasks of STRIPS: the images are the sets of a few atoms.
 ghost use Rattle.std.specs.Prelude.{◌≡◌, ◌<◌, ◌≤◌, ◌^◌, length};
 ghost use Rattle.pb_task.specs.Strips.{is_strips_goal, strips_step};
 ghost use Rattle.pb_pattern.specs.Costs.{IsTable, Looks, IsStepAt, IsByOne, IsAnyStep};
@@ -127,11 +127,15 @@ impl Sets {
         }
         let free = changed & !rule.needs;
         let mut part = 0u32;
+        // `part` goes through the subsets of `free`; there are no more than images.
         for _ in 0..self.images() {
             let before = kept | rule.needs | part;
+            // No clause says that `image` is in range, and `look_at` needs that.
             if before < self.images() {
                 self.look_at(costs, before, action);
             }
+            // The next subset of `free`, and 0 after the last one. From 0 the subtraction wraps, as
+            // it should.
             part = part.wrapping_sub(free) & free;
             if part == 0 {
                 return;

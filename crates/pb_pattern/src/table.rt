@@ -1,3 +1,4 @@
+//! Pattern databases: the least costs of all images, and the pattern value of a state.
 ghost use Rattle.std.specs.Prelude.{◌≡◌, ◌<◌, ◌≤◌, All, IsTrue, IfOk, length};
 ghost use Rattle.pb_task.specs.Parts.{space_of};
 ghost use Rattle.pb_task.specs.Strips.{strips_space, IsStrips};
@@ -98,6 +99,7 @@ fn least_of_strips(strips: &StripsParts, tracked: &[u32], costs: &[u64], state: 
     requires state { IsTrue ((strips_space strips.now).is_state state.now) }
     ensures { result ≡ strips_value strips.now tracked.now state.now }
 {
+    // Only the contract speaks of `strips`.
     let _ = strips;
     let image = images::image_of_set(tracked, state);
     estimate_at(costs, image)

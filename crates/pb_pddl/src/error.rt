@@ -1,3 +1,4 @@
+//! Why a text is no tree of PDDL: the errors, and what must come in place of a token.
 ghost use Rattle.std.specs.Prelude.{◌≡◌};
 ghost use Rattle.pb_pddl.specs.declared.error.SyntaxError.TheVariants.{Memory};
 

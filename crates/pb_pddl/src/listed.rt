@@ -1,3 +1,4 @@
+//! Lists on the heap, which contracts see as lists.
 ghost use Rattle.std.specs.Prelude.{◌≡◌, ◌++◌, ◌∷◌, ◌-◌, [], length, take, OnOk, OnErr, IfOk};
 
 use std::alloc::{AllocError, AllocFailed, Global};
@@ -56,6 +57,7 @@ impl<T> Listed<T> {
         T: Drop,
         ensures { self.new ≡ take (length self.old - 1) self.old }
     {
+        // The element is dropped here, so its type must be one that may be.
         let _last = self.items.pop();
     }
 }

@@ -1,3 +1,4 @@
+//! Ranges of shared bytes, as the text of a token or a name.
 ghost use Rattle.std.specs.Prelude.{◌≡◌, ◌+◌, ◌≤◌, IfOk, length, take, drop};
 
 use crate::listed::Listed;
@@ -39,6 +40,7 @@ fn moved(start: u32, by: usize) -> Result<u32, AllocError>
     ensures { IfOk result (λ n. n ≡ start + by) }
 {
     let by = small(by)?;
+    // The invariant of a text doesn't say that the sum fits in 32 bits.
     match start.checked_add(by) {
         Some(place) => Ok(place),
         None => Err(AllocError),
@@ -59,6 +61,7 @@ impl Text {
     pub fn of(alloc: Global, list: Listed<u8>) -> Result<Text, AllocError>
         ensures { IfOk result (λ text. text ≡ list) }
     {
+        // Tested before the `Rc` is made, so a list that is too long takes no more memory.
         let len = small(list.as_slice().len())?;
         let bytes = Rc::new(alloc, list)?;
         Ok(Text {

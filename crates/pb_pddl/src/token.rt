@@ -1,3 +1,5 @@
+//! The tokens of a text, and where the next one may begin.
+
 use crate::listed::Listed;
 use crate::text::Text;
 

@@ -21,7 +21,7 @@ ghost use Rattle.pb_pddl.specs.Trees.{SpellsDomain, SpellsProblem};
 ghost use Rattle.pb_pddl.specs.Readings.{tokens_of};
 ghost use Rattle.pb_pddl.specs.Words.{DomainHasWords, ProblemHasWords};
 
-/// A law: tokens are read as a domain exactly if the grammar has them as that domain.
+/// A law: tokens are read as a domain if and only if the grammar has them as that domain.
 pub fn domain_reading_is_exact()
     ensures sound { (ts : List Token) (domain : Domain) → domain_at unlimited ts ≡ Ok domain
         → IsDomain ts domain }
@@ -29,7 +29,7 @@ pub fn domain_reading_is_exact()
         → domain_at unlimited ts ≡ Ok domain }
 {}
 
-/// A law: tokens are read as a problem exactly if the grammar has them as that problem.
+/// A law: tokens are read as a problem if and only if the grammar has them as that problem.
 pub fn problem_reading_is_exact()
     ensures sound { (ts : List Token) (problem : Problem) → problem_at unlimited ts ≡ Ok problem
         → IsProblem ts problem }

@@ -1,3 +1,4 @@
+//! A piece of a text, in a buffer of a fixed size.
 ghost use Rattle.std.specs.Prelude.{◌≡◌, ◌+◌, ◌≤◌, [], ◌++◌, length};
 ghost use Rattle.std.specs.Fmt.{decimal};
 ghost use Rattle.pb_packed.specs.Digits.{hex_digits};

@@ -95,6 +95,7 @@ fn make_room<H: Shelf>(shelf: &mut H, name: &str, piece: &mut Piece) -> Result<(
     ensures loads { KeepsLoads (H.can_load shelf.old) (H.can_load shelf.new) }
     ensures cause { HasCause (H.faults shelf.old) (H.faults shelf.new) result }
 {
+    // The next line isn't made yet, so there must be room for the longest.
     if piece.len() + LONGEST <= Piece::SIZE {
         return Ok(());
     }
@@ -164,8 +165,10 @@ pub fn save_lines<T: NumberedLines, H: Shelf>(
     ensures loads { KeepsLoads (H.can_load shelf.old) (H.can_load shelf.new) }
     ensures cause { HasCause (H.faults shelf.old) (H.faults shelf.new) result }
 {
+    // Pieces are appended, so the file must be there, and empty.
     shelf.create(name)?;
     let mut piece = Piece::new();
+    // A text may have the lines of two lists and more, whose number need not fit 64 bits.
     let mut at = 0u128;
     let mut begin = 0usize;
     let count = text.count();
@@ -173,6 +176,7 @@ pub fn save_lines<T: NumberedLines, H: Shelf>(
         add_line(text, shelf, name, &mut piece, at, &mut begin)?;
         at += 1;
     }
+    // There is at least one line, so the last piece isn't empty.
     append_piece(shelf, name, &mut piece)
 }
 

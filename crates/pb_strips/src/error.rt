@@ -1,3 +1,4 @@
+//! Why a domain and a problem are no task, in the order in which causes are judged.
 ghost use Rattle.std.specs.Prelude.{◌≡◌};
 ghost use Rattle.pb_strips.specs.Packing.{of_lifted, of_ground, of_reach};
 ghost use Rattle.pb_strips.specs.declared.error.StripsError.TheVariants.{Memory};

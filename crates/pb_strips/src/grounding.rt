@@ -1,3 +1,4 @@
+//! The task of a domain and a problem in which all ground atoms have numbers.
 ghost use Rattle.std.specs.Prelude.{◌≡◌, ◌≤◌, length, None, OnOk, IfOk, IfErr};
 ghost use Rattle.pb_packed.specs.Sizes.{most_atoms};
 ghost use Rattle.pb_task.specs.declared.grounding.Grounding.TheVariants.{All};
@@ -66,6 +67,7 @@ fn task_of(
     ensures since { looks.new.since ≡ looks.old.since }
     ensures rising { looks.old.taken ≤ looks.new.taken }
 {
+    // These calls are in the order of the faults: names and costs, then atoms, then actions.
     let lifted = resolve(alloc, domain, problem)?;
     let atoms = ground_atoms(alloc, &lifted)?;
     task_by(alloc, domain, problem, &lifted, &atoms, looks)
@@ -75,9 +77,9 @@ fn task_of(
 /// are the ground actions in theirs, under the names that plans print and at their costs.
 ///
 /// Else the error is the first fault: a fault of a name, of a cost or of too many objects, then too
-/// many atoms, then too many actions. Both limits are looked at before the atoms or actions are
-/// built. `Memory` says nothing of the texts. `Stopped` comes if no look is left; it is in the place
-/// of too many actions.
+/// many atoms, then too many actions. Atoms are counted before any is built, and actions before any
+/// is packed. `Memory` says nothing of the texts. `Stopped` comes if no look is left; it is in the
+/// place of too many actions.
 pub fn ground(
     alloc: Global,
     domain: &Domain,
@@ -100,5 +102,6 @@ pub fn ground(
     ensures since { looks.new.since ≡ looks.old.since }
     ensures rising { looks.old.taken ≤ looks.new.taken }
 {
+    // A call of its own: `never` is proved from its clauses.
     task_of(alloc, domain, problem, looks)
 }

@@ -1,3 +1,5 @@
+//! Laws on steps, plans and printed names of the task, as those by names. Each is the contract of a
+//! function without a body.
 ghost use Rattle.pb_strips.specs.Correspondence.{AllAreKept, GroundedPlansAreByNames, KeptPlansAreByNames, KeptStepsAreByNames, PackedStepsAreSteps, StepsArePackedSteps, StartsAgree, GoalsAgree, PackedPlansArePlans, PlansArePackedPlans};
 ghost use Rattle.pb_strips.specs.Names.{TextsKeepNames};
 ghost use Rattle.pb_strips.specs.Refusals.{ReachedIsAccepted};

@@ -1,3 +1,4 @@
+//! The names of ground actions, as plans print them.
 ghost use Rattle.std.specs.Prelude.{◌≡◌, ◌++◌, map, option_copied, slice_get, OnOk, IfOk};
 ghost use Rattle.pb_lifted.specs.Objects.{objects_of};
 ghost use Rattle.pb_lifted.specs.Facts.{name_at};
@@ -82,6 +83,7 @@ pub(crate) fn name_of(
     bytes.extend_from_slice(action_word(domain, schema))?;
     add_objects(domain, problem, objects, &mut bytes)?;
     bytes.push(b')')?;
+    // The names of a tree are any bytes; those of a text that was read are ASCII.
     let text = String::from_utf8_lossy(alloc, bytes.as_slice())?;
     Ok(ActionName::of(text))
 }

@@ -1,3 +1,4 @@
+//! Packing ground atoms and actions into the parts of a STRIPS task.
 ghost use Rattle.std.specs.Prelude.{◌≡◌, ◌≤◌, ℕ, All, map, length, IfOk};
 ghost use Rattle.pb_packed.specs.Sizes.{most_atoms};
 ghost use Rattle.pb_lifted.specs.Lifted.{lifted_of};
@@ -85,6 +86,7 @@ pub(crate) fn parts_of(
     let wanted = goal(alloc, lifted, atoms)?;
     let actions = packed_actions(alloc, domain, problem, actions)?;
     Ok(StripsParts {
+        // Nothing is cut off: by `few` there are at most `MOST_ATOMS`.
         atoms: atoms.as_slice().len() as u32,
         actions,
         start: set_of(first.as_slice()),

@@ -1,3 +1,4 @@
+//! The task of a domain and a problem in which only what is reached has a number.
 ghost use Rattle.std.specs.Prelude.{◌≡◌, ◌≤◌, length, None, OnOk, IfOk, IfErr};
 ghost use Rattle.pb_packed.specs.Sizes.{most_atoms};
 ghost use Rattle.pb_task.specs.declared.grounding.Grounding.TheVariants.{Reachable};
@@ -68,6 +69,7 @@ fn task_of(
     ensures since { looks.new.since ≡ looks.old.since }
     ensures rising { looks.old.taken ≤ looks.new.taken }
 {
+    // These calls are in the order of the faults: names and costs first, then rounds.
     let lifted = resolve(alloc, domain, problem)?;
     let reached = reach(alloc, &lifted, looks)?;
     let task = task_by(alloc, domain, problem, &lifted, &reached)?;
@@ -105,5 +107,6 @@ pub fn ground_reached(
     ensures since { looks.new.since ≡ looks.old.since }
     ensures rising { looks.old.taken ≤ looks.new.taken }
 {
+    // A call of its own: `never` is proved from its clauses.
     task_of(alloc, domain, problem, looks)
 }

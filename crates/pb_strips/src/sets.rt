@@ -1,3 +1,4 @@
+//! Sets of atoms as packed states.
 ghost use Rattle.std.specs.Prelude.{◌≡◌, ◌≤◌, ℕ};
 ghost use Rattle.pb_packed.specs.Sizes.{most_atoms};
 ghost use Rattle.pb_strips.specs.Grounding.{numbered_set};
@@ -13,6 +14,7 @@ pub(crate) fn set_of(numbers: &[usize]) -> Packed
 {
     let mut set = Packed::zero();
     for n in numbers {
+        // Nothing is cut off: each number is below `MOST_ATOMS`.
         set = set.with(*n as u32, true);
     }
     set

@@ -1,3 +1,4 @@
+//! The task of a domain and a problem by the grounding that is asked for.
 ghost use Rattle.std.specs.Prelude.{◌≡◌, ◌≤◌, None, OnOk, IfOk, IfErr};
 ghost use Rattle.pb_task.specs.declared.grounding.Grounding.TheVariants.{Reachable};
 ghost use Rattle.pb_task.specs.declared.parts.TaskParts.TheVariants.{Strips};
@@ -13,7 +14,7 @@ use pb_pddl::{Domain, Problem};
 use pb_task::{Grounding, Task};
 use std::alloc::Global;
 
-// `ground_reached`, by the definitions that take the word.
+// `ground_reached`, by the definitions that take the grounding.
 fn reached(
     alloc: Global,
     domain: &Domain,

@@ -1,3 +1,4 @@
+//! Actions of a domain: name, parameters, precondition and effect.
 ghost use Rattle.std.specs.Prelude.{◌≡◌, [], codes, drop, is_some, Ok};
 ghost use Rattle.pb_syntax.specs.Forms.{all_parts, action_of};
 ghost use Rattle.pb_pddl.specs.Reading.{Gives, all_of, begins_key, once, params_part, pre_part, effect_part, part_at, or_empty, parts_want, limited, add_action};
@@ -84,6 +85,7 @@ fn effect_part<'a>(
         costs: Listed::new(alloc),
     };
     let rest = effect(alloc, DEEPEST, &mut all, behind(tokens))?;
+    // A short list would otherwise keep room for four.
     all.costs.trim();
     out.effect = Some(all.literals);
     out.costs = all.costs;
@@ -119,6 +121,7 @@ fn parts<'a>(
         (all_of begins_key (part_at limited) out.old tokens.now) }
 {
     let mut rest = tokens;
+    // Each round takes a token or fails, so no more rounds are needed.
     for _ in 0..tokens.len() {
         if !begins_key(rest) {
             return Ok(rest);

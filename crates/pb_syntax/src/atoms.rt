@@ -1,3 +1,4 @@
+//! Atoms: a predicate and its terms.
 ghost use Rattle.std.specs.Prelude.{◌≡◌, [], drop, IfOk, Ok};
 ghost use Rattle.pb_pddl.specs.Reading.{Gives, front, all_of, begins_term, term_of, add_term, begins_head, head_at, atom_at};
 
@@ -47,6 +48,7 @@ fn terms<'a>(
 {
     let mut out = Listed::new(alloc);
     let mut rest = tokens;
+    // Each round takes a token or fails, so no more rounds are needed.
     for _ in 0..tokens.len() {
         if !begins_term(variables, rest) {
             return Ok((out, rest));
@@ -85,7 +87,9 @@ pub fn atom<'a>(
 {
     let (predicate, rest) = head(alloc, tokens)?;
     let (mut terms, rest) = terms(alloc, variables, rest)?;
+    // A short list would otherwise keep room for four.
     terms.trim();
+    // A term may come too, and an error wants a `Name` before a `Close`.
     let rest = need(TokenKind::Close, Want::Name, rest)?;
     Ok((Atom { predicate, terms }, rest))
 }

@@ -1,3 +1,4 @@
+//! Conditions and effects, which may be nested.
 ghost use Rattle.std.specs.Prelude.{◌≡◌, codes, drop, Ok};
 ghost use Rattle.pb_pddl.specs.Reading.{Gives, all_of, begins_open, add_atom, cond_at, conds_at, add_literal, negative_at, effects_at, effect_at};
 
@@ -35,6 +36,7 @@ pub fn cond<'a>(
     ensures { Gives (λ rest. (out.new, rest.now)) result
         (cond_at variables room out.old tokens.now) }
 {
+    // No text comes here, since a `(` this deep is a `Deep` token. The number bounds the recursion.
     if room == 0 {
         return Err(fault(Want::Paren, tokens));
     }
@@ -61,6 +63,7 @@ fn all_conds<'a>(
         (all_of begins_open (cond_at variables room) out.old tokens.now) }
 {
     let mut rest = tokens;
+    // Each round takes a token or fails, so no more rounds are needed.
     for _ in 0..tokens.len() {
         if !begins(TokenKind::Open, rest) {
             return Ok(rest);
@@ -84,6 +87,7 @@ fn conds<'a>(
         (conds_at variables (cond_at variables room) out.old tokens.now) }
 {
     let rest = all_conds(alloc, variables, room, out, tokens)?;
+    // A condition may come too, and an error wants a `Paren` before a `Close`.
     need(TokenKind::Close, Want::Paren, rest)
 }
 

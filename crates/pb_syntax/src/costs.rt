@@ -1,3 +1,4 @@
+//! Costs of actions: the declaration of `total-cost`, its increases, and its value in `:init`.
 ghost use Rattle.std.specs.Prelude.{◌≡◌, true, codes, drop, Ok};
 ghost use Rattle.pb_pddl.specs.Numbers.{is_number, number_of};
 ghost use Rattle.pb_pddl.specs.Reading.{Gives, front, total_cost_at, begins_number, number_at, cost_at, add_increase, add_equal, number_type, function_type, one_function, functions_at};

@@ -1,3 +1,4 @@
+//! Whole domains and their sections, and what all forms begin and end with.
 ghost use Rattle.std.specs.Prelude.{◌≡◌, [], codes, drop, is_some, Ok};
 ghost use Rattle.pb_syntax.specs.Forms.{head_at, whole_domain};
 ghost use Rattle.pb_pddl.specs.Reading.{Gives, all_of, begins_open, requirements_section, types_section, constants_section, predicates_section, functions_section, action_section, no_section, domain_key, domain_section, title_at, end_at, limited, domain_at};
@@ -164,6 +165,7 @@ fn domain_sections<'a>(
         (all_of begins_open (domain_section limited) out.old tokens.now) }
 {
     let mut rest = tokens;
+    // Each round takes a token or fails, so no more rounds are needed.
     for _ in 0..tokens.len() {
         if !begins(TokenKind::Open, rest) {
             return Ok(rest);
@@ -222,6 +224,7 @@ fn whole_domain(alloc: Global, out: &mut DomainParts, tokens: &[Token]) -> Resul
 {
     let rest = domain_sections(alloc, out, tokens)?;
     let rest = need(TokenKind::Close, Want::Paren, rest)?;
+    // Called for its error alone: no token is left to be read.
     let _end = end(rest)?;
     Ok(())
 }

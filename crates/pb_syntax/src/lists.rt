@@ -1,3 +1,4 @@
+//! Lists: names with types, predicates, requirements, and the content of `:init`.
 ghost use Rattle.std.specs.Prelude.{◌≡◌, ◌++◌, [], drop, OnOk, IfOk, Ok};
 ghost use Rattle.pb_pddl.specs.Reading.{Gives, all_of, begins_group, begins_key, begins_open, typed, type_at, close_group, group_step, list_at, add_key, keys_at, add_predicate, predicates_at, add_held, add_fact, facts_at};
 
@@ -102,6 +103,7 @@ fn groups<'a>(
         (all_of (begins_group kind) (group_step kind) out.old tokens.now) }
 {
     let mut rest = tokens;
+    // Each round takes a token or fails, so no more rounds are needed.
     for _ in 0..tokens.len() {
         if !begins_group(kind, rest) {
             return Ok(rest);
@@ -237,6 +239,7 @@ fn all_keys<'a>(
 pub fn keys(alloc: Global, tokens: &[Token]) -> Result<&[Token], SyntaxError>
     ensures { Gives (λ x. x.now) result (keys_at tokens.now) }
 {
+    // The words are dropped, since no requirement changes what is read.
     let mut out = Listed::new(alloc);
     let rest = all_keys(alloc, &mut out, tokens)?;
     need(TokenKind::Close, Want::Close, rest)

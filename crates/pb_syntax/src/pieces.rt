@@ -1,3 +1,4 @@
+//! Single tokens: what the first one is, taking it, and why it is refused.
 ghost use Rattle.std.specs.Prelude.{◌≡◌, codes, drop, IfOk, Ok};
 ghost use Rattle.std.specs.Str.{bytes_eq};
 ghost use Rattle.pb_pddl.specs.Reading.{Gives, kind_number, same_kind, front, begins, spells, is_reserved, refusal, fault_at, left_at, need, need_word, begins_reserved, only_word, name_at, begins_term, term_of, begins_head, head_at, begins_group, begins_key, name_of};
@@ -36,6 +37,7 @@ pub fn begins(kind: TokenKind, tokens: &[Token]) -> bool
     ensures { result ≡ begins kind tokens.now }
 {
     match tokens {
+        // The definition reads a list without tokens as the end of the text.
         [] => same_kind(TokenKind::End, kind),
         [token, ..] => same_kind(token.kind, kind),
     }
@@ -189,6 +191,7 @@ pub fn only_word<'a>(
     if spells(TokenKind::Word, text, tokens) {
         Ok(behind(tokens))
     } else if begins(TokenKind::Word, tokens) && !begins_reserved(tokens) {
+        // A reserved word after a `(` is refused below, as a head that is left out.
         Err(left_out(what, tokens))
     } else {
         Err(fault(Want::Word, tokens))

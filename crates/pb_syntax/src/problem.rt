@@ -1,3 +1,4 @@
+//! Whole problems and their sections.
 ghost use Rattle.std.specs.Prelude.{◌≡◌, [], codes, drop, is_some, true, Ok, OnOk};
 ghost use Rattle.pb_syntax.specs.Forms.{whole_problem, problem_of};
 ghost use Rattle.pb_pddl.specs.Reading.{Gives, all_of, begins_open, domain_name_section, problem_requirements, objects_section, init_section, goal_section, metric_section, problem_key, problem_section, missing, there, stood_all, sections_want, limited, problem_at};
@@ -173,6 +174,7 @@ fn problem_section<'a>(
     ensures { Gives (λ rest. (out.new, rest.now)) result
         (problem_section limited out.old tokens.now) }
 {
+    // Each section may come once, so after all six a `(` itself is refused.
     if stood_all(out) {
         return Err(fault(Want::Close, tokens));
     }
@@ -189,6 +191,7 @@ fn problem_sections<'a>(
         (all_of begins_open (problem_section limited) out.old tokens.now) }
 {
     let mut rest = tokens;
+    // Each round takes a token or fails, so no more rounds are needed.
     for _ in 0..tokens.len() {
         if !begins(TokenKind::Open, rest) {
             return Ok(rest);
@@ -231,6 +234,7 @@ fn whole_problem(alloc: Global, out: &mut ProblemParts, tokens: &[Token]) -> Res
 {
     let last = problem_sections(alloc, out, tokens)?;
     let rest = need(TokenKind::Close, sections_want(out), last)?;
+    // `Missing` is an error at the last `)`, so that is looked for first.
     let _domain = there(&out.domain, last)?;
     let _goal = there(&out.goal, last)?;
     let _end = end(rest)?;

@@ -1,3 +1,4 @@
+//! The domain or the problem that the bytes of a text spell.
 ghost use Rattle.std.specs.Prelude.{◌≡◌, ◌≢◌, List, Ok, Err, IfOk, IfErr};
 ghost use Rattle.pb_pddl.specs.declared.token.Token.{Token};
 ghost use Rattle.pb_pddl.specs.declared.tree.Domain.{Domain};

@@ -1,3 +1,4 @@
+//! The error of reading lines that should state tables.
 ghost use Rattle.std.specs.Prelude.{◌≡◌};
 ghost use Rattle.pb_table_lines.specs.declared.fault.LinesError.TheVariants.{Memory};
 

@@ -14,7 +14,7 @@ use pb_tables::ImageList;
 use std::alloc::Global;
 use std::marker::Model;
 
-/// StatedImages that are read, and their values: those of one image after another.
+/// Images that are read, and their values: those of one image after another.
 #[derive(Drop)]
 pub struct ReadImages {
     pub listed: ImageList,
@@ -73,6 +73,7 @@ fn add_image(
 {
     let (first, behind) = text.split_at(text.len().min(digits as usize));
     state_in(digits, line, first, words)?;
+    // If the values are refused, the image stays without them: the caller then drops all images.
     images.listed.push(&Packed::of_slice(words))?;
     add_values(&mut images.values, sums, line, behind)
 }
@@ -107,6 +108,7 @@ pub fn images_at<'a>(
     };
     let mut rest = text;
     for i in 0..count {
+        // Each line takes a byte of the text at least, so `line + i` fits.
         let (first, after) = line_at(line + i, rest)?;
         add_image(&mut images, digits, sums, line + i, first, words)?;
         rest = after;

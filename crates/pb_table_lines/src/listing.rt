@@ -61,6 +61,7 @@ pub fn count(tables: &Tables) -> usize
     ensures count { result ≡ length (listings tables.now) }
     ensures most { result ≤ 8192 }
 {
+    // Called for its clause `lawful`: there are at most 4,096 tables and as many traps.
     let _ = tables.sums();
     tables.tables().len() + tables.traps().len()
 }
@@ -111,6 +112,7 @@ pub fn line_number(tables: &Tables, list: usize, line: usize) -> u128
     ensures { result ≡ line_number tables.now list line }
 {
     let lists = count(tables);
+    // The contract takes any number. One above the last list's counts as that behind it.
     let before = lines_before(tables, if list <= lists { list } else { lists });
     before + line as u128 + 1
 }

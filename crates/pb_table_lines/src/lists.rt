@@ -151,6 +151,7 @@ pub fn tables_at<'a>(
     let mut rest = place.text;
     for number in 0..count {
         let (table, after) = table_at(alloc, digits, sums, line, rest, words)?;
+        // Counted before the push, which takes the table.
         line += 1 + table.listed().len() as u64;
         tables.push(table)?;
         rest = after;
@@ -186,6 +187,7 @@ pub fn traps_at<'a>(
     let mut rest = place.text;
     for number in 0..count {
         let (trap, after) = trap_at(alloc, digits, line, rest, words)?;
+        // Counted before the push, which takes the trap.
         line += 1 + trap.listed().len() as u64;
         traps.push(trap)?;
         rest = after;

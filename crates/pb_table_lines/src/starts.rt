@@ -30,11 +30,13 @@ impl LineStarts {
         ensures { IfOk result (λ starts. AreStarts tables.now starts) }
     {
         let mut starts = Vec::new(alloc);
+        // Up to 8,192 lists of less than 2^63 images each: the sum needs more than 64 bits.
         let mut at = 1u128;
         for list in 0..listing::count(tables) {
             starts.push(at)?;
             at += 1 + listing_at(tables, list).listed.len() as u128;
         }
+        // One more, behind the last list: how many lines there are.
         starts.push(at)?;
         Ok(LineStarts { starts })
     }
@@ -66,7 +68,8 @@ impl LineStarts {
     }
 }
 
-// The number before the last one that is above this one.
+// The table or trap that has a line: its lines begin there or before, and those of the next one
+// begin after it.
 fn last_from(starts: &[u128], at: u128) -> usize
     requires some { 2 ≤ length starts.now }
     requires first { slice_index starts.now 0 ≤ at }

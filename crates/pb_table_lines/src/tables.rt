@@ -59,6 +59,7 @@ pub fn tables_at(
     ensures line { IfOk result (λ x. x.1.line ≡ line + length (tables_lines digits x.0)) }
     ensures shorter { IfOk result (λ x. x.1.line + length x.1.text.now ≤ line + length text.now) }
 {
+    // One state's words, taken once: each line's image is read into them.
     let mut words = Vec::from_elem(alloc, 0u64, words_for(digits))?;
     tables_into(alloc, digits, line, text, &mut words)
 }

@@ -23,6 +23,7 @@ fn hex_number(digits: &[u8]) -> Option<u64>
     ensures number { result ≡ hex_after 0 digits.now }
     ensures small { IfSome result (λ n. n < 2 ^ 64) }
 {
+    // At most sixteen digits of four bits each, so the number fits.
     let mut number: u64 = 0;
     for byte in digits {
         let value = hex_value(*byte);
@@ -74,6 +75,7 @@ fn read_digits(word: &[u8], words: &mut [u64]) -> bool
     ensures state { read_by result words.new ≡ hex_after 0 word.now }
     ensures words { AreWords (length words.old) words.new }
 {
+    // The highest word may have fewer than sixteen digits; each other word has sixteen.
     let last = words.len() - 1;
     match hex_number(&word[..word.len() - 16 * last]) {
         None => false,

@@ -86,6 +86,7 @@ fn first_open(strips: &StripsParts, tracked: &Packed, listed: &ImageList, limit:
 {
     let mut first = limit;
     for action in 0..strips.actions.len() {
+        // The least place counts, so each action is tried only below the least one found so far.
         first = first_out_if_touched(strips, tracked, listed, action, first);
     }
     first
@@ -154,6 +155,7 @@ fn table_fault(strips: &StripsParts, sums: usize, table: &Table) -> Option<usize
     ensures { result ≡ table_fault strips.now sums table.now }
 {
     let goal = first_dear_goal(strips, sums, table);
+    // The first line counts, so steps are tried only below the first dear goal.
     let place = first_open(strips, table.tracked(), table.listed(), goal);
     if place < table.listed().len() {
         Some(place + 1)

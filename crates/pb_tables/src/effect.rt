@@ -60,6 +60,7 @@ pub fn image_step(
     ensures { result ≡ image_step strips.now.atoms tracked.now
         (action_at strips.now.actions action) (number_of image.now) }
 {
+    // The clauses name the action by its number; the code takes its sets from `effect`.
     let _ = action;
     if is_within_words(strips.atoms, &effect.needs, image) {
         let held = Packed::of_slice(image);

@@ -64,6 +64,7 @@ pub fn greatest_sum(count: u32, sums: usize, tables: &[Table], state: &Packed) -
     ensures { result ≡ (if is_unlisted count tables.now (length tables.now) state.now then 0
         else greatest_below sums (sum_of count sums tables.now (length tables.now) state.now)) }
 {
+    // At most 4,096 tables with values of at most 2^40: no sum exceeds 2^52.
     let mut totals = no_sums();
     for number in 0..tables.len() {
         let table = &tables[number];

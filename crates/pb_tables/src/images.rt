@@ -54,6 +54,8 @@ impl ImageList {
         ensures ok { OnOk result (self.new ≡ self.old ++ image.now ∷ []) }
         ensures err { OnErr result (self.new ≡ self.old) }
     {
+        // Both steps may fail. The first changes no number, so after an error the list is as
+        // before.
         let width = words_for(image);
         self.numbers.widen(self.alloc, width)?;
         self.numbers.push(image)

@@ -1,4 +1,4 @@
-//! FlatNumbers of a fixed count of words each, one after another in one array.
+//! Numbers of a fixed count of words each, one after another in one array.
 ghost use Rattle.std.specs.Prelude.{◌≡◌, ◌≢◌, ◌≤◌, ◌<◌, ◌*◌, ◌^◌, ◌++◌, ◌∷◌, [], ℕ, IfSome, IfNone, IfOk, OnOk, OnErr, length, slice_index};
 ghost use Rattle.std.specs.Ordering.{nat_cmp};
 ghost use Rattle.pb_packed.specs.Words.{number_of, AreWords};
@@ -9,7 +9,7 @@ use std::alloc::{AllocError, Global};
 use std::cmp::Ordering;
 use std::marker::Model;
 
-/// FlatNumbers of `width` words each. Contracts see the width and the list of the numbers.
+/// Numbers of `width` words each. Contracts see the width and the list of the numbers.
 #[derive(Drop)]
 pub struct FlatNumbers {
     width: usize,
@@ -52,6 +52,7 @@ impl FlatNumbers {
         ensures err { OnErr result (self.new.numbers ≡ self.old.numbers) }
         ensures width { self.new.width ≡ self.old.width }
     {
+        // The count rises last, so if memory runs out nothing has changed.
         self.words.extend_from_slice(number)?;
         self.count += 1;
         Ok(())
@@ -123,6 +124,7 @@ impl FlatNumbers {
         ensures wide { OnOk result (width ≤ self.new.width) }
     {
         if self.width() < width {
+            // The numbers are copied first: after an error they are as before.
             *self = self.widened(alloc, width)?;
         }
         Ok(())
@@ -168,6 +170,7 @@ impl FlatNumbers {
         ensures { IsPlaceOf result self.now.numbers number.now }
     {
         let words = number.words();
+        // A number of more words than these isn't among them.
         if words.fits(self.width) {
             let all = words.to_array();
             self.place_of(&all[..self.width])

@@ -35,6 +35,7 @@ fn raise(drops: &mut [u64; SUMS], sums: usize, values: &[u64], from: usize, to: 
 {
     for sum in 0..sums {
         let value = values[from * sums + sum];
+        // A step that raises the value lowers it by nothing: 0.
         let drop = value.saturating_sub(value_in(sums, values, sum, to));
         drops[sum] = drops[sum].max(drop);
     }
@@ -95,6 +96,7 @@ fn drops_of(strips: &StripsParts, sums: usize, tables: &[Table], action: usize) 
         ≡ drops_of strips.now.atoms (action_at strips.now.actions action) sums tables.now
         (length tables.now) sum }
 {
+    // At most 4,096 tables, each lowered by at most 2^40: no sum exceeds 2^52.
     let mut totals = no_sums();
     for number in 0..tables.len() {
         let table = &tables[number];

@@ -123,6 +123,7 @@ pub fn is_within(count: u32, small: &Packed, large: &Packed) -> bool
     requires { small.now < 2 ^ count }
     ensures { result ≡ is_within count small.now large.now }
 {
+    // Only the contract speaks of `count`.
     let _ = count;
     are_within(&small.to_words(), &large.to_words())
 }
@@ -135,6 +136,7 @@ pub fn is_within_words(count: u32, small: &[u64], large: &[u64]) -> bool
     requires bits { number_of small.now < 2 ^ count }
     ensures { result ≡ is_within count (number_of small.now) (number_of large.now) }
 {
+    // Only the contract speaks of `count`.
     let _ = count;
     are_within(small, large)
 }
@@ -146,6 +148,7 @@ pub fn both(count: u32, one: &Packed, other: &Packed) -> Packed
     ensures both { result ≡ both count one.now other.now }
     ensures small { result < 2 ^ count }
 {
+    // Only the contract speaks of `count`.
     let _ = count;
     common(one, other)
 }
@@ -164,6 +167,7 @@ pub fn image_after(
         → deletes.now ≡ both count action.deletes tracked.now
         → result ≡ image_after count tracked.now action image.now }
 {
+    // Only the contract speaks of `count`.
     let _ = count;
     changed(adds, deletes, tracked, image)
 }

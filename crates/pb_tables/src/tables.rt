@@ -132,6 +132,7 @@ impl Tables {
         requires { IsStrips strips.now }
         ensures { result ≡ tables_fault strips.now self.now }
     {
+        // The order comes first: the others look images up by halving, so these must rise.
         if let Some(fault) = self.first_order_fault(strips) {
             return Some(fault);
         }

@@ -1,3 +1,4 @@
+//! The ground actions of a STRIPS task, with their sets of atoms in three arrays.
 ghost use Rattle.std.specs.Prelude.{◌≡◌, ◌<◌, ◌≤◌, ◌*◌, ◌++◌, ◌∷◌, [], IfOk, length};
 ghost use Rattle.pb_packed.specs.Sizes.{state_bits};
 ghost use Rattle.pb_packed.specs.Words.{number_of, AreWords};
@@ -59,6 +60,7 @@ impl Actions {
     pub fn with(self, action: GroundAction) -> Result<Actions, AllocError>
         ensures { IfOk result (λ actions. actions ≡ self ++ action ∷ []) }
     {
+        // `self` is taken apart, so no actions whose arrays differ in length are left after an error.
         let Actions {
             mut labels,
             needs,

@@ -1,4 +1,4 @@
-// Sets of atoms in one array, so many words each.
+//! Sets of atoms in one array, each in the same number of words.
 ghost use Rattle.std.specs.Prelude.{◌≡◌, ◌*◌, ◌^◌, ◌<◌, ◌≤◌, ◌++◌, ◌∷◌, [], IfOk, OnOk, length, slice_index};
 ghost use Rattle.pb_packed.specs.Sizes.{state_bits};
 ghost use Rattle.pb_packed.specs.Words.{number_of, AreWords};
@@ -33,6 +33,7 @@ fn words_for(set: &Packed) -> usize
     ensures some { 1 ≤ result }
     ensures most { 64 * result ≤ state_bits }
 {
+    // `width` is 1, 4 or 16, and the set may fit fewer words than that.
     let mut width = set.width();
     while 1 < width && *set < Packed::zero().with(64 * (width - 1) as u32, true) {
         width -= 1;
@@ -83,6 +84,7 @@ impl AtomSets {
     {
         let words = set.to_words();
         let width = self.width();
+        // The set fits `width` words, so the words left out are 0.
         self.push_words(&words[..width])
     }
 
@@ -124,6 +126,7 @@ impl AtomSets {
         ensures sets { IfOk result (λ wider. wider.sets ≡ self.now.sets) }
         ensures width { IfOk result (λ wider. wider.width ≡ width) }
     {
+        // The maximum below is `width`. The clauses of this call show that it is at least 1.
         let least = self.width();
         let mut wider = AtomSets::of_width(self.alloc, width.max(least));
         for i in 0..self.len() {

@@ -1,3 +1,4 @@
+//! Grids: their cells as states, and the steps between cells.
 ghost use Rattle.std.specs.Prelude.{◌≡◌, ◌≢◌, ◌+◌, ◌*◌, ◌<◌, ◌≤◌, ◌^◌, vec_capacity, IfSome};
 ghost use Rattle.pb_packed.specs.Bits.{bits_of};
 ghost use Rattle.pb_model.specs.Space.{steps};
@@ -50,6 +51,7 @@ impl GridParts {
     {
         if x < self.width && y < self.height {
             let at = u64::from(y) * u64::from(self.width) + u64::from(x);
+            // Only `IsGrid` says that there are as many classes as cells, and it isn't required.
             self.cells.get(at as usize).unwrap_or(Class::Blocked)
         } else {
             Class::Blocked
@@ -92,6 +94,7 @@ fn class_of_cell(grid: &GridParts, state: &Packed, x: u32, y: u32) -> Class
     requires small_y { y < 2048 }
     ensures { result ≡ class_of_state grid.now state.now }
 {
+    // A state with other bits on than those of a column and a row represents no cell.
     if pack(x, y) == *state {
         grid.class_at(x, y)
     } else {

@@ -1,3 +1,4 @@
+//! Which ground atoms and actions of a STRIPS task have numbers.
 ghost use Rattle.std.specs.Prelude.{◌≡◌, ◌≤◌, length};
 ghost use Rattle.pb_task.specs.Groundings.{grounding_name};
 

@@ -1,3 +1,4 @@
+//! The kinds of tasks, and what command lines and certificates call them.
 ghost use Rattle.std.specs.Prelude.{◌≡◌, ◌≤◌, length};
 ghost use Rattle.pb_task.specs.Kinds.{kind_name};
 

@@ -1,3 +1,5 @@
+//! Laws on state spaces of tasks, on digits and successors of states, and on faults of plans. Each
+//! is the contract of a function without a body.
 ghost use Rattle.pb_task.specs.Widths.{StatesFitTheirWidth};
 ghost use Rattle.pb_task.specs.Laws.{GridsAreProper, TilesAreProper, BoardsArePacked, TilesSlide, StripsAreProper, StripsAct, SetsAreOfAtoms, TasksAreProper, DegreesAreBounded, FaultsAreUnique, FaultsKeepFromPlans};
 

@@ -1,3 +1,4 @@
+//! What a task of each kind is made of: maps, boards, and STRIPS tasks with their ground actions.
 ghost use Rattle.std.specs.Prelude.{◌≡◌, slice_get, string_bytes};
 
 use crate::actions::Actions;

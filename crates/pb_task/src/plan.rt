@@ -1,3 +1,4 @@
+//! Whether a list of actions is a plan, what it costs, and its first fault.
 ghost use Rattle.std.specs.Prelude.{◌≡◌, ◌≤◌, ◌^◌, ℕ, Ok, IfOk, IfErr, length};
 ghost use Rattle.pb_model.specs.Plan.{IsPlan};
 ghost use Rattle.pb_task.specs.Parts.{space_of};
@@ -31,6 +32,7 @@ impl Task {
                 return Err(PlanFault::Step { i: i as u64 });
             };
             state = step.0;
+            // 2^40 actions at a cost of at most 2^20 each fit 64 bits.
             cost += step.1;
         }
         if self.is_goal(&state) {

@@ -1,4 +1,4 @@
-// Sets of atoms, packed or as words. Of two sets of words, the lowest word comes first.
+//! Tests and steps of sets of atoms, packed or as words, the lowest word first.
 ghost use Rattle.std.specs.Prelude.{◌≡◌, ℕ, ◌*◌, ◌<◌, ◌≤◌, ◌^◌, ◌↔◌, ◌&&◌, ◌||◌, not, IsTrue, length};
 ghost use Rattle.pb_packed.specs.Sizes.{state_bits, most_atoms};
 ghost use Rattle.pb_packed.specs.Words.{number_of, AreWords};
@@ -12,7 +12,7 @@ pub fn is_atom_set(count: u32, set: &Packed) -> bool
     ensures { result ≡ is_atom_set count set.now }
 {
     if count == BITS {
-        // there is no bit of this number, and no number with such a bit
+        // No bit has this number. The call shows that the set fits 16 words, so it has no such bit.
         let _ = set.words();
         return true;
     }
@@ -125,6 +125,7 @@ pub fn after<const W: usize>(adds: &[u64], deletes: &[u64], held: &[u64; W]) -> 
     ensures bits { result < 2 ^ state_bits }
 {
     let mut words = *held;
+    // Deleted atoms go first, so an atom that is both deleted and added holds afterwards.
     take_out(&mut words, deletes);
     put_in(&mut words, adds);
     Packed::from_words(&Words::<W>::of_slice(&words))

@@ -1,3 +1,4 @@
+//! Adding the successor by one action to a list of successors.
 ghost use Rattle.std.specs.Prelude.{◌≡◌, ◌<◌, ◌≤◌, ◌+◌, ◌++◌, vec_capacity, vec_len};
 ghost use Rattle.pb_model.specs.Space.{successor_list};
 
@@ -20,6 +21,7 @@ pub fn push_step(out: &mut Vec<Succ>, action: u32, step: Option<(Packed, u64)>)
         };
         match out.push(successor) {
             Ok(()) => {}
+            // The list has room, so the call takes no memory.
             Err(_) => unreachable!(),
         }
     }

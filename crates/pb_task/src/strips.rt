@@ -1,3 +1,4 @@
+//! STRIPS tasks: sets of atoms as states, and the steps by ground actions.
 ghost use Rattle.std.specs.Prelude.{◌≡◌, ℕ, ◌*◌, ◌<◌, ◌≤◌, ◌↔◌, IsTrue, length, vec_capacity};
 ghost use Rattle.pb_packed.specs.Words.{number_of, AreWords};
 ghost use Rattle.pb_model.specs.Space.{steps};
@@ -125,6 +126,7 @@ pub fn step(strips: &StripsParts, from: &Packed, action: u32) -> Option<(Packed,
     requires state { IsTrue (is_atom_set strips.now.atoms from.now) }
     ensures { result ≡ strips_step strips.now from.now action }
 {
+    // A step costs less in fewer words, and most words of a small task's states are 0.
     if strips.atoms <= 64 {
         step_in::<1>(strips, from, action)
     } else if strips.atoms <= 256 {
@@ -147,6 +149,7 @@ fn successors_in<const W: usize>(strips: &StripsParts, from: &Packed, out: &mut 
     ensures room { vec_capacity out.old ≤ vec_capacity out.new }
 {
     out.clear();
+    // The state is turned into words once for all actions.
     let held = from.in_words::<W>().to_array();
     for action in 0..actions(strips) {
         if needs_hold(strips, &held, action) {

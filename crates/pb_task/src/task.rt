@@ -1,3 +1,4 @@
+//! The type of tasks, whose calls go to the kind of the task.
 ghost use Rattle.std.specs.Prelude.{◌≡◌, ◌<◌, ◌≤◌, IsTrue, IfOk, vec_capacity, string_bytes};
 ghost use Rattle.pb_model.specs.Space.{steps};
 ghost use Rattle.pb_task.specs.Grid.{IsGrid};
@@ -44,6 +45,7 @@ fn digits_for(bits: u32) -> u32
     ensures some { 1 ≤ result }
     ensures most { result ≤ most_digits }
 {
+    // A task without atoms has one state, which is written as a 0.
     if bits == 0 { 1 } else { (bits + 3) / 4 }
 }
 
@@ -172,6 +174,7 @@ impl Task {
         ensures degree { result ≡ max_degree_of self.now }
         ensures lawful { IsTask self.now }
     {
+        // Without this the invariant of the task isn't available, which the clause `lawful` states.
         let _ = &self.parts;
         self.actions()
     }

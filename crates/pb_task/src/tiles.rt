@@ -1,3 +1,4 @@
+//! Sliding tiles: boards as states, and the steps that move the blank.
 ghost use Rattle.std.specs.Prelude.{◌≡◌, ◌+◌, ◌*◌, ◌/◌, ◌%◌, ◌<◌, ◌≤◌, ◌^◌, ◌==◌, true, IsTrue, IfSome, Some, length, take, swap, nat_lt, vec_capacity};
 ghost use Rattle.std.specs.List.{list_all};
 ghost use Rattle.pb_task.specs.Tiles.{IsTiles, cell_count, are_distinct, is_board, board_state, board_of, is_board_state, cell_on, neighbour, blank_of, slide_on, tiles_step, tiles_space};
@@ -23,6 +24,7 @@ pub fn pack(board: &[u8]) -> Packed
     ensures { result ≡ board_state board.now }
 {
     let mut word: u64 = 0;
+    // The first cell is in the lowest bits, so it is put in last.
     for cell in (0..board.len()).rev() {
         word = word * 16 + u64::from(board[cell]);
     }
@@ -50,6 +52,7 @@ pub fn is_state(tiles: &TilesParts, state: &Packed) -> bool
 {
     let count = tiles.rows * tiles.cols;
     let word = state.bits(0, BITS * count);
+    // A state with a bit on beyond the cells is no board.
     if Packed::of_word(word) != *state {
         return false;
     }
@@ -166,8 +169,10 @@ fn exchanged(word: u64, count: u32, blank: u32, other: u32) -> u64
     requires fits { board_state (swap (board_of count word) blank other) < 2 ^ 64 }
     ensures { result ≡ board_state (swap (board_of count word) blank other) }
 {
+    // Only the contract needs the number of cells.
     let _ = count;
     let number = (word >> (BITS * other)) % 16;
+    // The bits of the blank's cell are 0, so the addition puts the number there.
     word - (number << (BITS * other)) + (number << (BITS * blank))
 }
 
@@ -203,6 +208,7 @@ pub fn successors(tiles: &TilesParts, from: &Packed, out: &mut Vec<Succ>)
 {
     out.clear();
     let word = from.bits(0, 64);
+    // Each board has a blank, so the list is never left empty here.
     let Some(blank) = blank_in(word, tiles.rows * tiles.cols) else {
         return;
     };
@@ -221,6 +227,7 @@ pub fn is_at(board: &[u8], state: &Packed) -> bool
     ensures { result ≡ (state.now == board_state board.now) }
 {
     let word = state.bits(0, 64);
+    // The cells come first, since the first one that differs ends the comparison.
     has_numbers(word, board) && Packed::of_word(word) == *state
 }
 

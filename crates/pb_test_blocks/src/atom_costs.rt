@@ -1,3 +1,4 @@
+//! Tests of hmax: the costs of atoms along chains and joins of actions.
 ghost use Rattle.std.specs.Prelude.{◌≡◌, ◌<◌, ◌^◌};
 ghost use Rattle.pb_task.specs.Strips.{IsGroundAction};
 

@@ -1,3 +1,4 @@
+//! Tests of tracked atoms, which are bits in their order, and the STRIPS tasks for them.
 ghost use Rattle.std.specs.Prelude.{◌≡◌, ◌≤◌, ◌<◌, ◌^◌, IfOk};
 ghost use Rattle.pb_task.specs.Strips.{IsGroundAction};
 

@@ -1,3 +1,4 @@
+//! Tests of bundles by block: which block is best, and bundles that leave and come back.
 ghost use Rattle.std.specs.Prelude.{◌≡◌, IsSome, OnOk};
 ghost use Rattle.std.specs.Map.{keys_of};
 ghost use Rattle.pb_bundles.specs.Parts.{content_in};

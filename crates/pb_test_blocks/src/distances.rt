@@ -1,3 +1,5 @@
+//! Tests of Manhattan distances on maps and boards.
+
 use pb_estimate::{Choice, Estimator};
 use pb_model::Estimate;
 use pb_packed::Packed;

@@ -1,3 +1,4 @@
+//! Tests of abstract graphs: scopes, interference and the blocks of states.
 ghost use Rattle.std.specs.Prelude.{IfOk};
 ghost use Rattle.pb_abstract.specs.Graph.{IsGraphOf};
 

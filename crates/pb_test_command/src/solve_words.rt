@@ -1,5 +1,4 @@
 //! The words of `solve`.
-
 use crate::words::compare;
 
 // Options may stand anywhere after the command. Those that aren't given have their defaults. A line

@@ -1,5 +1,4 @@
 //! How the answer to a command line is compared, and the words of `check`, `journal` and `make`.
-
 use pb_command::{
     CheckCommand, CommandLine, CommandRefusal, Engine, FallingCommand, Input, JournalCommand,
     MakeCommand, SolveCommand, read_words,

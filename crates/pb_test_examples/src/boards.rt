@@ -1,3 +1,5 @@
+//! Small boards of tiles.
+
 use pb_task::{Board, Task, TilesParts};
 use std::alloc::{AllocError, Global};
 

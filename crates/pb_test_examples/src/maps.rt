@@ -1,3 +1,5 @@
+//! Small maps.
+
 use pb_task::{Cells, Class, GridParts, Swamp, Task};
 use std::alloc::{AllocError, Global};
 

@@ -1,5 +1,4 @@
 //! That two owners work at once, and that an idle one passes its gate all the same.
-
 use crate::samples::{far_board, search_task, settings_of};
 use pb_machine::End;
 use pb_outside::Gate;

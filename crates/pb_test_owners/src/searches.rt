@@ -1,5 +1,4 @@
 //! How many rows a search by owners expands, and what an owner without a quota does.
-
 use crate::samples::{Seen, far_board, search_task, settings_of, three_cells};
 use pb_machine::End;
 use pb_outside::OpenGate;

@@ -1,3 +1,4 @@
+//! Tests of pattern values, and the STRIPS task that other tests of this crate use too.
 ghost use Rattle.std.specs.Prelude.{◌≡◌};
 ghost use Rattle.pb_task.specs.Strips.{IsGroundAction};
 

@@ -1,5 +1,4 @@
 //! A certificate of many rows: several workers read and test it, and give the answer of one.
-
 use crate::changes::{answer_alone, code_of};
 use crate::pieces::answer;
 use pb_outside::OpenGate;

@@ -1,5 +1,4 @@
 //! Certificates that state tables: one worker and several give the answer worked out by hand.
-
 use crate::changes::{code_of, judge_alone};
 use crate::pieces::answer_for;
 use pb_outside::OpenGate;

@@ -1,3 +1,4 @@
+//! The program that rows of tests run, as a trait.
 ghost use Rattle.std.specs.Thread.{IsSync};
 
 use pb_outside::{MemShelf, MemSink};

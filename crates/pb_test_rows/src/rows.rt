@@ -77,6 +77,7 @@ impl Row {
         command: &C,
         line: &str,
     ) -> Result<(), Memory> {
+        // The run takes the shelf, and gives it back with what it saved.
         let shelf = mem::replace(&mut self.ran.shelf, MemShelf::new(alloc)?);
         self.ran = run_over(rt, alloc, command, line, shelf, self.sink_fails)?;
         Ok(())

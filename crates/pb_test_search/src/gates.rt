@@ -1,5 +1,4 @@
 //! What a gate is told, and that two leases are out at once.
-
 use crate::samples::{ONE_WORKER, Sample, search_sample};
 use pb_machine::{End, Settings};
 use pb_outside::Gate;

@@ -1,5 +1,4 @@
 //! Whole searches of small tasks, and what the tests see of them.
-
 use crate::patterns::{spent_once, spent_twice};
 use pb_lease::LeaseGraph;
 use pb_machine::{End, Event, STANDARD, Settings};

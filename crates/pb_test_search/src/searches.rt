@@ -1,5 +1,4 @@
 //! Worked rows: how whole searches end, by one worker and by several.
-
 use crate::samples::{ONE_WORKER, Sample, has_journal, search_sample};
 use pb_machine::{End, Event, Settings};
 use pb_outside::OpenGate;

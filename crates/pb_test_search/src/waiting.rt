@@ -1,5 +1,4 @@
 //! A search by two workers, one of which a gate holds while blocks near its own wait.
-
 use crate::samples::{ONE_WORKER, Sample, search_sample};
 use pb_machine::Settings;
 use pb_outside::Gate;

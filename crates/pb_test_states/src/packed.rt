@@ -1,3 +1,4 @@
+//! Tests of packed states: fields, single bits, digits and order.
 ghost use Rattle.std.specs.Prelude.{◌≤◌, ◌<◌};
 ghost use Rattle.pb_packed.specs.Sizes.{most_digits, state_bits};
 

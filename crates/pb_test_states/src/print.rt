@@ -1,3 +1,5 @@
+//! Tests of text, numbers and digits that are put into bytes and pieces.
+
 use pb_packed::Packed;
 use pb_print::{Piece, push_line, push_number, push_text};
 use std::alloc::AllocError;

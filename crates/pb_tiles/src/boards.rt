@@ -1,3 +1,4 @@
+//! Boards of tiles: the first fault of one, and the usual goal.
 ghost use Rattle.std.specs.Prelude.{◌≡◌, ◌+◌, ◌<◌, ◌^◌, [], true, nat_lt, length, IfOk};
 ghost use Rattle.std.specs.List.{list_all, range_with_len};
 ghost use Rattle.pb_tiles.specs.Reading.{board_fault};
@@ -18,6 +19,7 @@ pub fn board_fault(count: u32, first: u64, board: &[u32]) -> Option<TilesError>
                 at: first + at as u64,
             });
         }
+        // A board has at most 16 numbers here, since its count was judged before.
         if board[..at].contains(&board[at]) {
             return Some(TilesError::Twice {
                 number: u64::from(board[at]),
@@ -34,6 +36,7 @@ pub fn board_of(alloc: Global, numbers: &[u32]) -> Result<Board, AllocError>
 {
     let mut cells = Vec::new(alloc);
     for number in numbers {
+        // The contract has each number below 16, so the cast loses nothing.
         cells.push(*number as u8)?;
     }
     Ok(Board::of(cells))

@@ -1,3 +1,4 @@
+//! Why a text is not read as sliding tiles.
 ghost use Rattle.std.specs.Prelude.{◌≡◌};
 ghost use Rattle.pb_tiles.specs.declared.error.TilesError.TheVariants.{Memory};
 

@@ -1,3 +1,4 @@
+//! Laws on what a text spells and on refusals, as contracts of functions without a body.
 ghost use Rattle.pb_tiles.specs.Laws.{ReadingsAreSpelled, SpelledTilesAreUnique, RefusalsHaveTheirCase, CasesAreRefused};
 
 /// A text is read as the tiles that it spells, and no other text is read.

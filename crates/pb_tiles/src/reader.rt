@@ -1,3 +1,4 @@
+//! Sliding tiles from the numbers of a text: its size, its start and its goal.
 ghost use Rattle.std.specs.Prelude.{◌≡◌, ◌≢◌, ◌≤◌, Ok, Err, IfOk, IfErr, MatchResult};
 ghost use Rattle.pb_task.specs.Tiles.{IsTiles};
 ghost use Rattle.pb_task.specs.declared.parts.TilesParts.{TilesParts};
@@ -63,6 +64,8 @@ fn tiles_of(alloc: Global, numbers: &Numbers) -> Result<TilesParts, TilesError>
             if numbers.has_goal() {
                 boards(alloc, *rows, *cols, start, numbers.behind())
             } else {
+                // It is judged like a written goal, and never has a fault.
+                // So the order of refusals is one.
                 let goal = usual_goal(alloc, *rows * *cols)?;
                 boards(alloc, *rows, *cols, start, goal.as_slice())
             }
@@ -116,6 +119,7 @@ fn boards_fault(count: u32, start: &[u32], goal: &[u32]) -> Option<TilesError>
     if let Some(fault) = count_fault(count, goal) {
         return Some(fault);
     }
+    // The numbers of rows and of columns are the first two of the text.
     if let Some(fault) = board_fault(count, 2, start) {
         return Some(fault);
     }

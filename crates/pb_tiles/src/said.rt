@@ -1,3 +1,4 @@
+//! The numbers of a text, before and after the word `goal`.
 ghost use Rattle.std.specs.Prelude.{◌≡◌, ◌≢◌, Ok, Err, IfOk, IfErr};
 ghost use Rattle.pb_tiles.specs.Words.{word_end};
 ghost use Rattle.pb_tiles.specs.Reading.{nothing_said, with_number, may_have_goal, said_by};

@@ -1,3 +1,4 @@
+//! The words of a text, each with its line.
 ghost use Rattle.std.specs.Prelude.{◌≡◌, ◌≢◌, ◌+◌, ◌<◌, ◌≤◌, ◌^◌, Ok, Err, IfOk, IfErr};
 ghost use Rattle.pb_tiles.specs.Words.{is_blank, words, line_behind};
 ghost use Rattle.pb_tiles.specs.Reading.{nothing_said, said_by};
@@ -20,9 +21,11 @@ pub fn read_words(alloc: Global, text: &[u8]) -> Result<Numbers, TilesError>
         if is_blank(text[at]) {
             numbers.take(line, &text[begin..at])?;
             begin = at + 1;
+            // Only now, since the word before a line feed is still in its line.
             line = line_behind(line, text[at]);
         }
     }
+    // No blank need come after the last word.
     numbers.take(line, &text[begin..])?;
     Ok(numbers)
 }

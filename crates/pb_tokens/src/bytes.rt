@@ -1,3 +1,4 @@
+//! Bytes of a PDDL text: white space, comments, words and lower case.
 ghost use Rattle.std.specs.Prelude.{◌≡◌, ◌≤◌, false, length, IfOk, map};
 ghost use Rattle.pb_pddl.specs.Tokens.{is_white, begins_word, goes_on_word, lower, gap_len, run_len, word_first, gap_next};
 
@@ -8,6 +9,7 @@ use std::alloc::{AllocError, Global};
 fn is_white(byte: u8) -> bool
     ensures { result ≡ is_white byte }
 {
+    // 12 is the form feed.
     byte == b' ' || byte == b'\t' || byte == b'\r' || byte == b'\n' || byte == 12
 }
 

@@ -1,3 +1,4 @@
+//! Dividing a PDDL text into tokens.
 ghost use Rattle.std.specs.Prelude.{◌≡◌, ◌+◌, ◌≤◌, ◌<◌, ◌^◌, ◌∷◌, [], length, take, drop, map, IfOk, OnOk, false, Ok};
 ghost use Rattle.pb_pddl.specs.Spans.{Spans};
 ghost use Rattle.pb_pddl.specs.Tokens.{lower, kind_of, kind_inside, len_of, token_at, is_last, is_open, behind, unclosed, start, TextTokens};
@@ -35,6 +36,7 @@ fn kind_inside(depth: usize, kind: TokenKind) -> TokenKind
 {
     match kind {
         TokenKind::Open => {
+            // Conditions are read by recursion, at most 32 deep. A deeper `(` fits nowhere.
             if 32 <= depth {
                 TokenKind::Deep
             } else {
@@ -124,6 +126,7 @@ fn place_of(at: u64) -> Result<u32, AllocError>
 {
     match u32::try_from(at) {
         Ok(place) => Ok(place),
+        // The files of the program have at most 16 MiB, so an error of its own isn't needed.
         Err(_) => Err(AllocError),
     }
 }
@@ -170,6 +173,7 @@ fn pass(here: &mut Cursor, token: &Token) -> Result<(), AllocError>
             here.head = true;
         }
         TokenKind::Close => {
+            // A `)` that closes nothing leaves the list empty, as `opened` says.
             here.nest.pop();
             here.head = false;
         }
@@ -211,6 +215,7 @@ fn add_tokens(
         pass(here, &token)?;
         let (_, after) = bytes.split_at(token.text.as_slice().len());
         rest = after;
+        // The token moves into the list only now, since the length of its text was still needed.
         out.push(token)?;
     }
 }
@@ -239,6 +244,7 @@ pub fn tokens(alloc: Global, text: &[u8]) -> Result<Listed<Token>, AllocError>
     // before it.
     ensures slices { IfOk result (Spans 0 text.now) }
 {
+    // The texts of all tokens are ranges of this one copy in lower case.
     let source = Text::of(alloc, lower_bytes(alloc, text)?)?;
     tokens_in(alloc, &source, text)
 }

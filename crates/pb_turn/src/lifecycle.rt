@@ -27,7 +27,9 @@ impl<R: TurnRule> TurnLock<R> {
             × (misses r.1 ≡ 0)) }
         ensures err { IfErr result (λ r. r.1 ≡ state) }
     {
+        // Taken before the state moves into its slot: the rule's first view is of this value.
         let about = Snapshot::of(&state);
+        // `?` would lose the state, which has to come back.
         let Ok(mut slots) = Vec::with_capacity(alloc, 1) else {
             return Err((AllocError, state));
         };
@@ -101,6 +103,7 @@ fn state_of<R: TurnRule>(refused: Refused<Option<R::State>, Global>) -> R::State
         unreachable!()
     };
     let Some(state) = last else { unreachable!() };
+    // The state may be of a type that can't be dropped, so the vector is freed when it is empty.
     all.destroy_empty();
     state
 }

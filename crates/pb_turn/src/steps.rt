@@ -65,6 +65,7 @@ impl<R: TurnRule> TurnLock<R> {
     {
         let shared = &self.table.shared;
         let was = shared.exchange(&mut pass.seat, STATE, None);
+        // The pass has just taken the turn, so the state is in the slot.
         let Some(state) = was else { unreachable!() };
         let found = Snapshot::of(&state);
         Held { state, found }
@@ -81,6 +82,7 @@ impl<R: TurnRule> TurnLock<R> {
         let _ = found;
         let shared = &self.table.shared;
         let was = shared.exchange(&mut pass.seat, STATE, Some(state));
+        // The holder has the state, so the slot was empty.
         let None = was else { unreachable!() };
     }
 
@@ -121,6 +123,7 @@ impl<R: TurnRule> TurnLock<R> {
             × (tries pass.new ≡ tries pass.old) × (misses pass.new ≡ misses pass.old) }
         ensures view { N.next ≡ Some (view pass.new) }
     {
+        // Only the contract speaks of them.
         let _ = found;
         let _ = leaves;
         let _ = said;
@@ -168,10 +171,12 @@ impl<R: TurnRule> TurnLock<R> {
         ensures holds { HoldsTurn pass.new leaves.now.value }
         ensures view { N.next ≡ Some (view pass.new) }
     {
+        // Only the contract speaks of them.
         let _ = found;
         let _ = leaves;
         let _ = said;
         let shared = &self.table.shared;
+        // The load is the atomic step at which the view changes; the number isn't needed.
         let _ = shared.load::<CommitTurn<N>>(&mut pass.seat, NUMBER);
     }
 

@@ -105,7 +105,10 @@ impl<R: TurnRule> TurnLock<R> {
         ensures view { view pass.new ≡ M.after said.now (found held) (state held) (view pass.old) }
     {
         let Held { state, found } = held;
+        // Taken before the state moves into the slot: the clauses speak of its value.
         let leaves = Snapshot::of(&state);
+        // The state first: from the next step on another pass may take the turn, and then the
+        // state.
         self.put_state(pass, state, &found);
         self.leave_turn::<M>(pass, &found, &leaves, said);
         self.table.shared.wake_one(TURN);

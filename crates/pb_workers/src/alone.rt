@@ -1,3 +1,4 @@
+//! The search of one worker that has a graph for itself.
 ghost use Rattle.std.specs.Prelude.{◌≡◌, ◌⊎◌, None, Some, IsTrue, IsFalse, OnOk, OnErr, option_map, option_copied};
 ghost use Rattle.std.specs.Arc.{arc_value};
 ghost use Rattle.pb_machine.specs.declared.event.End.TheVariants.{Quiet, Budget, Memory};
@@ -25,7 +26,7 @@ use std::sync::Arc;
 
 /// Searches as the only worker of the graph, from whatever moment it is at, until the search ends.
 /// It leases blocks, best first, works on each and brings it back, and signs off. It waits for
-/// nobody. The gate is told each time that a block was leased, and each time before a lease is
+/// nobody. The gate is called each time that a block was leased, and each time before a lease is
 /// renewed or comes back. The table is what the graph's estimate looks up, if it looks up any. An
 /// error is out of memory: then nothing was leased, or the search ended because of it.
 pub fn run_alone<G: Gate>(
@@ -67,6 +68,7 @@ pub fn run_alone<G: Gate>(
 
     ensures same { IsSameSearch graph.old graph.new }
 {
+    // The call shows that the graph is lawful.
     let _ = graph.abstraction();
     let tools = Tools::new(alloc, task, graph.choice(), table)?;
     let mut worker = Worker::new(task, abstraction, tools);
@@ -95,6 +97,7 @@ fn search<G: Gate>(worker: &mut Worker, graph: &mut LeaseGraph, gate: &G) -> Opt
                 gate.leased(0, lease.block());
                 hold(worker, graph, gate, lease);
             }
+            // A worker that asks has no lease, and there is no other worker to have one.
             LeaseReply::NotYet => unreachable!(),
             LeaseReply::Over(end) => return Some(end),
             LeaseReply::Memory => return None,

@@ -1,3 +1,4 @@
+//! The sign-off of a worker that searches alone.
 ghost use Rattle.std.specs.Prelude.{◌≡◌, ◌<◌, ◌⊎◌, None, Some, IsTrue, IsFalse, OnOk, OnErr};
 ghost use Rattle.pb_machine.specs.declared.event.End.TheVariants.{Quiet, Budget, Memory};
 ghost use Rattle.pb_lease.specs.GraphValue.{counts_in, IsLeaseGraph};
@@ -28,6 +29,7 @@ pub fn sign_off(graph: &mut LeaseGraph, end: Option<End>) -> Result<(), AllocErr
     ensures lawful { IsLeaseGraph graph.new }
 {
     graph.sign_off(0, end.is_none());
+    // The call shows that the graph is lawful.
     let _ = graph.abstraction();
     match end {
         Some(End::Quiet) | Some(End::Budget) => Ok(()),

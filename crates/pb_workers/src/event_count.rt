@@ -39,7 +39,9 @@ impl EventCount {
     /// Moves the count, and wakes all sleepers if there are any.
     pub fn advance<W: Wait>(&self, rt: &W) {
         let mut moves = self.count.moves.lock(rt);
+        // May wrap: sleepers only test for a change, and none sleeps through 2^64 moves.
         *moves = moves.wrapping_add(1);
+        // Sleepers are counted under the same lock, so none is missed.
         if self.count.sleepers.load(Ordering::SeqCst) > 0 {
             self.count.moved.notify_all();
         }

@@ -38,6 +38,7 @@ impl Lessor for LeaseGraph {
     } };
 
     fn work_on(&mut self, worker: &mut Worker, lease: &mut Lease) -> Worked {
+        // The call shows that the graph is lawful.
         let _ = self.abstraction();
         worker.work(lease)
     }
@@ -55,11 +56,13 @@ impl Lessor for LeaseGraph {
     }
 
     fn go_on(&mut self, lease: Lease) -> Renewed {
+        // The call shows that the graph is lawful.
         let _ = self.abstraction();
         self.renew(lease)
     }
 
     fn give_back(&mut self, lease: Lease, memory: bool) {
+        // The call shows that the graph is lawful.
         let _ = self.abstraction();
         self.release(lease, memory);
     }

@@ -1,3 +1,4 @@
+//! The work on a lease, turn by turn, until it comes back.
 ghost use Rattle.std.specs.Prelude.{◌≡◌};
 ghost use Rattle.pb_lease.specs.LeaseValue.{LeaseValue};
 ghost use Rattle.pb_workers.specs.Serving.{Serves};
@@ -9,7 +10,7 @@ use pb_lease::Lease;
 use pb_outside::Gate;
 
 /// Works on a lease for as long as it goes on, or others in its place, until it comes back. Those
-/// that wait for a block are told so.
+/// that wait for a block are notified.
 pub fn hold<L: Lessor, G: Gate>(worker: &mut Worker, lessor: &mut L, gate: &G, lease: Lease)
     requires serves { Serves worker.old (L.searched lessor.old) }
     requires holds { (begin : L) × (given : LeaseValue) × L.holds begin given lessor.old lease }

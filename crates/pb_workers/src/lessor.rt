@@ -51,7 +51,7 @@ pub trait Lessor {
     // It came back.
     ghost returned: { (begin : Self) → (given : LeaseValue) → (now : Self) → Type 0 };
 
-    // The worker asked for the rival of its lease's block, and was told this one.
+    // The worker asked for the rival of its lease's block, and the reply was this one.
     ghost told: { (asked : Self) → LeaseValue → (rival : ℕ) → (now : Self) → Type 0 };
 
     // The worker asked for the rival, and asked that it be hot if there is one. It asked that of no
@@ -89,7 +89,7 @@ pub trait Lessor {
         ensures left { turns_left self.new lease.now ≤ turns_left self.old lease.now }
         ensures searched { searched self.new ≡ searched self.old };
 
-    /// The worker asks that the rival be hot, which it was told. Its lease's quota is used up.
+    /// The worker asks that the rival that was reported to it be hot. Its lease's quota is used up.
     fn mark(&mut self, lease: &Lease, rival: u32)
         requires worked { (begin : Self) × (given : LeaseValue)
             × worked begin given self.old lease.now 0 }

@@ -1,3 +1,4 @@
+//! The hot mark of a lease's rival.
 ghost use Rattle.std.specs.Prelude.{◌≡◌, ◌≤◌};
 ghost use Rattle.pb_lease.specs.LeaseValue.{LeaseValue};
 

@@ -34,6 +34,7 @@ fn settle<L: Lessor, G: Gate>(
     match lessor.switch(lease) {
         Switched::Kept(kept) => Some(kept),
         Switched::Next(next) => {
+            // The lease before came back, which can make a block free for a sleeper.
             lessor.tell_return();
             gate.leased(next.worker(), next.block());
             Some(next)

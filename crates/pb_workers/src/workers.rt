@@ -114,7 +114,7 @@ fn run_all<R: Threads + Wait + Sync, G: Gate>(
 
 /// Searches with as many workers as the yard's settings have, each in a thread of its own, until
 /// all have signed off. A worker leases blocks, works on each and brings it back; if it gets none,
-/// it sleeps until a lease came back or a worker signed off. The gate is told each time that a
+/// it sleeps until a lease came back or a worker signed off. The gate is called each time that a
 /// block was leased, and each time before a lease is renewed or comes back. The workers share the
 /// table that the estimate looks up, if it looks up any. An error is out of memory, before any pass
 /// was split: nothing was leased.
@@ -158,6 +158,7 @@ pub fn run_workers<R: Threads + Wait + Sync, G: Gate>(
     let Ok(first) = Tools::new(alloc, task, choice, table) else {
         return Err((AllocError, pass));
     };
+    // The settings have at least one worker, so this never wraps.
     let Ok(others) = tools_for(alloc, task, choice, workers.wrapping_sub(1), table) else {
         return Err((AllocError, pass));
     };

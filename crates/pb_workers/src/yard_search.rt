@@ -36,6 +36,7 @@ fn take_leases<W: Wait, G: Gate>(
         || is_some (end_in (view_of lessor.new.watch.pass).journal.seen)) }
 {
     for _ in rt.forever() {
+        // Noted before the request: if a lease comes back after it, the count has moved.
         let noted = lessor.count.note(rt);
         match lessor.watch.yard.lease(rt, &mut lessor.watch.pass) {
             LeaseReply::Leased(lease) => {
@@ -86,6 +87,7 @@ pub fn run_worker<W: Wait, G: Gate>(
     } = lessor;
     let YardWatch { yard: _, mut pass } = watch;
     yard.sign_off(rt, &mut pass, memory);
+    // A sign-off can end the search, which sleepers must see.
     count.advance(rt);
     pass
 }

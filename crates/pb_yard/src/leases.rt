@@ -49,6 +49,7 @@ impl Yard {
         let (mut held, incumbent) = self.enter_reading(rt, &mut pass.turn);
         pass.last = incumbent;
         let graph = held.state_mut();
+        // The call shows that the graph is lawful.
         let _ = graph.abstraction();
         let reply = graph.renew(lease);
         pass.seen = held.state().journal().len() as u64;

@@ -22,6 +22,7 @@ impl Yard {
         ensures view { IfOk result (λ r. view_of r.1 ≡ opening_view graph) }
         ensures err { IfErr result (λ r. r.1 ≡ graph) }
     {
+        // The call shows that the graph is lawful.
         let _ = graph.abstraction();
         let incumbent = graph.incumbent();
         let (lock, turn) = TurnLock::new(alloc, graph, word_of(incumbent))?;
@@ -81,6 +82,7 @@ impl Yard {
             first: _,
         } = other;
         self.lock.meet(&mut pass.turn, turn);
+        // The count is known only modulo 2^32, so it may wrap.
         pass.made = pass.made.wrapping_add(made);
         pass.seen = pass.seen.max(seen);
     }
@@ -102,6 +104,7 @@ impl Yard {
             first: _,
         } = pass;
         let (mut graph, number) = lock.close_with(turn);
+        // A cost may have been reported after the graph was last held.
         if let Some(known) = cost(number) {
             graph.lower_incumbent(known);
         }

@@ -15,7 +15,7 @@ pub struct Pass {
     // how many passes were made, as far as this pass counts them, modulo 2^32: there are 64 at most
     pub(crate) made: u32,
     pub(crate) seen: u64,
-    // the least cost that it has read or told
+    // the least cost that it has read or reported
     pub(crate) last: Option<u64>,
     // the incumbent of the graph that the yard began with
     pub(crate) first: Option<u64>,

@@ -21,7 +21,7 @@ impl Pass {
         self.seen
     }
 
-    /// The least cost that this pass has read or told as the incumbent; None if it has none. It
+    /// The least cost that this pass has read or reported as the incumbent; None if it has none. It
     /// never rises.
     pub fn last(&self) -> Option<u64>
         ensures { result ≡ (view_of self.now).last }

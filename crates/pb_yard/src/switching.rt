@@ -43,6 +43,7 @@ impl Yard {
         };
         pass.last = incumbent;
         let graph = held.state_mut();
+        // The call shows that the graph is lawful.
         let _ = graph.abstraction();
         match graph.renew(lease) {
             Renewed::Kept(kept) => {

@@ -54,9 +54,9 @@ pub struct View {
     pub settings: Settings,
     /// The graph that the yard began with.
     pub begin: LeaseGraph,
-    /// The least cost that it told since its lease was given or last renewed.
+    /// The least cost that it reported since its lease was given or last renewed.
     pub told: Option<u64>,
-    /// The least cost that it has read or told.
+    /// The least cost that it has read or reported.
     pub last: Option<u64>,
     /// What each of its reads of the incumbent found, the last one first.
     pub read: LinkedList<Option<u64>>,

@@ -51,7 +51,7 @@ fn lesser_of(first: Option<u64>, cost: u64) -> u64
 }
 
 impl Yard {
-    /// Reads the incumbent: the least cost that any worker has found or told. It never waits. A
+    /// Reads the incumbent: the least cost that any worker has found or reported. It never waits. A
     /// pass never sees it rise.
     pub fn glance(&self, pass: &mut Pass) -> Option<u64>
         requires own { IsOf self.now pass.old }
@@ -77,6 +77,7 @@ impl Yard {
         ensures step { LowersIncumbent (view_of pass.old) cost }
         ensures view { view_of pass.new ≡ view_told (view_of pass.old) cost }
     {
+        // Only the contract speaks of the lease.
         let _ = lease;
         self.lock.lower_word(&mut pass.turn, cost);
         pass.last = Some(lesser_of(pass.last, cost));

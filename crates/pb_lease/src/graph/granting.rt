@@ -20,10 +20,10 @@ use std::alloc::AllocError;
 impl LeaseGraph {
     /// The worker asks for a lease. If it gets one, the lease is of the first choice.
     ///
-    /// - The search is over exactly if it had ended, or no lease is out and either no row is Opened
-    ///   or nothing is left of the budget. If it had not ended, the end comes now.
-    /// - The worker is to wait exactly if the search has not ended, some lease is out, and no block
-    ///   may be leased. Nothing changes then.
+    /// - The search is over if and only if it had ended, or no lease is out and either no row is
+    ///   Opened or nothing is left of the budget. If it had not ended, the end comes now.
+    /// - The worker is to wait if and only if the search has not ended, some lease is out, and no
+    ///   block may be leased. Nothing changes then.
     /// - All memory is taken first: for the list of the bundles, and in the journal for 65 events.
     ///   If it runs out, nothing changes either.
     pub fn lease(&mut self, worker: u32) -> LeaseReply
@@ -85,6 +85,7 @@ impl LeaseGraph {
         let bundles = self.tables.abstraction().scope(block).len();
         let room = self.rooms.take(self.alloc, bundles)?;
         let choice = self.choice.clone()?;
+        // The last step that can fail: after an error no block is leased.
         let quota = self.tables.lease(worker, block)?;
         let parts = self
             .homes

@@ -20,8 +20,8 @@ use crate::lease::Lease;
 
 impl LeaseGraph {
     /// The rival of the lease's block: the best block of its interference that is better. It goes
-    /// by the keys that were noted when each block was last home, leased or renewed. None exactly
-    /// if no such block is better.
+    /// by the keys that were noted when each block was last home, leased or renewed. None if and
+    /// only if no such block is better.
     pub fn rival(&self, lease: &Lease) -> Option<u32>
         requires { (counts_in self.now).leases lease.now.worker ≡ Some (grant_of lease.now) }
         ensures rival { IsRivalBy (interferes (blocks self.now.table) lease.now.block)
@@ -37,8 +37,8 @@ impl LeaseGraph {
     }
 
     /// The worker marks the block hot, so that it becomes free, and the hot blocks of its
-    /// interference become cold. The answer is false, and nothing changes, exactly if one of these
-    /// holds:
+    /// interference become cold. The answer is false, and nothing changes, if and only if one of
+    /// these holds:
     ///
     /// - The search has ended, or blocks are never hot.
     /// - The block is hot, or isn't busy.
@@ -56,8 +56,8 @@ impl LeaseGraph {
         self.tables.mark_hot(worker, block, outranked)
     }
 
-    /// The worker takes the block's mark away. The answer is false, and nothing changes, exactly if
-    /// the search has ended, the block isn't hot, or the worker's room is used up.
+    /// The worker takes the block's mark away. The answer is false, and nothing changes, if and
+    /// only if the search has ended, the block isn't hot, or the worker's room is used up.
     pub fn cool(&mut self, worker: u32, block: u32) -> bool
         requires leased { IsSome ((counts_in self.old).leases worker) }
         requires block { block < (blocks self.old.table).count }

@@ -175,13 +175,14 @@ impl LeaseGraph {
         &self.choice
     }
 
-    /// The abstract graph: the blocks that are leased. What is true of every graph is told besides:
-    /// each lease has the room that the journal leaves it.
+    /// The abstract graph: the blocks that are leased. The call also shows what is true of every
+    /// graph: each lease has the room that the journal leaves it.
     pub fn abstraction(&self) -> &AbsGraph
         ensures abstraction { result.now ≡ self.now.table.abstraction }
         ensures lawful { IsLeaseGraph self.now }
         ensures room { rooms self.now.table ≡ room_after self.now.table.journal }
     {
+        // The call shows that each lease has the room that the journal leaves it.
         let _ = self.tables.journal();
         self.tables.abstraction()
     }

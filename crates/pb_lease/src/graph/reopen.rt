@@ -59,9 +59,11 @@ impl LeaseGraph {
         let Some(bound) = self.incumbent else {
             unreachable!();
         };
+        // What can fail comes before the first row changes: an error changes nothing.
         let sets = self.homes.prepare(self.alloc, num, den, bound)?;
         self.tables.reopen(num, den)?;
         self.homes.adopt(sets);
+        // The call shows that the keys are noted, and the law that a run may begin here.
         let _noted = self.homes.count();
         reopening_is_lawful();
         Ok(())

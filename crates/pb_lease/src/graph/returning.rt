@@ -24,6 +24,7 @@ impl LeaseGraph {
         ensures released { IsReleased self.old lease memory self.new }
         ensures moment { ReleasesNext self.old lease memory self.new }
     {
+        // A lease can't be dropped, so it is taken apart.
         let Lease {
             worker,
             block: _,
@@ -40,7 +41,7 @@ impl LeaseGraph {
         self.incumbent = least(self.incumbent, incumbent);
     }
 
-    /// The worker asks to go on with its lease. The lease goes on exactly if, with it home, its
+    /// The worker asks to go on with its lease. The lease goes on if and only if, with it home, its
     /// block is the first choice and its room isn't used up. Going on takes one of the room. Else
     /// the lease comes back.
     pub fn renew(&mut self, lease: Lease) -> Renewed

@@ -12,11 +12,11 @@ use crate::graph::LeaseGraph;
 use crate::lease::Lease;
 
 impl LeaseGraph {
-    /// The worker asks to go on with its lease, or else with another one. The lease goes on exactly
-    /// if it would be renewed. Else it comes back. If its room isn't used up, the worker then
+    /// The worker asks to go on with its lease, or else with another one. The lease goes on if and
+    /// only if it would be renewed. Else it comes back. If its room isn't used up, the worker then
     /// leases the first choice, which the return of the lease leaves. The worker gets no other
-    /// lease exactly if the room was used up, no block may be leased, or memory runs out. Out of
-    /// memory is an answer of its own.
+    /// lease if and only if the room was used up, no block may be leased, or memory runs out. Out
+    /// of memory is an answer of its own.
     pub fn try_switch(&mut self, lease: Lease) -> SwitchReply
         requires { IsOfGraph self.old lease }
         ensures kept { (kept : LeaseValue) → result ≡ Kept kept

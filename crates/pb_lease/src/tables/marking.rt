@@ -38,7 +38,7 @@ impl MachineTables {
     }
 
     /// The worker marks the block hot, and the hot blocks of its interference become cold. The
-    /// answer is false, and nothing changes, exactly if one of these holds:
+    /// answer is false, and nothing changes, if and only if one of these holds:
     ///
     /// - The search has ended, or blocks are never hot.
     /// - The block is hot, or isn't busy.
@@ -56,6 +56,7 @@ impl MachineTables {
         if !self.may_be_marked(worker, block, outranked) {
             return false;
         }
+        // No two hot blocks interfere, so those near this block become cold first.
         self.marks
             .cool_all(&self.abstraction, self.abstraction.interference(block));
         self.marks.mark(&self.abstraction, block);
@@ -69,8 +70,8 @@ impl MachineTables {
         true
     }
 
-    /// The worker takes the block's mark away. The answer is false, and nothing changes, exactly if
-    /// the search has ended, the block isn't hot, or the worker's room is used up.
+    /// The worker takes the block's mark away. The answer is false, and nothing changes, if and
+    /// only if the search has ended, the block isn't hot, or the worker's room is used up.
     pub fn cool(&mut self, worker: u32, block: u32) -> bool
         requires leased { IsSome ((counts_of self.old).leases worker) }
         requires block { block < (blocks self.old).count }
