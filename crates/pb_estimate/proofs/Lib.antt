@@ -6,6 +6,7 @@ mod Ways
 mod Estimates
 mod Choices
 mod Spellings
+mod StatedLines
 mod Totals
 mod Costs
 mod Rounds

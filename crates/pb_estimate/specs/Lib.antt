@@ -8,6 +8,8 @@ pub use Rattle.pb_tables.specs.Tables as CostTables
 pub use Rattle.pb_tables.specs.Suits
 pub use Rattle.pb_tables.specs.Estimate
 pub use Rattle.pb_table_lines.specs.Lines
+pub use Rattle.pb_table_lines.specs.Numbered as TableNumbers
+pub use Rattle.pb_task.specs.Widths
 pub use Rattle.pb_table_lines.specs.Spelling as TableSpelling
 pub mod Choices
 pub mod Hmax

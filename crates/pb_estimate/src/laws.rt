@@ -1,5 +1,5 @@
 //! Laws on the estimates. Each is the contract of a function without a body.
-ghost use Rattle.pb_estimate.specs.Laws.{EstimatesAreAdmissible, EstimatesCountTiles, HmaxIsFixed};
+ghost use Rattle.pb_estimate.specs.Laws.{EstimatesAreAdmissible, EstimatesCountTiles, HmaxIsFixed, StatedLinesHaveTheirNumbers};
 
 /// No walk from a state to a goal costs less than the state's estimate by a choice that suits the
 /// task.
@@ -16,4 +16,10 @@ pub fn estimates_count_tiles()
 /// change them.
 pub fn hmax_is_fixed()
     ensures { HmaxIsFixed }
+{}
+
+/// A line of stated tables has the number by which a fault in it is reported: four lines of the
+/// certificate come before those of the tables.
+pub fn stated_lines_have_their_numbers()
+    ensures { StatedLinesHaveTheirNumbers }
 {}

@@ -31,7 +31,9 @@ pub use choice::{Choice, ChoiceCase};
 pub use estimator::{Estimator, PlainTables};
 pub use exploration::{AtomCost, CostWord, Exploration};
 pub use flat_lists::FlatLists;
-pub use laws::{estimates_are_admissible, estimates_count_tiles, hmax_is_fixed};
+pub use laws::{
+    estimates_are_admissible, estimates_count_tiles, hmax_is_fixed, stated_lines_have_their_numbers,
+};
 pub use relaxed::{ActionList, RelaxedActions, RelaxedTask};
 pub use spelling::{Spelling, Stated, Version};
 pub use strips::Counters;
