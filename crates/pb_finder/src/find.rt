@@ -1,8 +1,9 @@
 //! The search for tables.
-ghost use Rattle.std.specs.Prelude.{◌<◌, ◌^◌, All, IfOk, IfSome, IsTrue, length};
+ghost use Rattle.std.specs.Prelude.{All, IfOk, IfSome, IsTrue, length};
 ghost use Rattle.pb_task.specs.Strips.{IsStrips};
 ghost use Rattle.pb_tables.specs.Suits.{suit};
 ghost use Rattle.pb_tables.specs.Tables.{AreTables, IsTable};
+ghost use Rattle.pb_finder.specs.Sizes.{ListFewImages, TableListsFew, TrapListsFew};
 
 use crate::effort::{Limits, limits_of};
 use crate::fitted::{MOST_TABLES, tables_of, traps_of};
@@ -120,8 +121,10 @@ fn images_of(
 // The tables and traps of these lists, if there is a sum and they are few enough.
 fn tables_if_lawful(sums: usize, tables: Vec<Table>, traps: Vec<Trap>) -> Option<Tables>
     requires tables { All (IsTable sums) tables.items }
-    requires traps { All (λ trap. length trap.listed < 2 ^ 63) traps.items }
-    ensures { IfSome result AreTables }
+    requires tables_few { All TableListsFew tables.items }
+    requires traps_few { All TrapListsFew traps.items }
+    ensures lawful { IfSome result AreTables }
+    ensures few { IfSome result ListFewImages }
 {
     let is_few = tables.len() <= MOST_TABLES && traps.len() <= MOST_TABLES;
     if 1 <= sums && sums <= 64 && is_few {
@@ -139,7 +142,8 @@ fn fitted(
     alone: &Alone,
     sums: &[Sum],
 ) -> Result<Option<Tables>, AllocError>
-    ensures { IfOk result (λ found. IfSome found AreTables) }
+    ensures lawful { IfOk result (λ found. IfSome found AreTables) }
+    ensures few { IfOk result (λ found. IfSome found ListFewImages) }
 {
     let traps = traps_of(alloc, variables, patterns, alone)?;
     let tables = tables_of(alloc, variables, patterns, sums)?;
@@ -154,7 +158,8 @@ fn over_patterns(
     patterns: &[Images],
     limits: &Limits,
 ) -> Result<Option<Tables>, AllocError>
-    ensures { IfOk result (λ found. IfSome found AreTables) }
+    ensures lawful { IfOk result (λ found. IfSome found AreTables) }
+    ensures few { IfOk result (λ found. IfSome found ListFewImages) }
 {
     let alone = Alone::of(alloc, rules, patterns)?;
     let sums = sums_of(alloc, rules, variables, patterns, &alone, limits)?;
@@ -168,7 +173,8 @@ fn over_variables(
     variables: &Variables,
     limits: &Limits,
 ) -> Result<Option<Tables>, AllocError>
-    ensures { IfOk result (λ found. IfSome found AreTables) }
+    ensures lawful { IfOk result (λ found. IfSome found AreTables) }
+    ensures few { IfOk result (λ found. IfSome found ListFewImages) }
 {
     let patterns = images_of(alloc, rules, variables, limits)?;
     over_patterns(alloc, rules, variables, &patterns, limits)
@@ -176,7 +182,8 @@ fn over_variables(
 
 // Tables for a task, whether they suit it or not.
 fn unjudged(alloc: Global, rules: &Rules, limits: &Limits) -> Result<Option<Tables>, AllocError>
-    ensures { IfOk result (λ found. IfSome found AreTables) }
+    ensures lawful { IfOk result (λ found. IfSome found AreTables) }
+    ensures few { IfOk result (λ found. IfSome found ListFewImages) }
 {
     let variables = Variables::of(alloc, rules, limits.candidates)?;
     over_variables(alloc, rules, &variables, limits)
@@ -192,6 +199,7 @@ pub fn find_tables(
 ) -> Result<Option<Tables>, AllocError>
     requires strips { IsStrips strips.now }
     ensures lawful { IfOk result (λ found. IfSome found AreTables) }
+    ensures few { IfOk result (λ found. IfSome found ListFewImages) }
     ensures suit { IfOk result (λ found. IfSome found (λ tables. IsTrue (suit strips.now tables))) }
 {
     let rules = Rules::of(alloc, strips)?;
@@ -203,7 +211,9 @@ pub fn find_tables(
 fn suited(strips: &StripsParts, found: Option<Tables>) -> Option<Tables>
     requires strips { IsStrips strips.now }
     requires lawful { IfSome found AreTables }
+    requires few { IfSome found ListFewImages }
     ensures lawful { IfSome result AreTables }
+    ensures few { IfSome result ListFewImages }
     ensures suit { IfSome result (λ tables. IsTrue (suit strips.now tables)) }
 {
     let tables = found?;

@@ -1,6 +1,7 @@
 //! Tables and traps of what was found.
-ghost use Rattle.std.specs.Prelude.{◌≡◌, ◌≤◌, ◌<◌, ◌*◌, ◌^◌, All, IfOk, IfSome, IsTrue, length};
+ghost use Rattle.std.specs.Prelude.{◌≡◌, ◌≤◌, ◌*◌, ◌^◌, All, IfOk, IfSome, IsTrue, length};
 ghost use Rattle.pb_tables.specs.Tables.{IsTable};
+ghost use Rattle.pb_finder.specs.Sizes.{TableListsFew, TrapListsFew};
 
 use crate::costs::UNKNOWN;
 use crate::images::Images;
@@ -14,8 +15,8 @@ use std::alloc::{AllocError, Global};
 // The greatest value of a table.
 const MOST_VALUE: u64 = 1 << 40;
 
-// A list has fewer images than this.
-const MOST_LISTED: usize = 1 << 63;
+// How many images a list has at most.
+const MOST_LISTED: usize = 50_000;
 
 /// How many tables there are at most, and how many traps.
 pub const MOST_TABLES: usize = 4096;
@@ -141,10 +142,11 @@ fn table_if_lawful(
     listed: ImageList,
     values: Vec<u64>,
 ) -> Option<Table>
-    ensures { IfSome result (λ table. IsTable sums table) }
+    ensures lawful { IfSome result (IsTable sums) }
+    ensures few { IfSome result TableListsFew }
 {
     let count = listed.len().checked_mul(sums)?;
-    if listed.len() < MOST_LISTED && values.len() == count && are_small(&values) {
+    if listed.len() <= MOST_LISTED && values.len() == count && are_small(&values) {
         Some(Table::of(tracked, listed, values))
     } else {
         None
@@ -159,7 +161,8 @@ pub fn table_of(
     sums: &[Sum],
     number: usize,
 ) -> Result<Option<Table>, AllocError>
-    ensures { IfOk result (λ found. IfSome found (λ table. IsTable (length sums.now) table)) }
+    ensures lawful { IfOk result (λ found. IfSome found (IsTable (length sums.now))) }
+    ensures few { IfOk result (λ found. IfSome found TableListsFew) }
 {
     let listed = listed_of(alloc, variables, images)?;
     let values = values_of(alloc, sums, number, &listed)?;
@@ -180,9 +183,9 @@ fn trapped_of(alloc: Global, listed: &[Listed], alone: &[u64]) -> Result<ImageLi
 
 // A trap, if it lists an image and few enough.
 fn trap_if_lawful(tracked: Packed, listed: ImageList) -> Option<Trap>
-    ensures { IfSome result (λ trap. length trap.listed < 2 ^ 63) }
+    ensures { IfSome result TrapListsFew }
 {
-    if 1 <= listed.len() && listed.len() < MOST_LISTED {
+    if 1 <= listed.len() && listed.len() <= MOST_LISTED {
         Some(Trap::of(tracked, listed))
     } else {
         None
@@ -196,7 +199,7 @@ pub fn trap_of(
     images: &Images,
     alone: &[u64],
 ) -> Result<Option<Trap>, AllocError>
-    ensures { IfOk result (λ found. IfSome found (λ trap. length trap.listed < 2 ^ 63)) }
+    ensures { IfOk result (λ found. IfSome found TrapListsFew) }
 {
     let listed = listed_of(alloc, variables, images)?;
     let trapped = trapped_of(alloc, &listed, alone)?;
@@ -218,8 +221,11 @@ fn is_used(sums: &[Sum], number: usize) -> bool {
 // Adds a table that has values for so many sums.
 fn put(tables: &mut Vec<Table>, sums: usize, table: Table) -> Result<(), AllocError>
     requires tables { All (IsTable sums) tables.old.items }
+    requires tables_few { All TableListsFew tables.old.items }
     requires table { IsTable sums table }
-    ensures { All (IsTable sums) tables.new.items }
+    requires table_few { TableListsFew table }
+    ensures tables { All (IsTable sums) tables.new.items }
+    ensures few { All TableListsFew tables.new.items }
 {
     // Only the contract speaks of `sums`.
     let _ = sums;
@@ -237,7 +243,9 @@ fn push_table(
     tables: &mut Vec<Table>,
 ) -> Result<(), AllocError>
     requires tables { All (IsTable (length sums.now)) tables.old.items }
+    requires few { All TableListsFew tables.old.items }
     ensures tables { All (IsTable (length sums.now)) tables.new.items }
+    ensures few { All TableListsFew tables.new.items }
 {
     if !is_used(sums, number) || tables.len() >= MOST_TABLES {
         return Ok(());
@@ -255,7 +263,8 @@ pub fn tables_of(
     patterns: &[Images],
     sums: &[Sum],
 ) -> Result<Vec<Table>, AllocError>
-    ensures { IfOk result (λ tables. All (IsTable (length sums.now)) tables.items) }
+    ensures lawful { IfOk result (λ tables. All (IsTable (length sums.now)) tables.items) }
+    ensures few { IfOk result (λ tables. All TableListsFew tables.items) }
 {
     let mut tables = Vec::new(alloc);
     for number in 0..patterns.len() {
@@ -279,8 +288,8 @@ fn push_trap(
     alone: &[u64],
     traps: &mut Vec<Trap>,
 ) -> Result<(), AllocError>
-    requires traps { All (λ trap. length trap.listed < 2 ^ 63) traps.old.items }
-    ensures traps { All (λ trap. length trap.listed < 2 ^ 63) traps.new.items }
+    requires { All TrapListsFew traps.old.items }
+    ensures { All TrapListsFew traps.new.items }
 {
     if let Some(trap) = trap_of(alloc, variables, images, alone)? {
         traps.push(trap)?;
@@ -295,7 +304,7 @@ pub fn traps_of(
     patterns: &[Images],
     alone: &Alone,
 ) -> Result<Vec<Trap>, AllocError>
-    ensures { IfOk result (λ traps. All (λ trap. length trap.listed < 2 ^ 63) traps.items) }
+    ensures { IfOk result (λ traps. All TrapListsFew traps.items) }
 {
     let mut traps = Vec::new(alloc);
     for number in 0..patterns.len().min(alone.values.len()) {
