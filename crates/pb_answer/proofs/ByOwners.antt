@@ -5,6 +5,7 @@ use Rattle.pb_machine.specs.declared.event.End.TheVariants.{Quiet, Budget}
 use Rattle.pb_machine.specs.Settings.{weight_of}
 use Rattle.pb_task.specs.declared.parts.TaskParts.{TaskParts}
 use Rattle.pb_task.specs.Parts.{space_of}
+use Rattle.pb_estimate.specs.Choices.{Choice}
 use Rattle.pb_estimate.specs.Estimates.{estimate_by}
 use Rattle.pb_lists.specs.Store.{guide_with, IsQuietEnd}
 use Rattle.pb_owners.specs.Owners.{OwnersValue, guide_in, owners_store}
@@ -12,25 +13,26 @@ use Rattle.pb_owners.specs.Leaves.{LeavesOwners}
 use Rattle.pb_command.specs.declared.command.Engine.TheVariants.{Owners}
 use Rattle.pb_command.specs.Meaning.{SolveMeaning}
 use Rattle.pb_answer.specs.Outputs.{Output}
-use Rattle.pb_answer.specs.Searches.{settings_of}
+use Rattle.pb_answer.specs.Searches.{settings_of, IsChoiceAsked}
 use Rattle.pb_answer.specs.Engines.{engine_asked, left_by_owners}
 use Rattle.pb_answer.specs.Claims.{Stops}
-use Rattle.pb_answer.specs.Ended.{guide_asked, left_with, LeavesQuietRows}
+use Rattle.pb_answer.specs.Ended.{guide_by, left_with, LeavesQuietRows}
 use Rattle.pb_answer.proofs.Asked.{asked}
 
 module _ (solve : SolveMeaning) (engine : engine_asked solve ≡ Owners) (parts : TaskParts)
-    (owners : OwnersValue) where
-  pub quiet_rows : LeavesOwners parts (settings_of solve) Quiet owners
-      → LeavesQuietRows solve parts (guide_in owners).home (owners_store owners) []
+    (choice : Choice) (by : IsChoiceAsked solve parts choice) (owners : OwnersValue) where
+  pub quiet_rows : LeavesOwners parts choice (settings_of solve) Quiet owners
+      → LeavesQuietRows solve parts choice (guide_in owners).home (owners_store owners) []
   quiet_rows left =
-      let same : guide_in owners ≡ guide_asked solve parts (guide_in owners).home =
-      λ i. guide_with (estimate_by (left.task i) (left.choice i)) (guide_in owners).home in
+      let same : guide_in owners ≡ guide_by parts choice (guide_in owners).home =
+      λ i. guide_with (estimate_by (left.task i) (left.choice_is i)) (guide_in owners).home in
       record {
+        asked = by;
         end = subst (λ (g : Guide). IsQuietEnd (space_of parts) g (owners_store owners)) same
             (left.quiet refl);
         weight = ap weight_of left.settings_are;
         journal = None;
-        leaves = asked solve Owners engine parts Quiet _ (
+        leaves = asked solve Owners engine parts choice Quiet _ (
           owners,
           left,
           λ i. left_with (sym same i) (owners_store owners) None,
@@ -38,7 +40,12 @@ module _ (solve : SolveMeaning) (engine : engine_asked solve ≡ Owners) (parts 
         saved_is = refl;
       }
 
-  pub stops : LeavesOwners parts (settings_of solve) Budget owners
+  pub stops : LeavesOwners parts choice (settings_of solve) Budget owners
       → Stops (λ outputs. ◌≡◌ {A = List Output} [] outputs) solve parts
-  stops left =
-      (left_by_owners owners, asked solve Owners engine parts Budget _ (owners, left, refl), refl)
+  stops left = (
+    choice,
+    by,
+    left_by_owners owners,
+    asked solve Owners engine parts choice Budget _ (owners, left, refl),
+    refl,
+  )

@@ -1,5 +1,5 @@
 -- What a search shows that came to a quiet end is an answer to the words, whichever engine searched.
-use Rattle.std.proofs.Common.{◌≡◌, ◌⊎◌, inl, inr, ℕ, true, ◌^◌, ◌<◌, ◌≤◌, zero, suc, Option, Some, None, List, [], ◌∷◌, length, Result, Ok, Err, IfOk, ◌++◌, refl, sym, ap, subst, arith, le_trans, mul-le-mul_left}
+use Rattle.std.proofs.Common.{◌≡◌, ◌⊎◌, inl, inr, ℕ, ◌^◌, ◌<◌, ◌≤◌, Option, Some, None, List, [], ◌∷◌, length, Result, Ok, Err, IfOk, ◌++◌, refl, sym, ap, subst, arith, le_trans, mul-le-mul_left}
 use Rattle.pb_model.specs.Weight.{Weight}
 use Rattle.pb_model.specs.Store.{Store}
 use Rattle.pb_model.specs.Plan.{Plan, NoneCheaper, IncumbentHolds, IsBound}
@@ -7,56 +7,49 @@ use Rattle.pb_model.specs.Certificate.{IsBackedBy}
 use Rattle.pb_task.specs.declared.parts.TaskParts.{TaskParts}
 use Rattle.pb_task.specs.Parts.{space_of, IsTask}
 use Rattle.pb_estimate.specs.Spelling.{IsSpelling, spelling_of}
-use Rattle.pb_estimate.specs.Estimates.{suits}
-use Rattle.pb_estimate.specs.Choices.{choice_with}
+use Rattle.pb_estimate.specs.Choices.{Choice}
 use Rattle.pb_lists.specs.Store.{IsQuietEnd}
 use Rattle.pb_cert.specs.Stated.{SpelledCertificate, text_of}
 use Rattle.pb_cert.specs.Found.{IsPlanOf}
 use Rattle.pb_cert.proofs.Callers as quiet
 use Rattle.pb_command.specs.Meaning.{SolveMeaning, IsSolveInRange}
 use Rattle.pb_report.specs.Texts.{plan_text}
-use Rattle.pb_answer.specs.Searches.{choice_asked, weight_asked}
+use Rattle.pb_answer.specs.Searches.{weight_asked, IsChoiceAsked}
 use Rattle.pb_answer.specs.Named.{NamesTell}
 use Rattle.pb_answer.specs.Outputs.{Output, output}
 use Rattle.pb_answer.specs.Claims.{IsCertificate, Certifies, Solves}
-use Rattle.pb_answer.specs.Ended.{guide_asked, left_with, LeavesQuietRows, CanBeCertified}
+use Rattle.pb_answer.specs.Ended.{guide_by, left_with, LeavesQuietRows, CanBeCertified}
 use Rattle.pb_answer.specs.declared.answer.Answer.{Answer}
 use Rattle.pb_answer.specs.Answer.{Said, Says, Saves, IsSolved, IsUnsolvable, IsStopped, IsFound, said_of}
+use Rattle.pb_answer.proofs.Asked.{asked_suits}
 use Rattle.pb_answer.proofs.Groups.{prints_least_cost, saves_plan}
-
--- the choice of the estimate with a number from 0 to 12 suits each task
-pub choice_suits : (parts : TaskParts) (pattern : ℕ) → pattern ≤ 12
-    → suits parts (choice_with pattern) ≡ true
-choice_suits parts zero small = refl
-choice_suits parts (suc n) small = grind (arith, small)
 
 -- ---- what is saved of a certificate
 
-module _ (solve : SolveMeaning) (parts : TaskParts) (homes : ℕ → ℕ) (store : Store)
-    (end : IsQuietEnd (space_of parts) (guide_asked solve parts homes) store)
+module _ (solve : SolveMeaning) (parts : TaskParts) (choice : Choice) (homes : ℕ → ℕ)
+    (store : Store) (end : IsQuietEnd (space_of parts) (guide_by parts choice homes) store)
     (weight : store.weight ≡ weight_asked solve) where
   -- a certificate that was made of the rows
-  pub is_certificate : IsTask parts → IsSolveInRange solve
-      → IsSpelling (spelling_of parts (choice_asked solve)) → (c : SpelledCertificate)
+  pub is_certificate : IsTask parts → IsSolveInRange solve → IsChoiceAsked solve parts choice
+      → IsSpelling (spelling_of parts choice) → (c : SpelledCertificate)
       (plan : Option Plan) (name : List ℕ) → solve.certificate ≡ Some name
-      → c.spelling ≡ spelling_of parts (choice_asked solve)
+      → c.spelling ≡ spelling_of parts choice
       → c.certificate.weight ≡ store.weight → c.certificate.plan ≡ plan
       → length c.certificate.lines < 2 ^ 63
-      → quiet.HasLines parts (guide_asked solve parts homes) store end c
-      → quiet.IsValidFor parts (guide_asked solve parts homes) store end plan c
+      → quiet.HasLines parts (guide_by parts choice homes) store end c
+      → quiet.IsValidFor parts (guide_by parts choice homes) store end plan c
       → CanBeCertified parts store plan
-      → IsCertificate solve.certificate parts (choice_asked solve) (weight_asked solve)
-      (guide_asked solve parts homes) store plan (output name (text_of c) ∷ [])
-  is_certificate lawful range known c plan name named spelling w p count lines valid stated =
+      → IsCertificate solve.certificate parts choice (weight_asked solve)
+      (guide_by parts choice homes) store plan (output name (text_of c) ∷ [])
+  is_certificate lawful range by known c plan name named spelling w p count lines valid stated =
       let num : solve.settings.num ≤ 1000 = range.settings.weight.small in
       let den : solve.settings.den ≤ solve.settings.num = range.settings.weight.at_least_one in
-      subst (λ (n : Option (List ℕ)). IsCertificate n parts (choice_asked solve) (weight_asked solve)
-      (guide_asked solve parts homes) store plan (output name (text_of c) ∷ []))
+      subst (λ (n : Option (List ℕ)). IsCertificate n parts choice (weight_asked solve)
+      (guide_by parts choice homes) store plan (output name (text_of c) ∷ []))
       (sym named) (
         text_of c,
-        quiet.states_certificate parts (guide_asked solve parts homes) store end lawful
-            (choice_asked solve) refl
-            (choice_suits parts solve.settings.pattern range.settings.pattern) known
+        quiet.states_certificate parts (guide_by parts choice homes) store end lawful choice refl
+            (asked_suits solve parts choice range by) known
             (weight_asked solve) weight (omega (arith, num)) (omega (arith, num, den)) c plan
             (text_of c) refl spelling w p count lines valid stated.is_plan stated.backed
             stated.fits,
@@ -64,22 +57,23 @@ module _ (solve : SolveMeaning) (parts : TaskParts) (homes : ℕ → ℕ) (store
       )
 
 -- none, without a name
-pub no_certificate : (solve : SolveMeaning) (parts : TaskParts) (homes : ℕ → ℕ) (store : Store)
-    (plan : Option Plan) → solve.certificate ≡ None
-    → IsCertificate solve.certificate parts (choice_asked solve) (weight_asked solve)
-    (guide_asked solve parts homes) store plan []
-no_certificate solve parts homes store plan named =
-    subst (λ (n : Option (List ℕ)). IsCertificate n parts (choice_asked solve) (weight_asked solve)
-    (guide_asked solve parts homes) store plan [])
+pub no_certificate : (solve : SolveMeaning) (parts : TaskParts) (choice : Choice) (homes : ℕ → ℕ)
+    (store : Store) (plan : Option Plan) → solve.certificate ≡ None
+    → IsCertificate solve.certificate parts choice (weight_asked solve)
+    (guide_by parts choice homes) store plan []
+no_certificate solve parts choice homes store plan named =
+    subst (λ (n : Option (List ℕ)). IsCertificate n parts choice (weight_asked solve)
+    (guide_by parts choice homes) store plan [])
     (sym named) refl
 
 -- ---- the answer
 
-module _ (solve : SolveMeaning) (parts : TaskParts) (homes : ℕ → ℕ) (store : Store)
-    (journal : List Output) (left : LeavesQuietRows solve parts homes store journal) where
+module _ (solve : SolveMeaning) (parts : TaskParts) (choice : Choice) (homes : ℕ → ℕ)
+    (store : Store) (journal : List Output)
+    (left : LeavesQuietRows solve parts choice homes store journal) where
   -- a plan that the rows lead to, or none
   abbrev pub IsPlanOfRows : Option Plan → Type 0
-  IsPlanOfRows plan = IsPlanOf parts (guide_asked solve parts homes) store plan
+  IsPlanOfRows plan = IsPlanOf parts (guide_by parts choice homes) store plan
 
   -- which its certificate can state
   pub can_be_stated : (plan : Option Plan) → IsPlanOfRows plan → CanBeCertified parts store plan
@@ -95,11 +89,13 @@ module _ (solve : SolveMeaning) (parts : TaskParts) (homes : ℕ → ℕ) (store
 
   -- What is saved, with the journal behind it, is that of the search.
   pub certifies : (plan : Option Plan) (certificate : List Output) → IsPlanOfRows plan
-      → IsCertificate solve.certificate parts (choice_asked solve) (weight_asked solve)
-      (guide_asked solve parts homes) store plan certificate
+      → IsCertificate solve.certificate parts choice (weight_asked solve)
+      (guide_by parts choice homes) store plan certificate
       → Certifies (λ outputs. ◌≡◌ {A = List Output} (certificate ++ journal) outputs) solve parts plan
   certifies plan certificate best is = (
-    left_with (guide_asked solve parts homes) store left.journal,
+    choice,
+    left.asked,
+    left_with (guide_by parts choice homes) store left.journal,
     left.leaves,
     record { backed = best.backed; traced = best.traced },
     certificate,

@@ -12,6 +12,7 @@ use Rattle.pb_machine.proofs.Callers.{all_off_none_out}
 use Rattle.pb_machine.specs.Lawful.{reopened_machine, reopened_setup}
 use Rattle.pb_task.specs.declared.parts.TaskParts.{TaskParts}
 use Rattle.pb_task.specs.Parts.{space_of}
+use Rattle.pb_estimate.specs.Choices.{Choice}
 use Rattle.pb_lists.specs.Store.{IsQuietEnd}
 use Rattle.pb_abstract.specs.Projection.{IsFinest}
 use Rattle.pb_abstract.specs.Graph.{AbstractGraph, IsGraphOf}
@@ -28,9 +29,9 @@ use Rattle.pb_check.specs.Spelling.{PlanFits, PlanFitsIfAny}
 use Rattle.pb_falling.specs.Falling.{weight_at, Claim, IsClaim, AfterClaims}
 use Rattle.pb_falling.proofs.Callers.{kept_is_plan, run_after, runs_go_on, weights_fall}
 use Rattle.pb_command.specs.Meaning.{SolveMeaning, IsFallingInRange}
-use Rattle.pb_answer.specs.Searches.{settings_of, choice_asked, weight_asked}
+use Rattle.pb_answer.specs.Searches.{settings_of, weight_asked, IsChoiceAsked}
 use Rattle.pb_answer.specs.Falling.{asked_of_run, first_setup, AreOfQuietRuns, MayBeImproved}
-use Rattle.pb_answer.specs.FallingRuns.{FallingValue, weight_now, guide_in, claim_now, KeepsPlan, IsRunOf, IsFalling, IsLastAt, IsLast, GoesOn}
+use Rattle.pb_answer.specs.FallingRuns.{FallingValue, weight_now, guide_in, setup_asked, claim_now, KeepsPlan, IsRunOf, IsFalling, IsLastAt, IsLast, GoesOn}
 use Rattle.pb_answer.proofs.FallingRuns.{is_claim, keeps, quiet_runs_are, run_here, weights_are}
 
 -- the rows at a quiet end, as its certificate asks for them
@@ -70,21 +71,21 @@ all_made solve parts steps run graph before (Err e) solve_is parts_is steps_is r
 
 module _ (solve : SolveMeaning) (steps : ℕ) (range : IsFallingInRange (record { solve = solve; steps = steps })) (parts : TaskParts) (g : GraphValue) (lawful : IsLeaseGraph g)
     (task : g.task ≡ parts) (graph_of : IsGraphOf parts g.table.abstraction) (finest : IsFinest parts solve.settings.wish g.table.abstraction.projection)
-    (settings : g.table.settings ≡ solve.settings) (choice : g.choice ≡ choice_asked solve) (past : g.table.past ≡ no_past)
+    (settings : g.table.settings ≡ solve.settings) (by : IsChoiceAsked solve parts g.choice) (past : g.table.past ≡ no_past)
     (ended : (g.table.end ≡ Some Quiet) ⊎ (g.table.end ≡ Some Budget))
     (quiet : g.table.end ≡ Some Quiet → IsQuietEnd (space_of parts) (guide_in g) (home_store g))
-    (left : IsLeftBySearch parts solve.settings g) (fits : 1 < solve.settings.workers → FitsWord g.incumbent) where
+    (left : IsLeftBySearch parts g.choice solve.settings g) (fits : 1 < solve.settings.workers → FitsWord g.incumbent) where
   spent_none : g.table.past.spent ≡ 0
   spent_none = ap (λ (p : Past). p.spent) past
 
-  here : IsLeftBy (first_setup solve parts g.table.abstraction) g.table.past.spent (opening_machine (first_setup solve parts g.table.abstraction)) g
-  here = subst (λ n. IsLeftBy (first_setup solve parts g.table.abstraction) n (opening_machine (first_setup solve parts g.table.abstraction)) g) (sym spent_none) left
+  here : IsLeftBy (first_setup solve parts g.table.abstraction g.choice) g.table.past.spent (opening_machine (first_setup solve parts g.table.abstraction g.choice)) g
+  here = subst (λ n. IsLeftBy (first_setup solve parts g.table.abstraction g.choice) n (opening_machine (first_setup solve parts g.table.abstraction g.choice)) g) (sym spent_none) left
 
   -- every worker has signed off, so no lease is out
   home : is_out_in g ≡ false
   home =
       (λ i. is_any_out (settings i).workers (sym here.moment.at.counts i).leases)
-      ∙ all_off_none_out (first_setup solve parts g.table.abstraction).blocks solve.settings here.run.machine.counts here.run.lawful.counts here.run.finished.signed_off
+      ∙ all_off_none_out (first_setup solve parts g.table.abstraction g.choice).blocks solve.settings here.run.machine.counts here.run.lawful.counts here.run.finished.signed_off
 
   first_settings : solve.settings ≡ settings_of (asked_of_run solve steps 0)
   first_settings =
@@ -102,7 +103,7 @@ module _ (solve : SolveMeaning) (steps : ℕ) (range : IsFallingInRange (record 
       improvable = tt;
       quiet_runs = tt;
       runs = record {
-        setup_is = λ i. setup_of (task i) g.table.abstraction (choice i) (settings i) (past i).reopenings;
+        setup_is = λ i. setup_of (task i) g.table.abstraction g.choice (settings i) (past i).reopenings;
         left = here;
         machine_is = refl;
         before_is = tt;
@@ -113,7 +114,7 @@ module _ (solve : SolveMeaning) (steps : ℕ) (range : IsFallingInRange (record 
       task = task;
       graph_of = graph_of;
       finest = finest;
-      choice = choice;
+      asked = by;
       settings = settings ∙ first_settings;
       reopenings = ap (λ (p : Past). p.reopenings) past;
       first = λ zero. spent_none;
@@ -172,6 +173,12 @@ module _ (before : List Claim) (machine : Machine) (search : FallingValue) (f : 
   same_blocks : g.table.abstraction ≡ search.graph.table.abstraction
   same_blocks = of.abstraction ∙ reopened.abstraction
 
+  same_choice : g.choice ≡ search.graph.choice
+  same_choice = of.choice ∙ reopened.choice
+
+  same_setup : first_setup search.solve search.parts g.table.abstraction g.choice ≡ setup_asked search
+  same_setup = λ i. first_setup search.solve search.parts (same_blocks i) (same_choice i)
+
   its_task : g.task ≡ search.parts
   its_task = of.task ∙ reopened.task ∙ f.task
 
@@ -217,19 +224,16 @@ module _ (before : List Claim) (machine : Machine) (search : FallingValue) (f : 
 
   -- ---- all runs
 
-  abbrev SetupBy : AbstractGraph → Setup
-  SetupBy blocks = first_setup search.solve search.parts blocks
-
   all_runs : (kept_plan_now : Option Plan) → KeepsPlan search.parts g (Some plan) kept_plan_now
-      → AfterClaims (SetupBy g.table.abstraction) (opening_machine (SetupBy g.table.abstraction)) None (before ++ claim ∷ []) next
+      → AfterClaims (first_setup search.solve search.parts g.table.abstraction g.choice) (opening_machine (first_setup search.solve search.parts g.table.abstraction g.choice)) None (before ++ claim ∷ []) next
       (IsRunOf (made_of search.solve search.parts search.steps (search.run + 1) g kept_plan_now) left.run.machine)
   all_runs kept_plan_now kept =
       let Now = IsRunOf (made_of search.solve search.parts search.steps (search.run + 1) g kept_plan_now) left.run.machine in
-      subst (λ (a : AbstractGraph). AfterClaims (SetupBy a) (opening_machine (SetupBy a)) None (before ++ claim ∷ []) next Now) (sym same_blocks)
-      (runs_go_on Now (SetupBy search.graph.table.abstraction) (opening_machine (SetupBy search.graph.table.abstraction)) None before claim next
+      subst (λ (s : Setup). AfterClaims s (opening_machine s) None (before ++ claim ∷ []) next Now) (sym same_setup)
+      (runs_go_on Now (setup_asked search) (opening_machine (setup_asked search)) None before claim next
       (run_after (IsRunOf search machine) (λ last begin old. IsClaim last begin old claim × Now (reopened_setup last next) (reopened_machine last next machine) (Some plan))
       (λ last begin old run. (is_claim before machine search f plan plan_is last begin old run, next_run last begin old run kept_plan_now kept))
-      (SetupBy search.graph.table.abstraction) (opening_machine (SetupBy search.graph.table.abstraction)) None before (weight_now search) f.runs))
+      (setup_asked search) (opening_machine (setup_asked search)) None before (weight_now search) f.runs))
 
   one_more : (P : Claim → Type 0) (claims : List Claim) (one : Claim) → AllByRecursion P claims → P one → AllByRecursion P (claims ++ one ∷ [])
   one_more P [] one all holds = (holds, tt)
@@ -248,13 +252,13 @@ module _ (before : List Claim) (machine : Machine) (search : FallingValue) (f : 
     count = let longer = one_longer before claim in omega (arith, longer, f.count);
     weights = weights_are before machine search f plan plan_is;
     improvable = one_more MayBeImproved before claim f.improvable (λ bound. not_last (subst (λ (p : Option Plan). IsLastAt (weight_now search) p) (sym plan_is) bound));
-    quiet_runs = subst (λ (a : AbstractGraph). AreOfQuietRuns (SetupBy a) (opening_machine (SetupBy a)) (before ++ claim ∷ [])) (sym same_blocks) (quiet_runs_are before machine search f plan plan_is);
+    quiet_runs = subst (λ (s : Setup). AreOfQuietRuns s (opening_machine s) (before ++ claim ∷ [])) (sym same_setup) (quiet_runs_are before machine search f plan plan_is);
     runs = all_runs kept_plan_now kept;
     lawful = lawful;
     task = its_task;
     graph_of = subst (λ (a : AbstractGraph). IsGraphOf search.parts a) (sym same_blocks) f.graph_of;
     finest = subst (λ (a : AbstractGraph). IsFinest search.parts search.solve.settings.wish a.projection) (sym same_blocks) f.finest;
-    choice = of.choice ∙ reopened.choice ∙ f.choice;
+    asked = subst (λ (c : Choice). IsChoiceAsked search.solve search.parts c) (sym same_choice) f.asked;
     settings = its_settings;
     reopenings = ap (λ (p : Past). p.reopenings) of.past ∙ reopened.reopenings ∙ ap (λ n. n + 1) f.reopenings;
     first = λ zero. absurd (omega (arith, zero));
@@ -271,6 +275,7 @@ module _ (before : List Claim) (machine : Machine) (search : FallingValue) (f : 
     plan_is = plan_is;
     last = left.run.machine;
     blocks = subst (λ (v : FallingValue). v.graph.table.abstraction ≡ search.graph.table.abstraction) (made_is search.solve search.parts search.steps (search.run + 1) g search.plan s m) same_blocks;
+    choice = subst (λ (v : FallingValue). v.graph.choice ≡ search.graph.choice) (made_is search.solve search.parts search.steps (search.run + 1) g search.plan s m) same_choice;
     falling = subst (λ (v : FallingValue). IsFalling (before ++ claim ∷ []) left.run.machine v) (made_is search.solve search.parts search.steps (search.run + 1) g search.plan s m)
         (goes_on_by s.plan (subst (λ (p : Option Plan). KeepsPlan search.parts g p s.plan) plan_is m.kept));
   }

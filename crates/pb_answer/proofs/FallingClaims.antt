@@ -6,6 +6,7 @@ use Rattle.pb_model.specs.Weight.{Weight}
 use Rattle.pb_model.specs.Plan.{Plan, IsPlan, NoneCheaper}
 use Rattle.pb_task.specs.declared.parts.TaskParts.{TaskParts}
 use Rattle.pb_task.specs.Parts.{space_of}
+use Rattle.pb_estimate.specs.Choices.{Choice}
 use Rattle.pb_abstract.specs.Graph.{AbstractGraph}
 use Rattle.pb_falling.specs.Falling.{weight_at, Claim, HaveWeights, CostsFall}
 use Rattle.pb_command.specs.Meaning.{SolveMeaning}
@@ -14,8 +15,8 @@ use Rattle.pb_answer.specs.Searches.{weight_asked}
 use Rattle.pb_answer.specs.Falling.{SaysClaim, SayClaims, AreFalling}
 
 -- no claims yet
-pub no_claims : (solve : SolveMeaning) (parts : TaskParts) (abstraction : AbstractGraph) (steps : ℕ) → AreFalling solve parts abstraction steps []
-no_claims solve parts abstraction steps = record { are = tt; quiet_runs = tt; few = omega arith; weights = tt; hold = tt; fall = tt }
+pub no_claims : (solve : SolveMeaning) (parts : TaskParts) (abstraction : AbstractGraph) (choice : Choice) (steps : ℕ) → AreFalling solve parts abstraction choice steps []
+no_claims solve parts abstraction choice steps = record { are = tt; quiet_runs = tt; few = omega arith; weights = tt; hold = tt; fall = tt }
 
 -- ---- lists
 
@@ -61,7 +62,7 @@ falls_at before (one ∷ claims) (suc place) (suc other) claim later le is also 
 
 -- ---- the claims of a search
 
-module _ (solve : SolveMeaning) (parts : TaskParts) (abstraction : AbstractGraph) (steps : ℕ) (claims : List Claim) (falling : AreFalling solve parts abstraction steps claims) where
+module _ (solve : SolveMeaning) (parts : TaskParts) (abstraction : AbstractGraph) (choice : Choice) (steps : ℕ) (claims : List Claim) (falling : AreFalling solve parts abstraction choice steps claims) where
   -- the claim at a place is at the weight of its run, of a plan, and no plan is cheaper than that weight allows
   pub claim_at : (place : ℕ) (claim : Claim) → slice_get claims place ≡ Some claim
       → (claim.weight ≡ weight_at (weight_asked solve) steps place) × IsPlan (space_of parts) claim.plan × NoneCheaper (space_of parts) claim.weight claim.plan.cost
@@ -77,25 +78,25 @@ module _ (solve : SolveMeaning) (parts : TaskParts) (abstraction : AbstractGraph
 -- ---- the parts that say them
 
 -- the part at a place says the claim at that place
-pub part_says : (solve : SolveMeaning) (parts : TaskParts) (abstraction : AbstractGraph) (steps run : ℕ) (claims : List Claim) (handed_out : List AnswerPart)
-    → SayClaims solve parts abstraction steps run claims handed_out → (place : ℕ) (part : AnswerPart) → slice_get handed_out place ≡ Some part
-    → (claim : Claim) × (slice_get claims place ≡ Some claim) × SaysClaim solve parts abstraction steps (run + place) claim part
-part_says solve parts abstraction steps run [] [] say place part is = cc
-part_says solve parts abstraction steps run [] (first ∷ rest) say place part is = absurd say
-part_says solve parts abstraction steps run (claim ∷ claims) [] say place part is = absurd say
-part_says solve parts abstraction steps run (claim ∷ claims) (first ∷ rest) say zero part is =
+pub part_says : (solve : SolveMeaning) (parts : TaskParts) (abstraction : AbstractGraph) (choice : Choice) (steps run : ℕ) (claims : List Claim) (handed_out : List AnswerPart)
+    → SayClaims solve parts abstraction choice steps run claims handed_out → (place : ℕ) (part : AnswerPart) → slice_get handed_out place ≡ Some part
+    → (claim : Claim) × (slice_get claims place ≡ Some claim) × SaysClaim solve parts abstraction choice steps (run + place) claim part
+part_says solve parts abstraction choice steps run [] [] say place part is = cc
+part_says solve parts abstraction choice steps run [] (first ∷ rest) say place part is = absurd say
+part_says solve parts abstraction choice steps run (claim ∷ claims) [] say place part is = absurd say
+part_says solve parts abstraction choice steps run (claim ∷ claims) (first ∷ rest) say zero part is =
     let same : first ≡ part = cc in
     let here : run ≡ run + 0 = omega arith in
-    (claim, refl, subst (λ (p : AnswerPart). SaysClaim solve parts abstraction steps (run + 0) claim p) same (subst (λ n. SaysClaim solve parts abstraction steps n claim first) here say.0))
-part_says solve parts abstraction steps run (claim ∷ claims) (first ∷ rest) say (suc place) part is =
-    let found = part_says solve parts abstraction steps (run + 1) claims rest say.1 place part is in
+    (claim, refl, subst (λ (p : AnswerPart). SaysClaim solve parts abstraction choice steps (run + 0) claim p) same (subst (λ n. SaysClaim solve parts abstraction choice steps n claim first) here say.0))
+part_says solve parts abstraction choice steps run (claim ∷ claims) (first ∷ rest) say (suc place) part is =
+    let found = part_says solve parts abstraction choice steps (run + 1) claims rest say.1 place part is in
     let here : (run + 1) + place ≡ run + suc place = omega arith in
-    (found.0, found.1, subst (λ n. SaysClaim solve parts abstraction steps n found.0 part) here found.2)
+    (found.0, found.1, subst (λ n. SaysClaim solve parts abstraction choice steps n found.0 part) here found.2)
 
 -- there are as many parts as claims
-pub as_many_parts : (solve : SolveMeaning) (parts : TaskParts) (abstraction : AbstractGraph) (steps run : ℕ) (claims : List Claim) (handed_out : List AnswerPart)
-    → SayClaims solve parts abstraction steps run claims handed_out → length handed_out ≡ length claims
-as_many_parts solve parts abstraction steps run [] [] say = refl
-as_many_parts solve parts abstraction steps run [] (first ∷ rest) say = absurd say
-as_many_parts solve parts abstraction steps run (claim ∷ claims) [] say = absurd say
-as_many_parts solve parts abstraction steps run (claim ∷ claims) (first ∷ rest) say = ap suc (as_many_parts solve parts abstraction steps (run + 1) claims rest say.1)
+pub as_many_parts : (solve : SolveMeaning) (parts : TaskParts) (abstraction : AbstractGraph) (choice : Choice) (steps run : ℕ) (claims : List Claim) (handed_out : List AnswerPart)
+    → SayClaims solve parts abstraction choice steps run claims handed_out → length handed_out ≡ length claims
+as_many_parts solve parts abstraction choice steps run [] [] say = refl
+as_many_parts solve parts abstraction choice steps run [] (first ∷ rest) say = absurd say
+as_many_parts solve parts abstraction choice steps run (claim ∷ claims) [] say = absurd say
+as_many_parts solve parts abstraction choice steps run (claim ∷ claims) (first ∷ rest) say = ap suc (as_many_parts solve parts abstraction choice steps (run + 1) claims rest say.1)

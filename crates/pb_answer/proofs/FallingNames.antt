@@ -40,13 +40,13 @@ certificate_file : (name : Option (List ℕ)) (run : ℕ) (parts : TaskParts) (c
 certificate_file None run parts choice weight guide store plan outputs is = is
 certificate_file (Some name) run parts choice weight guide store plan outputs (text, is, saved) = (text, saved)
 
-pub claim_file : (solve : SolveMeaning) (parts : TaskParts) (abstraction : AbstractGraph) (steps run : ℕ) (claim : Claim) (part : AnswerPart)
-    → SaysClaim solve parts abstraction steps run claim part → IsFileOfRun solve.certificate run part.outputs
-claim_file solve parts abstraction steps run claim part says = certificate_file solve.certificate run parts _ _ _ _ _ part.outputs says.outputs
+pub claim_file : (solve : SolveMeaning) (parts : TaskParts) (abstraction : AbstractGraph) (choice : Choice) (steps run : ℕ) (claim : Claim) (part : AnswerPart)
+    → SaysClaim solve parts abstraction choice steps run claim part → IsFileOfRun solve.certificate run part.outputs
+claim_file solve parts abstraction choice steps run claim part says = certificate_file solve.certificate run parts _ _ _ _ _ part.outputs says.outputs
 
-pub none_file : (solve : SolveMeaning) (parts : TaskParts) (abstraction : AbstractGraph) (steps : ℕ) (part : AnswerPart)
-    → SaysNone solve parts abstraction steps part → IsFileOfRun solve.certificate 0 part.outputs
-none_file solve parts abstraction steps part says = certificate_file solve.certificate 0 parts _ _ _ _ _ part.outputs says.4
+pub none_file : (solve : SolveMeaning) (parts : TaskParts) (abstraction : AbstractGraph) (choice : Choice) (steps : ℕ) (part : AnswerPart)
+    → SaysNone solve parts abstraction choice steps part → IsFileOfRun solve.certificate 0 part.outputs
+none_file solve parts abstraction choice steps part says = certificate_file solve.certificate 0 parts _ _ _ _ _ part.outputs says.4
 
 -- ---- of what is handed out after a run
 
@@ -63,11 +63,11 @@ module _ (before : List Claim) (machine : Machine) (search : FallingValue) (f : 
   -- at most the one file of the run is saved
   pub now_saves : SaysNow before machine search said → SavesAtMost search.solve.certificate search.run said.outputs
   now_saves (inl (plan, is, status, says, falling)) =
-      saves_at_most search.solve.certificate search.run said.outputs (claim_file search.solve search.parts search.graph.table.abstraction search.steps search.run (claim_now search machine plan) (part_of said) says)
+      saves_at_most search.solve.certificate search.run said.outputs (claim_file search.solve search.parts search.graph.table.abstraction search.graph.choice search.steps search.run (claim_now search machine plan) (part_of said) says)
   now_saves (inr (inl (none, first, status, says))) =
       let run : search.run ≡ 0 = sym f.count ∙ ap (λ (c : List Claim). length c) first in
       subst (λ n. SavesAtMost search.solve.certificate n said.outputs) (sym run)
-      (saves_at_most search.solve.certificate 0 said.outputs (none_file search.solve search.parts search.graph.table.abstraction search.steps (part_of said) says))
+      (saves_at_most search.solve.certificate 0 said.outputs (none_file search.solve search.parts search.graph.table.abstraction search.graph.choice search.steps (part_of said) says))
   now_saves (inr (inr (none, status, says, falling))) = inl says.2
 
   -- the status is that of a claim, of no plan or of a stop
@@ -90,15 +90,15 @@ no_runs None run = refl
 no_runs (Some name) run = refl
 
 -- claims have the names of their runs
-pub claims_names : (solve : SolveMeaning) (parts : TaskParts) (abstraction : AbstractGraph) (steps run : ℕ) (claims : List Claim) (handed_out : List AnswerPart)
-    → SayClaims solve parts abstraction steps run claims handed_out → names_of (outputs_of handed_out) ≡ run_names solve.certificate run (length claims)
-claims_names solve parts abstraction steps run [] [] say = sym (no_runs solve.certificate run)
-claims_names solve parts abstraction steps run [] (part ∷ rest) say = absurd say
-claims_names solve parts abstraction steps run (claim ∷ claims) [] say = absurd say
-claims_names solve parts abstraction steps run (claim ∷ claims) (part ∷ rest) say =
+pub claims_names : (solve : SolveMeaning) (parts : TaskParts) (abstraction : AbstractGraph) (choice : Choice) (steps run : ℕ) (claims : List Claim) (handed_out : List AnswerPart)
+    → SayClaims solve parts abstraction choice steps run claims handed_out → names_of (outputs_of handed_out) ≡ run_names solve.certificate run (length claims)
+claims_names solve parts abstraction choice steps run [] [] say = sym (no_runs solve.certificate run)
+claims_names solve parts abstraction choice steps run [] (part ∷ rest) say = absurd say
+claims_names solve parts abstraction choice steps run (claim ∷ claims) [] say = absurd say
+claims_names solve parts abstraction choice steps run (claim ∷ claims) (part ∷ rest) say =
     let next : run + 1 ≡ suc run = omega arith in
-    one_more_run solve.certificate run (length claims) part.outputs (outputs_of rest) (claim_file solve parts abstraction steps run claim part say.0)
-    (claims_names solve parts abstraction steps (run + 1) claims rest say.1 ∙ ap (λ n. run_names solve.certificate n (length claims)) next)
+    one_more_run solve.certificate run (length claims) part.outputs (outputs_of rest) (claim_file solve parts abstraction choice steps run claim part say.0)
+    (claims_names solve parts abstraction choice steps (run + 1) claims rest say.1 ∙ ap (λ n. run_names solve.certificate n (length claims)) next)
 
 -- a part without files changes nothing
 without_last : (said : List AnswerPart) (last : AnswerPart) → last.outputs ≡ [] → outputs_of (said ++ last ∷ []) ≡ outputs_of said
@@ -111,42 +111,42 @@ AreOfFirstRuns solve steps outputs = (runs : ℕ) × (runs ≤ steps + 1) × (na
 
 module _ (solve : SolveMeaning) (parts : TaskParts) (steps : ℕ) where
   pub names_of_first : (handed_out : List AnswerPart) → AreClaimParts solve parts steps handed_out → AreOfFirstRuns solve steps (outputs_of handed_out)
-  names_of_first handed_out first = (length first.claims, first.falling.few, claims_names solve parts first.abstraction steps 0 first.claims handed_out first.say)
+  names_of_first handed_out first = (length first.claims, first.falling.few, claims_names solve parts first.abstraction first.choice steps 0 first.claims handed_out first.say)
 
-  names_of_cheapest : (abstraction : AbstractGraph) (handed_out : List AnswerPart) → IsProvedCheapest solve parts abstraction steps handed_out → AreOfFirstRuns solve steps (outputs_of handed_out)
-  names_of_cheapest abstraction handed_out (claims, last, falling, say, improvable, bound, cheapest) =
-      (length (claims ++ last ∷ []), falling.few, claims_names solve parts abstraction steps 0 (claims ++ last ∷ []) handed_out say)
+  names_of_cheapest : (abstraction : AbstractGraph) (choice : Choice) (handed_out : List AnswerPart) → IsProvedCheapest solve parts abstraction choice steps handed_out → AreOfFirstRuns solve steps (outputs_of handed_out)
+  names_of_cheapest abstraction choice handed_out (claims, last, falling, say, improvable, bound, cheapest) =
+      (length (claims ++ last ∷ []), falling.few, claims_names solve parts abstraction choice steps 0 (claims ++ last ∷ []) handed_out say)
 
-  names_of_none : (abstraction : AbstractGraph) (handed_out : List AnswerPart) → IsFallingNone solve parts abstraction steps handed_out → AreOfFirstRuns solve steps (outputs_of handed_out)
-  names_of_none abstraction handed_out (part, says, is) =
+  names_of_none : (abstraction : AbstractGraph) (choice : Choice) (handed_out : List AnswerPart) → IsFallingNone solve parts abstraction choice steps handed_out → AreOfFirstRuns solve steps (outputs_of handed_out)
+  names_of_none abstraction choice handed_out (part, says, is) =
       subst (λ (h : List AnswerPart). AreOfFirstRuns solve steps (outputs_of h)) (sym is)
-      (1, omega arith, one_more_run solve.certificate 0 0 part.outputs [] (none_file solve parts abstraction steps part says) (sym (no_runs solve.certificate 1)))
+      (1, omega arith, one_more_run solve.certificate 0 0 part.outputs [] (none_file solve parts abstraction choice steps part says) (sym (no_runs solve.certificate 1)))
 
-  names_of_stop : (abstraction : AbstractGraph) (handed_out : List AnswerPart) → IsFallingStop solve parts abstraction steps handed_out → AreOfFirstRuns solve steps (outputs_of handed_out)
-  names_of_stop abstraction handed_out (claims, said, last, falling, say, improvable, stops, is) =
+  names_of_stop : (abstraction : AbstractGraph) (choice : Choice) (handed_out : List AnswerPart) → IsFallingStop solve parts abstraction choice steps handed_out → AreOfFirstRuns solve steps (outputs_of handed_out)
+  names_of_stop abstraction choice handed_out (claims, said, last, falling, say, improvable, stops, is) =
       subst (λ (h : List AnswerPart). AreOfFirstRuns solve steps (outputs_of h)) (sym is) (
         length claims,
         falling.few,
-        ap names_of (without_last said last stops.2) ∙ claims_names solve parts abstraction steps 0 claims said say,
+        ap names_of (without_last said last stops.2) ∙ claims_names solve parts abstraction choice steps 0 claims said say,
       )
 
   pub names_of_found : (said : Said) (handed_out : List AnswerPart) → IsFallingFound solve parts steps said handed_out → AreOfFirstRuns solve steps (outputs_of handed_out)
   names_of_found said handed_out all = go all.found
     where
-      go : ((said.status ≡ 0) × IsProvedCheapest solve parts all.abstraction steps handed_out)
-          ⊎ (((said.status ≡ 1) × IsFallingNone solve parts all.abstraction steps handed_out)
-          ⊎ ((said.status ≡ 2) × IsFallingStop solve parts all.abstraction steps handed_out)) → AreOfFirstRuns solve steps (outputs_of handed_out)
-      go (inl (status, found)) = names_of_cheapest all.abstraction handed_out found
-      go (inr (inl (status, found))) = names_of_none all.abstraction handed_out found
-      go (inr (inr (status, found))) = names_of_stop all.abstraction handed_out found
+      go : ((said.status ≡ 0) × IsProvedCheapest solve parts all.abstraction all.choice steps handed_out)
+          ⊎ (((said.status ≡ 1) × IsFallingNone solve parts all.abstraction all.choice steps handed_out)
+          ⊎ ((said.status ≡ 2) × IsFallingStop solve parts all.abstraction all.choice steps handed_out)) → AreOfFirstRuns solve steps (outputs_of handed_out)
+      go (inl (status, found)) = names_of_cheapest all.abstraction all.choice handed_out found
+      go (inr (inl (status, found))) = names_of_none all.abstraction all.choice handed_out found
+      go (inr (inr (status, found))) = names_of_stop all.abstraction all.choice handed_out found
 
   -- the status of all that is handed out
   pub found_status : (said : Said) (handed_out : List AnswerPart) → IsFallingFound solve parts steps said handed_out → (said.status ≡ 0) ⊎ ((said.status ≡ 1) ⊎ (said.status ≡ 2))
   found_status said handed_out all = go all.found
     where
-      go : ((said.status ≡ 0) × IsProvedCheapest solve parts all.abstraction steps handed_out)
-          ⊎ (((said.status ≡ 1) × IsFallingNone solve parts all.abstraction steps handed_out)
-          ⊎ ((said.status ≡ 2) × IsFallingStop solve parts all.abstraction steps handed_out)) → (said.status ≡ 0) ⊎ ((said.status ≡ 1) ⊎ (said.status ≡ 2))
+      go : ((said.status ≡ 0) × IsProvedCheapest solve parts all.abstraction all.choice steps handed_out)
+          ⊎ (((said.status ≡ 1) × IsFallingNone solve parts all.abstraction all.choice steps handed_out)
+          ⊎ ((said.status ≡ 2) × IsFallingStop solve parts all.abstraction all.choice steps handed_out)) → (said.status ≡ 0) ⊎ ((said.status ≡ 1) ⊎ (said.status ≡ 2))
       go (inl found) = inl found.0
       go (inr (inl found)) = inr (inl found.0)
       go (inr (inr found)) = inr (inr found.0)

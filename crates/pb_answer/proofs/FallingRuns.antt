@@ -15,7 +15,6 @@ use Rattle.pb_machine.specs.Lawful.{reopened_machine, reopened_setup}
 use Rattle.pb_machine.proofs.Callers.{opening_is_lawful}
 use Rattle.pb_task.specs.declared.parts.TaskParts.{TaskParts}
 use Rattle.pb_task.specs.Parts.{space_of, greatest_cost, IsTask}
-use Rattle.pb_estimate.specs.Choices.{Choice}
 use Rattle.pb_estimate.specs.Estimates.{estimate_by}
 use Rattle.pb_estimate.proofs.Callers.{estimates_are_admissible}
 use Rattle.pb_abstract.specs.Graph.{blocks_of}
@@ -26,10 +25,10 @@ use Rattle.pb_search.specs.Ends.{RunEnds}
 use Rattle.pb_falling.specs.Falling.{weight_at, Claim, IsTraced, IsClaim, AreClaims, AfterClaims, HaveWeights}
 use Rattle.pb_falling.specs.Laws.{ClaimsHold}
 use Rattle.pb_falling.proofs.Callers.{all_weights, claims_before, claims_grow, one_more_weight, run_after, some_run}
-use Rattle.pb_answer.specs.Searches.{choice_asked, weight_asked}
-use Rattle.pb_answer.specs.Falling.{first_setup, IsOfQuietRun, AreOfQuietRuns, AreFalling}
-use Rattle.pb_answer.specs.FallingRuns.{FallingValue, weight_now, guide_in, claim_now, KeepsPlan, IsRunOf, IsFalling}
-use Rattle.pb_answer.proofs.Certified.{choice_suits}
+use Rattle.pb_answer.specs.Searches.{weight_asked}
+use Rattle.pb_answer.specs.Falling.{IsOfQuietRun, AreOfQuietRuns, AreFalling}
+use Rattle.pb_answer.specs.FallingRuns.{FallingValue, weight_now, guide_in, setup_asked, claim_now, KeepsPlan, IsRunOf, IsFalling}
+use Rattle.pb_answer.proofs.Asked.{asked_suits}
 
 -- one more claim, that of a quiet run after the others
 quiet_runs_grow : (setup : Setup) (begin : Machine) (before : Option Plan) (claims : List Claim) (claim : Claim) → AreOfQuietRuns setup begin claims
@@ -41,7 +40,7 @@ quiet_runs_grow setup begin before (one ∷ two ∷ claims) claim have after =
 
 module _ (before : List Claim) (machine : Machine) (search : FallingValue) (f : IsFalling before machine search) where
   abbrev setup : Setup
-  setup = first_setup search.solve search.parts search.graph.table.abstraction
+  setup = setup_asked search
 
   pub its_task : IsTask search.parts
   its_task = subst IsTask f.task f.lawful.is_task
@@ -63,22 +62,21 @@ module _ (before : List Claim) (machine : Machine) (search : FallingValue) (f : 
       let here = setup_is search.graph f.lawful in
       record {
         space = subst (λ (p : TaskParts). IsProper (space_of p) greatest_cost) f.task here.space;
-        blocks = subst (λ (c : Choice). AreBlocks (space_of search.parts) (guide_of search.parts search.graph.table.abstraction c) (blocks_of search.graph.table.abstraction)) f.choice
-            (subst (λ (p : TaskParts). AreBlocks (space_of p) (guide_of p search.graph.table.abstraction search.graph.choice) (blocks_of search.graph.table.abstraction)) f.task here.blocks);
+        blocks = subst (λ (p : TaskParts). AreBlocks (space_of p) (guide_of p search.graph.table.abstraction search.graph.choice) (blocks_of search.graph.table.abstraction)) f.task here.blocks;
         weight = its_weight;
       }
 
-  admissible : IsAdmissible (space_of search.parts) (estimate_by search.parts (choice_asked search.solve))
-  admissible = estimates_are_admissible search.parts (choice_asked search.solve) its_task (choice_suits search.parts search.solve.settings.pattern f.range.solve.settings.pattern)
+  admissible : IsAdmissible (space_of search.parts) (estimate_by search.parts search.graph.choice)
+  admissible = estimates_are_admissible search.parts search.graph.choice its_task (asked_suits search.solve search.parts search.graph.choice f.range.solve f.asked)
 
   falling_by : (claims : List Claim) → AreClaims setup (opening_machine setup) None claims → AreOfQuietRuns setup (opening_machine setup) claims → HaveWeights (weight_asked search.solve) search.steps 0 claims → length claims ≤ search.steps + 1 → ClaimsHold
-      → AreFalling search.solve search.parts search.graph.table.abstraction search.steps claims
+      → AreFalling search.solve search.parts search.graph.table.abstraction search.graph.choice search.steps claims
   falling_by claims are quiet_runs weights few hold =
       let all = hold setup greatest_cost (opening_machine setup) claims is_setup admissible (opening_is_lawful setup greatest_cost is_setup refl)
       (all_weights (weight_asked search.solve) search.steps 0 claims its_weight f.range.some_steps (omega (arith, few)) weights) are in
       record { are = are; quiet_runs = quiet_runs; few = few; weights = weights; hold = all.0; fall = all.1 }
 
-  pub claims_before_fall : ClaimsHold → AreFalling search.solve search.parts search.graph.table.abstraction search.steps before
+  pub claims_before_fall : ClaimsHold → AreFalling search.solve search.parts search.graph.table.abstraction search.graph.choice search.steps before
   claims_before_fall = falling_by before (claims_before (IsRunOf search machine) setup (opening_machine setup) None before (weight_now search) f.runs) f.quiet_runs f.weights (omega (arith, f.count, f.within))
 
   one_longer : (claims : List Claim) (one : Claim) → length (claims ++ one ∷ []) ≡ length claims + 1
@@ -135,5 +133,5 @@ module _ (before : List Claim) (machine : Machine) (search : FallingValue) (f : 
     weights_are = one_more_weight (weight_asked search.solve) search.steps 0 before claim f.weights
         (let count : search.run ≡ 0 + length before = omega (arith, f.count) in λ i. weight_at (weight_asked search.solve) search.steps (count i))
 
-    pub all_falling : ClaimsHold → AreFalling search.solve search.parts search.graph.table.abstraction search.steps (before ++ claim ∷ [])
+    pub all_falling : ClaimsHold → AreFalling search.solve search.parts search.graph.table.abstraction search.graph.choice search.steps (before ++ claim ∷ [])
     all_falling = falling_by (before ++ claim ∷ []) claims_are quiet_runs_are weights_are (let longer = one_longer before claim in omega (arith, longer, f.count, f.within))

@@ -14,8 +14,7 @@ use Rattle.pb_task.specs.declared.parts.TaskParts.{TaskParts}
 use Rattle.pb_task.specs.Parts.{space_of, greatest_cost}
 use Rattle.pb_task.proofs.Callers.{tasks_are_proper}
 use Rattle.pb_estimate.specs.Choices.{Choice}
-use Rattle.pb_estimate.specs.Estimates.{estimate_by}
-use Rattle.pb_lists.specs.Store.{guide_with, IsQuietEnd}
+use Rattle.pb_lists.specs.Store.{IsQuietEnd}
 use Rattle.pb_abstract.specs.Graph.{home_of}
 use Rattle.pb_lease.specs.Begins.{home_store}
 use Rattle.pb_search.specs.Ends.{searched_guide, RunEnds}
@@ -27,21 +26,23 @@ use Rattle.pb_report.specs.Texts.{AreActions, claim_text}
 use Rattle.pb_command.specs.Meaning.{SolveMeaning, IsSolveInRange}
 use Rattle.pb_command.specs.Values.{are_one_name}
 use Rattle.pb_answer.specs.Outputs.{Output}
-use Rattle.pb_answer.specs.Searches.{settings_of, choice_asked, weight_asked}
+use Rattle.pb_answer.specs.Searches.{settings_of, weight_asked, IsChoiceAsked}
 use Rattle.pb_answer.specs.Claims.{IsCertificate}
-use Rattle.pb_answer.specs.Ended.{guide_asked, CanBeCertified}
+use Rattle.pb_answer.specs.Ended.{guide_by, CanBeCertified}
 use Rattle.pb_answer.specs.Answer.{Said}
-use Rattle.pb_answer.specs.Falling.{asked_of_run, first_setup, EndsAfter}
-use Rattle.pb_answer.specs.FallingRuns.{FallingValue, weight_now, KeepsPlan, IsRunOf, IsFalling, SaysClaimNow, SaysNoneNow, SaysStopNow}
+use Rattle.pb_answer.specs.Falling.{asked_of_run, EndsAfter}
+use Rattle.pb_answer.specs.FallingRuns.{FallingValue, weight_now, setup_asked, KeepsPlan, IsRunOf, IsFalling, SaysClaimNow, SaysNoneNow, SaysStopNow}
 use Rattle.pb_answer.proofs.FallingRuns.{all_falling, claims_before_fall, its_task, its_weight, keeps, run_here}
 
--- what a certificate of a task shows that has another name, and of a plan
-pub certified : (s : SolveMeaning) (task parts : TaskParts) → task ≡ parts → (stated plan : Option Plan) → stated ≡ plan → (homes : ℕ → ℕ) (store : Store) (outputs : List Output)
-    → (CanBeCertified task store stated → IsCertificate s.certificate task (choice_asked s) (weight_asked s) (guide_asked s task homes) store stated outputs)
-    → CanBeCertified parts store plan → IsCertificate s.certificate parts (choice_asked s) (weight_asked s) (guide_asked s parts homes) store plan outputs
-certified s task parts same stated plan is homes store outputs certificate =
-    subst (λ (p : TaskParts). CanBeCertified p store plan → IsCertificate s.certificate p (choice_asked s) (weight_asked s) (guide_asked s p homes) store plan outputs) same
-    (subst (λ (q : Option Plan). CanBeCertified task store q → IsCertificate s.certificate task (choice_asked s) (weight_asked s) (guide_asked s task homes) store q outputs) is certificate)
+-- what a certificate of a task and a choice shows that have other names, and of a plan
+pub certified : (s : SolveMeaning) (task parts : TaskParts) → task ≡ parts → (choice other : Choice) → choice ≡ other → (stated plan : Option Plan) → stated ≡ plan
+    → (homes : ℕ → ℕ) (store : Store) (outputs : List Output)
+    → (CanBeCertified task store stated → IsCertificate s.certificate task choice (weight_asked s) (guide_by task choice homes) store stated outputs)
+    → CanBeCertified parts store plan → IsCertificate s.certificate parts other (weight_asked s) (guide_by parts other homes) store plan outputs
+certified s task parts same choice other by stated plan is homes store outputs certificate =
+    subst (λ (p : TaskParts). CanBeCertified p store plan → IsCertificate s.certificate p other (weight_asked s) (guide_by p other homes) store plan outputs) same
+    (subst (λ (c : Choice). CanBeCertified task store plan → IsCertificate s.certificate task c (weight_asked s) (guide_by task c homes) store plan outputs) by
+    (subst (λ (q : Option Plan). CanBeCertified task store q → IsCertificate s.certificate task choice (weight_asked s) (guide_by task choice homes) store q outputs) is certificate))
 
 -- what is asked of the run in hand
 abbrev pub asked_now : FallingValue → SolveMeaning
@@ -67,6 +68,8 @@ module _ (before : List Claim) (machine : Machine) (search : FallingValue) (f : 
         };
         names = one_name (asked_now search).certificate;
         engine = λ owners. refl;
+        effort = f.range.solve.effort;
+        estimate = f.range.solve.estimate;
       }
 
   -- the words of the run: the settings are the graph's, and the name is the search's
@@ -75,29 +78,30 @@ module _ (before : List Claim) (machine : Machine) (search : FallingValue) (f : 
   words_are settings settings_is name name_is =
       λ i. record search.solve { settings = (settings_is ∙ f.settings) i; certificate = (name_is ∙ f.name) i; journal = None }
 
+  pub end_here : search.graph.table.end ≡ Some Quiet → IsQuietEnd (space_of search.parts) (guide_by search.parts search.graph.choice (home_of search.graph.task search.graph.table.abstraction)) (home_store search.graph)
+  end_here quiet =
+      subst (λ (p : TaskParts). IsQuietEnd (space_of search.parts) (guide_by p search.graph.choice (home_of search.graph.task search.graph.table.abstraction)) (home_store search.graph)) f.task (f.quiet quiet)
+
   -- ---- by words that ask for this run
 
   module _ (solve : SolveMeaning) (words : solve ≡ asked_now search) where
     pub in_range : IsSolveInRange solve
     in_range = subst IsSolveInRange (sym words) asked_in_range
 
-    pub end_here : search.graph.table.end ≡ Some Quiet → IsQuietEnd (space_of search.parts) (guide_asked solve search.parts (home_of search.graph.task search.graph.table.abstraction)) (home_store search.graph)
-    end_here quiet =
-        subst (λ (s : SolveMeaning). IsQuietEnd (space_of search.parts) (guide_asked s search.parts (home_of search.graph.task search.graph.table.abstraction)) (home_store search.graph)) (sym words)
-        (subst (λ (c : Choice). IsQuietEnd (space_of search.parts) (guide_with (estimate_by search.parts c) (home_of search.graph.task search.graph.table.abstraction)) (home_store search.graph)) f.choice
-        (subst (λ (p : TaskParts). IsQuietEnd (space_of search.parts) (guide_with (estimate_by p search.graph.choice) (home_of search.graph.task search.graph.table.abstraction)) (home_store search.graph)) f.task (f.quiet quiet)))
+    pub asked_here : IsChoiceAsked solve search.parts search.graph.choice
+    asked_here = subst (λ (s : SolveMeaning). IsChoiceAsked s search.parts search.graph.choice) (sym words) f.asked
 
     pub weight_here : (home_store search.graph).weight ≡ weight_asked solve
     weight_here = ap (λ (s : Settings). record { num = s.num; den = s.den }) f.settings ∙ ap weight_asked (sym words)
 
     certificate_here : (plan : Option Plan) (outputs : List Output)
-        → IsCertificate solve.certificate search.parts (choice_asked solve) (weight_asked solve) (guide_asked solve search.parts (home_of search.graph.task search.graph.table.abstraction)) (home_store search.graph) plan outputs
-        → IsCertificate (asked_now search).certificate search.parts (choice_asked search.solve) (weight_now search) (searched_guide search.parts search.graph.table.abstraction (settings_of search.solve)) machine.store plan outputs
+        → IsCertificate solve.certificate search.parts search.graph.choice (weight_asked solve) (guide_by search.parts search.graph.choice (home_of search.graph.task search.graph.table.abstraction)) (home_store search.graph) plan outputs
+        → IsCertificate (asked_now search).certificate search.parts search.graph.choice (weight_now search) (searched_guide search.parts search.graph.table.abstraction search.graph.choice) machine.store plan outputs
     certificate_here plan outputs is =
-        let Said = IsCertificate (asked_now search).certificate search.parts (choice_asked search.solve) (weight_now search) in
-        subst (λ (s : Store). Said (searched_guide search.parts search.graph.table.abstraction (settings_of search.solve)) s plan outputs) (sym f.rows)
-        (subst (λ (p : TaskParts). Said (guide_with (estimate_by search.parts (choice_asked search.solve)) (home_of p search.graph.table.abstraction)) (home_store search.graph) plan outputs) f.task
-        (subst (λ (s : SolveMeaning). IsCertificate s.certificate search.parts (choice_asked s) (weight_asked s) (guide_asked s search.parts (home_of search.graph.task search.graph.table.abstraction)) (home_store search.graph) plan outputs) words is))
+        let Said = IsCertificate (asked_now search).certificate search.parts search.graph.choice (weight_now search) in
+        subst (λ (s : Store). Said (searched_guide search.parts search.graph.table.abstraction search.graph.choice) s plan outputs) (sym f.rows)
+        (subst (λ (p : TaskParts). Said (guide_by search.parts search.graph.choice (home_of p search.graph.table.abstraction)) (home_store search.graph) plan outputs) f.task
+        (subst (λ (s : SolveMeaning). IsCertificate s.certificate search.parts search.graph.choice (weight_asked s) (guide_by search.parts search.graph.choice (home_of search.graph.task search.graph.table.abstraction)) (home_store search.graph) plan outputs) words is))
 
     -- ---- a claim
 
@@ -124,7 +128,7 @@ module _ (before : List Claim) (machine : Machine) (search : FallingValue) (f : 
     pub claim_said : ClaimsHold → (plan : Plan) → search.plan ≡ Some plan → (bound : ℕ) → IsBound (weight_now search) plan.cost bound
         → (said : Said) → said.status ≡ 0 → said.report ≡ claim_text search.parts (weight_asked solve) plan bound → (outputs : List Output) → said.outputs ≡ outputs ++ []
         → (CanBeCertified search.parts (home_store search.graph) (Some plan)
-        → IsCertificate solve.certificate search.parts (choice_asked solve) (weight_asked solve) (guide_asked solve search.parts (home_of search.graph.task search.graph.table.abstraction)) (home_store search.graph) (Some plan) outputs)
+        → IsCertificate solve.certificate search.parts search.graph.choice (weight_asked solve) (guide_by search.parts search.graph.choice (home_of search.graph.task search.graph.table.abstraction)) (home_store search.graph) (Some plan) outputs)
         → SaysClaimNow before machine search said
     claim_said hold plan plan_is bound bounded said status report outputs saved certificate = (
       plan,
@@ -135,8 +139,8 @@ module _ (before : List Claim) (machine : Machine) (search : FallingValue) (f : 
         bounded = bounded;
         fits = let small = (can_be_stated plan plan_is).fits.cost in omega (arith, small);
         report = report ∙ ap (λ (s : SolveMeaning). claim_text search.parts (weight_asked s) plan bound) words;
-        outputs = subst (λ (o : List Output). IsCertificate (asked_now search).certificate search.parts (choice_asked search.solve) (weight_now search)
-            (searched_guide search.parts search.graph.table.abstraction (settings_of search.solve)) machine.store (Some plan) o) (sym (saved ∙ append-nil outputs))
+        outputs = subst (λ (o : List Output). IsCertificate (asked_now search).certificate search.parts search.graph.choice (weight_now search)
+            (searched_guide search.parts search.graph.table.abstraction search.graph.choice) machine.store (Some plan) o) (sym (saved ∙ append-nil outputs))
             (certificate_here (Some plan) outputs (certificate (can_be_stated plan plan_is)));
       },
       all_falling before machine search f plan plan_is hold,
@@ -168,7 +172,7 @@ module _ (before : List Claim) (machine : Machine) (search : FallingValue) (f : 
     is_first : (claims : List Claim) → claims ≡ before → HasNoPlan (space_of search.parts) → before ≡ []
     is_first [] is none = sym is
     is_first (claim ∷ claims) is none =
-        let setup = first_setup search.solve search.parts search.graph.table.abstraction in
+        let setup = setup_asked search in
         let run = claim_runs (IsRunOf search machine) setup (opening_machine setup) None claim claims (weight_now search)
         (subst (λ (c : List Claim). AfterClaims setup (opening_machine setup) None c (weight_now search) (IsRunOf search machine)) (sym is) f.runs) in
         absurd (none run.2 run.3.before_is)
@@ -176,12 +180,12 @@ module _ (before : List Claim) (machine : Machine) (search : FallingValue) (f : 
     -- the first run, with its end and what earlier runs spent, which is nothing
     abbrev FirstRun : (spent : ℕ) → End → Type 0
     FirstRun spent end =
-        let setup = first_setup search.solve search.parts search.graph.table.abstraction in
+        let setup = setup_asked search in
         (moves : List Move) × (run : RunEnds setup spent (opening_machine setup) end moves) × (run.machine ≡ machine)
 
     first_run : before ≡ [] → search.graph.table.end ≡ Some Quiet → FirstRun 0 Quiet
     first_run first quiet =
-        let setup = first_setup search.solve search.parts search.graph.table.abstraction in
+        let setup = setup_asked search in
         let run = subst (λ (c : List Claim). AfterClaims setup (opening_machine setup) None c (weight_now search) (IsRunOf search machine)) first f.runs in
         let none : search.run ≡ 0 = sym f.count ∙ ap (λ (c : List Claim). length c) first in
         subst (λ n. FirstRun n Quiet) (f.first none)
@@ -193,18 +197,18 @@ module _ (before : List Claim) (machine : Machine) (search : FallingValue) (f : 
 
     -- its certificate, as that of the words
     none_certificate : before ≡ [] → (outputs : List Output)
-        → IsCertificate (asked_now search).certificate search.parts (choice_asked search.solve) (weight_now search) (searched_guide search.parts search.graph.table.abstraction (settings_of search.solve)) machine.store None outputs
-        → IsCertificate (asked_of_run search.solve search.steps 0).certificate search.parts (choice_asked search.solve) (weight_asked search.solve) (searched_guide search.parts search.graph.table.abstraction (settings_of search.solve)) machine.store None outputs
+        → IsCertificate (asked_now search).certificate search.parts search.graph.choice (weight_now search) (searched_guide search.parts search.graph.table.abstraction search.graph.choice) machine.store None outputs
+        → IsCertificate (asked_of_run search.solve search.steps 0).certificate search.parts search.graph.choice (weight_asked search.solve) (searched_guide search.parts search.graph.table.abstraction search.graph.choice) machine.store None outputs
     none_certificate first outputs is =
         let none : search.run ≡ 0 = sym f.count ∙ ap (λ (c : List Claim). length c) first in
         let top : (weight_at (weight_asked search.solve) search.steps 0).num ≡ (weight_asked search.solve).num = (weights_fall (weight_asked search.solve) search.steps 0 (its_weight before machine search f) f.range.some_steps (omega arith)).1 in
         let whole : weight_at (weight_asked search.solve) search.steps 0 ≡ weight_asked search.solve = λ i. record { num = top i; den = search.solve.settings.den } in
-        subst (λ (w : Weight). IsCertificate (asked_of_run search.solve search.steps 0).certificate search.parts (choice_asked search.solve) w (searched_guide search.parts search.graph.table.abstraction (settings_of search.solve)) machine.store None outputs) whole
-        (subst (λ n. IsCertificate (asked_of_run search.solve search.steps n).certificate search.parts (choice_asked search.solve) (weight_at (weight_asked search.solve) search.steps n) (searched_guide search.parts search.graph.table.abstraction (settings_of search.solve)) machine.store None outputs) none is)
+        subst (λ (w : Weight). IsCertificate (asked_of_run search.solve search.steps 0).certificate search.parts search.graph.choice w (searched_guide search.parts search.graph.table.abstraction search.graph.choice) machine.store None outputs) whole
+        (subst (λ n. IsCertificate (asked_of_run search.solve search.steps n).certificate search.parts search.graph.choice (weight_at (weight_asked search.solve) search.steps n) (searched_guide search.parts search.graph.table.abstraction search.graph.choice) machine.store None outputs) none is)
 
     pub none_said : search.plan ≡ None → search.graph.table.end ≡ Some Quiet → (said : Said) → said.status ≡ 1 → said.report ≡ none_report → (outputs : List Output) → said.outputs ≡ outputs ++ []
         → (CanBeCertified search.parts (home_store search.graph) None
-        → IsCertificate solve.certificate search.parts (choice_asked solve) (weight_asked solve) (guide_asked solve search.parts (home_of search.graph.task search.graph.table.abstraction)) (home_store search.graph) None outputs)
+        → IsCertificate solve.certificate search.parts search.graph.choice (weight_asked solve) (guide_by search.parts search.graph.choice (home_of search.graph.task search.graph.table.abstraction)) (home_store search.graph) None outputs)
         → SaysNoneNow before search said
     none_said none quiet said status report outputs saved certificate =
         let no_plan = has_none none quiet in
@@ -219,10 +223,10 @@ module _ (before : List Claim) (machine : Machine) (search : FallingValue) (f : 
             report,
             run.0,
             run.1,
-            subst (λ (m : Machine). IsCertificate (asked_of_run search.solve search.steps 0).certificate search.parts (choice_asked search.solve) (weight_asked search.solve)
-                (searched_guide search.parts search.graph.table.abstraction (settings_of search.solve)) m.store None said.outputs) (sym run.2)
-                (subst (λ (o : List Output). IsCertificate (asked_of_run search.solve search.steps 0).certificate search.parts (choice_asked search.solve) (weight_asked search.solve)
-                (searched_guide search.parts search.graph.table.abstraction (settings_of search.solve)) machine.store None o) (sym (saved ∙ append-nil outputs)) file),
+            subst (λ (m : Machine). IsCertificate (asked_of_run search.solve search.steps 0).certificate search.parts search.graph.choice (weight_asked search.solve)
+                (searched_guide search.parts search.graph.table.abstraction search.graph.choice) m.store None said.outputs) (sym run.2)
+                (subst (λ (o : List Output). IsCertificate (asked_of_run search.solve search.steps 0).certificate search.parts search.graph.choice (weight_asked search.solve)
+                (searched_guide search.parts search.graph.table.abstraction search.graph.choice) machine.store None o) (sym (saved ∙ append-nil outputs)) file),
           ),
         )
 
@@ -244,9 +248,9 @@ module _ (before : List Claim) (machine : Machine) (search : FallingValue) (f : 
       same_end : (end : End) → ◌≡◌ {A = Option End} (Some end) (Some Budget) → end ≡ Budget
       same_end end e = cc
 
-  pub ends_after : search.graph.table.end ≡ Some Budget → EndsAfter search.solve search.parts search.graph.table.abstraction search.steps before Budget
+  pub ends_after : search.graph.table.end ≡ Some Budget → EndsAfter search.solve search.parts search.graph.table.abstraction search.graph.choice search.steps before Budget
   ends_after budget =
-      let setup = first_setup search.solve search.parts search.graph.table.abstraction in
+      let setup = setup_asked search in
       run_after (IsRunOf search machine) (Stopped (length before)) (stopped budget) setup (opening_machine setup) None before
       (weight_at (weight_asked search.solve) search.steps (length before))
       (subst (λ n. AfterClaims setup (opening_machine setup) None before (weight_at (weight_asked search.solve) search.steps n) (IsRunOf search machine)) (sym f.count) f.runs)

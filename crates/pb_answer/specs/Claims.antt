@@ -22,7 +22,7 @@ use Rattle.pb_cert.specs.Rewritten.{rewritten_text}
 use Rattle.pb_report.specs.Texts.{plan_text, verdict_text, fault_text}
 use Rattle.pb_command.specs.Meaning.{SolveMeaning, CheckMeaning}
 use Rattle.pb_answer.specs.Outputs.{Output, output}
-use Rattle.pb_answer.specs.Searches.{settings_of, choice_asked, weight_asked}
+use Rattle.pb_answer.specs.Searches.{settings_of, weight_asked, IsChoiceAsked}
 use Rattle.pb_answer.specs.Engines.{engine_asked, Left, SearchLeaves, FindsIn}
 
 -- ---- of a search
@@ -51,22 +51,25 @@ journal_outputs_if_any name settings (Some journal) = journal_outputs name setti
 
 -- A search of the task, as the words ask for it, came to a quiet end. It found this plan, which is
 -- the one that its rows lead to, or it found none. What is saved is its certificate and, after
--- that, its journal, each if it has a name. The certificate states the estimate of the words.
+-- that, its journal, each if it has a name. The search went by a choice of an estimate that the
+-- words ask for, and the certificate states it.
 abbrev pub Certifies : (saves : List Output → Type 0) → SolveMeaning → TaskParts → Option Plan
     → Type 0
 Certifies saves solve parts plan =
-    (left : Left) × SearchLeaves (engine_asked solve) parts (settings_of solve) Quiet left
+    (choice : Choice) × IsChoiceAsked solve parts choice × (left : Left)
+    × SearchLeaves (engine_asked solve) parts choice (settings_of solve) Quiet left
     × FindsIn (space_of parts) left plan
     × (outputs : List Output)
-    × IsCertificate solve.certificate parts (choice_asked solve) (weight_asked solve) left.guide
-    left.store plan outputs
+    × IsCertificate solve.certificate parts choice (weight_asked solve) left.guide left.store plan
+    outputs
     × saves (outputs ++ journal_outputs_if_any solve.journal (settings_of solve) left.journal)
 
 -- A search of the task, as the words ask for it, came to the end of its budget. What is saved is
 -- its journal, if it has a name.
 abbrev pub Stops : (saves : List Output → Type 0) → SolveMeaning → TaskParts → Type 0
 Stops saves solve parts =
-    (left : Left) × SearchLeaves (engine_asked solve) parts (settings_of solve) Budget left
+    (choice : Choice) × IsChoiceAsked solve parts choice × (left : Left)
+    × SearchLeaves (engine_asked solve) parts choice (settings_of solve) Budget left
     × saves (journal_outputs_if_any solve.journal (settings_of solve) left.journal)
 
 -- All of one plan: it is printed with its cost and bound and is a plan of the task. Its cost is at

@@ -10,6 +10,7 @@ use Rattle.pb_machine.specs.declared.event.End.{End}
 use Rattle.pb_machine.specs.declared.event.Event.{Event}
 use Rattle.pb_machine.specs.declared.settings.Settings.{Settings}
 use Rattle.pb_task.specs.declared.parts.TaskParts.{TaskParts}
+use Rattle.pb_estimate.specs.Choices.{Choice}
 use Rattle.pb_search.specs.Ends.{searched_guide}
 use Rattle.pb_search.specs.Searches.{SearchEnds}
 use Rattle.pb_owners.specs.Owners.{OwnersValue, guide_in, owners_store}
@@ -31,10 +32,10 @@ pub record Left : Type 0 where
   pub journal : Option (List Event)
 
 -- what a search by leases leaves
-abbrev pub left_by_leases : {parts : TaskParts} {settings : Settings} {end : End}
-    {journal : List Event} → SearchEnds parts settings end journal → Left
-left_by_leases {parts} {settings} {end} {journal} run = record {
-  guide = searched_guide parts run.ends.abstraction settings;
+abbrev pub left_by_leases : {parts : TaskParts} {choice : Choice} {settings : Settings} {end : End}
+    {journal : List Event} → SearchEnds parts choice settings end journal → Left
+left_by_leases {parts} {choice} {settings} {end} {journal} run = record {
+  guide = searched_guide parts run.ends.abstraction choice;
   store = run.ends.run.machine.store;
   journal = Some journal;
 }
@@ -44,13 +45,14 @@ abbrev pub left_by_owners : OwnersValue → Left
 left_by_owners owners =
     record { guide = guide_in owners; store = owners_store owners; journal = None }
 
--- a search of the task by this engine, with these settings, came to this end and left this
-abbrev pub SearchLeaves : Engine → TaskParts → Settings → End → Left → Type 0
-SearchLeaves Leases parts settings end left =
-    (journal : List Event) × (run : SearchEnds parts settings end journal)
+-- a search of the task by this engine and this estimate, with these settings, came to this end and
+-- left this
+abbrev pub SearchLeaves : Engine → TaskParts → Choice → Settings → End → Left → Type 0
+SearchLeaves Leases parts choice settings end left =
+    (journal : List Event) × (run : SearchEnds parts choice settings end journal)
     × (left ≡ left_by_leases run)
-SearchLeaves Owners parts settings end left =
-    (owners : OwnersValue) × LeavesOwners parts settings end owners
+SearchLeaves Owners parts choice settings end left =
+    (owners : OwnersValue) × LeavesOwners parts choice settings end owners
     × (left ≡ left_by_owners owners)
 
 -- The plan is the one that the rows lead to, and costs no more than the incumbent. Without an

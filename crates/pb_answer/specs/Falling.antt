@@ -11,13 +11,14 @@ use Rattle.pb_machine.specs.Machine.{Setup, Machine, Move, opening_machine}
 use Rattle.pb_machine.specs.Lawful.{reopened_machine, reopened_setup}
 use Rattle.pb_task.specs.declared.parts.TaskParts.{TaskParts}
 use Rattle.pb_task.specs.Parts.{space_of}
+use Rattle.pb_estimate.specs.Choices.{Choice}
 use Rattle.pb_abstract.specs.Projection.{IsFinest}
 use Rattle.pb_abstract.specs.Graph.{AbstractGraph, IsGraphOf}
 use Rattle.pb_search.specs.Ends.{search_of, searched_guide, RunEnds}
 use Rattle.pb_falling.specs.Falling.{weight_at, Claim, AreClaims, AfterClaims, HaveWeights, CostsFall}
 use Rattle.pb_report.specs.Texts.{claim_text}
 use Rattle.pb_command.specs.Meaning.{SolveMeaning}
-use Rattle.pb_answer.specs.Searches.{settings_of, choice_asked, weight_asked}
+use Rattle.pb_answer.specs.Searches.{settings_of, weight_asked, IsChoiceAsked}
 use Rattle.pb_answer.specs.Claims.{IsCertificate}
 use Rattle.pb_answer.specs.Answer.{Said}
 use Rattle.pb_answer.specs.Parts.{AnswerPart, outputs_of, report_of}
@@ -39,9 +40,9 @@ asked_of_run solve steps run =
       journal = None;
     }
 
--- the first run: a search of the task by these blocks, as the words ask for it
-abbrev pub first_setup : SolveMeaning → TaskParts → AbstractGraph → Setup
-first_setup solve parts abstraction = search_of parts abstraction (settings_of solve)
+-- the first run: a search of the task by these blocks and this estimate, as the words ask for it
+abbrev pub first_setup : SolveMeaning → TaskParts → AbstractGraph → Choice → Setup
+first_setup solve parts abstraction choice = search_of parts abstraction choice (settings_of solve)
 
 -- ---- the claims
 
@@ -63,15 +64,16 @@ AreOfQuietRuns setup begin (claim ∷ next ∷ claims) =
     (reopened_machine setup next.weight claim.machine) (next ∷ claims)
 
 -- These are the claims of the first runs of a search by leases, as the words ask for it, over these
--- blocks. The weight falls in so many steps, and there is at most one claim more than steps. Each
--- run came to a quiet end. Each claim is at the weight of its run. Its plan is a plan of the task,
--- and no plan costs less than it divided by that weight. The costs never rise.
+-- blocks and by this estimate. The weight falls in so many steps, and there is at most one claim
+-- more than steps. Each run came to a quiet end. Each claim is at the weight of its run. Its plan
+-- is a plan of the task, and no plan costs less than it divided by that weight. The costs never
+-- rise.
 pub record AreFalling (solve : SolveMeaning) (parts : TaskParts) (abstraction : AbstractGraph)
-    (steps : ℕ) (claims : List Claim) : Type 0 where
-  pub are : AreClaims (first_setup solve parts abstraction)
-      (opening_machine (first_setup solve parts abstraction)) None claims
-  pub quiet_runs : AreOfQuietRuns (first_setup solve parts abstraction)
-      (opening_machine (first_setup solve parts abstraction)) claims
+    (choice : Choice) (steps : ℕ) (claims : List Claim) : Type 0 where
+  pub are : AreClaims (first_setup solve parts abstraction choice)
+      (opening_machine (first_setup solve parts abstraction choice)) None claims
+  pub quiet_runs : AreOfQuietRuns (first_setup solve parts abstraction choice)
+      (opening_machine (first_setup solve parts abstraction choice)) claims
   pub few : length claims ≤ steps + 1
   pub weights : HaveWeights (weight_asked solve) steps 0 claims
   pub hold : AllByRecursion (λ claim. IsPlan (space_of parts) claim.plan
@@ -84,12 +86,12 @@ MayBeImproved claim = IsBound claim.weight claim.plan.cost claim.plan.cost → �
 
 -- After these claims a run came to this end. It is asked for by the words as the run of this number.
 -- Earlier runs had spent so much of the budget.
-abbrev pub EndsAfter : SolveMeaning → TaskParts → AbstractGraph → (steps : ℕ) → List Claim → End
-    → Type 0
-EndsAfter solve parts abstraction steps claims end =
+abbrev pub EndsAfter : SolveMeaning → TaskParts → AbstractGraph → Choice → (steps : ℕ)
+    → List Claim → End → Type 0
+EndsAfter solve parts abstraction choice steps claims end =
     let run = length claims in
-    AfterClaims (first_setup solve parts abstraction)
-    (opening_machine (first_setup solve parts abstraction)) None claims
+    AfterClaims (first_setup solve parts abstraction choice)
+    (opening_machine (first_setup solve parts abstraction choice)) None claims
     (weight_at (weight_asked solve) steps run)
     (λ setup begin before. (spent : ℕ) × (moves : List Move)
     × RunEnds setup spent begin end moves
@@ -100,93 +102,95 @@ EndsAfter solve parts abstraction steps claims end =
 -- The part says this claim, that of the run of this number. It is printed with its weight, its plan
 -- and the least whole number that is no less than the plan's cost divided by the weight. The cost
 -- is a number of 64 bits. With a name the certificate of its rows is saved. It has the claim's plan
--- and its weight, states the estimate of the words, and is accepted.
+-- and its weight, states the estimate of the search, and is accepted.
 pub record SaysClaim (solve : SolveMeaning) (parts : TaskParts) (abstraction : AbstractGraph)
-    (steps run : ℕ) (claim : Claim) (part : AnswerPart) : Type 0 where
+    (choice : Choice) (steps run : ℕ) (claim : Claim) (part : AnswerPart) : Type 0 where
   pub bound : ℕ
   pub bounded : IsBound claim.weight claim.plan.cost bound
   pub fits : claim.plan.cost < 2 ^ 64
   pub report : part.report ≡ claim_text parts claim.weight claim.plan bound
-  pub outputs : IsCertificate (asked_of_run solve steps run).certificate parts
-      (choice_asked solve) claim.weight
-      (searched_guide parts abstraction (settings_of solve)) claim.machine.store
-      (Some claim.plan) part.outputs
+  pub outputs : IsCertificate (asked_of_run solve steps run).certificate parts choice claim.weight
+      (searched_guide parts abstraction choice) claim.machine.store (Some claim.plan) part.outputs
 
 -- each part says a claim, in the order of the runs from this number on
-abbrev pub SayClaims : SolveMeaning → TaskParts → AbstractGraph → (steps run : ℕ) → List Claim
-    → List AnswerPart → Type 0
-SayClaims solve parts abstraction steps run [] [] = ⊤
-SayClaims solve parts abstraction steps run [] (part ∷ rest) = ⊥
-SayClaims solve parts abstraction steps run (claim ∷ claims) [] = ⊥
-SayClaims solve parts abstraction steps run (claim ∷ claims) (part ∷ rest) =
-    SaysClaim solve parts abstraction steps run claim part
-    × SayClaims solve parts abstraction steps (run + 1) claims rest
+abbrev pub SayClaims : SolveMeaning → TaskParts → AbstractGraph → Choice → (steps run : ℕ)
+    → List Claim → List AnswerPart → Type 0
+SayClaims solve parts abstraction choice steps run [] [] = ⊤
+SayClaims solve parts abstraction choice steps run [] (part ∷ rest) = ⊥
+SayClaims solve parts abstraction choice steps run (claim ∷ claims) [] = ⊥
+SayClaims solve parts abstraction choice steps run (claim ∷ claims) (part ∷ rest) =
+    SaysClaim solve parts abstraction choice steps run claim part
+    × SayClaims solve parts abstraction choice steps (run + 1) claims rest
 
 -- The part says that there is no plan. It is that of a first run, which came to a quiet end. With a
 -- name the certificate of its rows is saved, which says so too.
-abbrev pub SaysNone : SolveMeaning → TaskParts → AbstractGraph → (steps : ℕ) → AnswerPart → Type 0
-SaysNone solve parts abstraction steps part =
-    let setup = first_setup solve parts abstraction in
+abbrev pub SaysNone : SolveMeaning → TaskParts → AbstractGraph → Choice → (steps : ℕ) → AnswerPart
+    → Type 0
+SaysNone solve parts abstraction choice steps part =
+    let setup = first_setup solve parts abstraction choice in
     HasNoPlan (space_of parts) × (part.report ≡ none_report) × (moves : List Move)
     × (run : RunEnds setup 0 (opening_machine setup) Quiet moves)
-    × IsCertificate (asked_of_run solve steps 0).certificate parts (choice_asked solve)
-    (weight_asked solve) (searched_guide parts abstraction (settings_of solve)) run.machine.store
-    None part.outputs
+    × IsCertificate (asked_of_run solve steps 0).certificate parts choice (weight_asked solve)
+    (searched_guide parts abstraction choice) run.machine.store None part.outputs
 
 -- The part says that the budget was used up, by all runs together. Nothing is saved.
-abbrev pub SaysStop : SolveMeaning → TaskParts → AbstractGraph → (steps : ℕ) → List Claim
+abbrev pub SaysStop : SolveMeaning → TaskParts → AbstractGraph → Choice → (steps : ℕ) → List Claim
     → AnswerPart → Type 0
-SaysStop solve parts abstraction steps claims part =
-    EndsAfter solve parts abstraction steps claims Budget
+SaysStop solve parts abstraction choice steps claims part =
+    EndsAfter solve parts abstraction choice steps claims Budget
     × (part.report ≡ stopped_report solve.settings.budget) × (part.outputs ≡ [])
 
 -- ---- all that is handed out of one search
 
 -- Each part says a claim. The bound of the last one is its cost, so no plan of the task is cheaper.
 -- Of no claim before it is the bound the cost.
-abbrev pub IsProvedCheapest : SolveMeaning → TaskParts → AbstractGraph → (steps : ℕ)
+abbrev pub IsProvedCheapest : SolveMeaning → TaskParts → AbstractGraph → Choice → (steps : ℕ)
     → List AnswerPart → Type 0
-IsProvedCheapest solve parts abstraction steps handed_out =
+IsProvedCheapest solve parts abstraction choice steps handed_out =
     (claims : List Claim) × (last : Claim)
-    × AreFalling solve parts abstraction steps (claims ++ last ∷ [])
-    × SayClaims solve parts abstraction steps 0 (claims ++ last ∷ []) handed_out
+    × AreFalling solve parts abstraction choice steps (claims ++ last ∷ [])
+    × SayClaims solve parts abstraction choice steps 0 (claims ++ last ∷ []) handed_out
     × AllByRecursion MayBeImproved claims
     × IsBound last.weight last.plan.cost last.plan.cost
     × ((plan : Plan) → IsPlan (space_of parts) plan → last.plan.cost ≤ plan.cost)
 
 -- The one part says that there is no plan.
-abbrev pub IsFallingNone : SolveMeaning → TaskParts → AbstractGraph → (steps : ℕ) → List AnswerPart
-    → Type 0
-IsFallingNone solve parts abstraction steps handed_out =
-    (part : AnswerPart) × SaysNone solve parts abstraction steps part × (handed_out ≡ part ∷ [])
+abbrev pub IsFallingNone : SolveMeaning → TaskParts → AbstractGraph → Choice → (steps : ℕ)
+    → List AnswerPart → Type 0
+IsFallingNone solve parts abstraction choice steps handed_out =
+    (part : AnswerPart) × SaysNone solve parts abstraction choice steps part
+    × (handed_out ≡ part ∷ [])
 
 -- Each part but the last says a claim, of none of which the bound is the cost. The last one says
 -- that the budget was used up.
-abbrev pub IsFallingStop : SolveMeaning → TaskParts → AbstractGraph → (steps : ℕ) → List AnswerPart
-    → Type 0
-IsFallingStop solve parts abstraction steps handed_out =
+abbrev pub IsFallingStop : SolveMeaning → TaskParts → AbstractGraph → Choice → (steps : ℕ)
+    → List AnswerPart → Type 0
+IsFallingStop solve parts abstraction choice steps handed_out =
     (claims : List Claim) × (said : List AnswerPart) × (last : AnswerPart)
-    × AreFalling solve parts abstraction steps claims
-    × SayClaims solve parts abstraction steps 0 claims said
+    × AreFalling solve parts abstraction choice steps claims
+    × SayClaims solve parts abstraction choice steps 0 claims said
     × AllByRecursion MayBeImproved claims
-    × SaysStop solve parts abstraction steps claims last
+    × SaysStop solve parts abstraction choice steps claims last
     × (handed_out ≡ said ++ last ∷ [])
 
 -- What is handed out first, before it is known what comes after it: each part says a claim, and of
 -- none is the bound the cost, so another run is due. The blocks are those of the task, and the
--- finest that are no more than the words wish for.
+-- finest that are no more than the words wish for. The estimate is one that the words ask for.
 pub record AreClaimParts (solve : SolveMeaning) (parts : TaskParts) (steps : ℕ)
     (handed_out : List AnswerPart) : Type 0 where
   pub abstraction : AbstractGraph
   pub graph_of : IsGraphOf parts abstraction
   pub finest : IsFinest parts solve.settings.wish abstraction.projection
+  pub choice : Choice
+  pub asked : IsChoiceAsked solve parts choice
   pub claims : List Claim
-  pub falling : AreFalling solve parts abstraction steps claims
-  pub say : SayClaims solve parts abstraction steps 0 claims handed_out
+  pub falling : AreFalling solve parts abstraction choice steps claims
+  pub say : SayClaims solve parts abstraction choice steps 0 claims handed_out
   pub improvable : AllByRecursion MayBeImproved claims
 
 -- All that is handed out of a search with falling weights, part by part, if nothing fails. The
--- blocks are those of the task, and the finest that are no more than the words wish for.
+-- blocks are those of the task, and the finest that are no more than the words wish for. All runs
+-- go by one estimate that the words ask for.
 pub record IsFallingFound (solve : SolveMeaning) (parts : TaskParts) (steps : ℕ) (said : Said)
     (handed_out : List AnswerPart) : Type 0 where
   pub report : said.report ≡ report_of handed_out
@@ -194,6 +198,8 @@ pub record IsFallingFound (solve : SolveMeaning) (parts : TaskParts) (steps : �
   pub abstraction : AbstractGraph
   pub graph_of : IsGraphOf parts abstraction
   pub finest : IsFinest parts solve.settings.wish abstraction.projection
-  pub found : ((said.status ≡ 0) × IsProvedCheapest solve parts abstraction steps handed_out)
-      ⊎ (((said.status ≡ 1) × IsFallingNone solve parts abstraction steps handed_out)
-      ⊎ ((said.status ≡ 2) × IsFallingStop solve parts abstraction steps handed_out))
+  pub choice : Choice
+  pub asked : IsChoiceAsked solve parts choice
+  pub found : ((said.status ≡ 0) × IsProvedCheapest solve parts abstraction choice steps handed_out)
+      ⊎ (((said.status ≡ 1) × IsFallingNone solve parts abstraction choice steps handed_out)
+      ⊎ ((said.status ≡ 2) × IsFallingStop solve parts abstraction choice steps handed_out))

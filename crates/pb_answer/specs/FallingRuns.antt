@@ -21,7 +21,7 @@ use Rattle.pb_cert.specs.Found.{IsPlanOf}
 use Rattle.pb_check.specs.Spelling.{PlanFits, PlanFitsIfAny}
 use Rattle.pb_falling.specs.Falling.{weight_at, kept_plan, Claim, AfterClaims, HaveWeights}
 use Rattle.pb_command.specs.Meaning.{SolveMeaning, IsFallingInRange}
-use Rattle.pb_answer.specs.Searches.{settings_of, choice_asked, weight_asked}
+use Rattle.pb_answer.specs.Searches.{settings_of, weight_asked, IsChoiceAsked}
 use Rattle.pb_answer.specs.Answer.{Said}
 use Rattle.pb_answer.specs.Parts.{AnswerPart}
 use Rattle.pb_answer.specs.Falling.{asked_of_run, first_setup, AreOfQuietRuns, AreFalling, MayBeImproved, SaysClaim, SaysNone, SaysStop}
@@ -43,6 +43,11 @@ weight_now search = weight_at (weight_asked search.solve) search.steps search.ru
 -- what the run's states are looked up by
 abbrev pub guide_in : GraphValue → Guide
 guide_in graph = guide_of graph.task graph.table.abstraction graph.choice
+
+-- the first run of the search, by the blocks and the choice of its graph
+abbrev pub setup_asked : FallingValue → Setup
+setup_asked search =
+    first_setup search.solve search.parts search.graph.table.abstraction search.graph.choice
 
 -- what is claimed after the run, with this plan, if the run came to this machine
 abbrev pub claim_now : FallingValue → Machine → Plan → Claim
@@ -82,13 +87,9 @@ pub record IsFalling (before : List Claim) (machine : Machine) (search : Falling
     pub count : length before ≡ search.run
     pub weights : HaveWeights (weight_asked search.solve) search.steps 0 before
     pub improvable : AllByRecursion MayBeImproved before
-    pub quiet_runs : AreOfQuietRuns
-        (first_setup search.solve search.parts search.graph.table.abstraction)
-        (opening_machine
-        (first_setup search.solve search.parts search.graph.table.abstraction)) before
-    pub runs : AfterClaims (first_setup search.solve search.parts search.graph.table.abstraction)
-        (opening_machine
-        (first_setup search.solve search.parts search.graph.table.abstraction)) None before
+    pub quiet_runs : AreOfQuietRuns (setup_asked search) (opening_machine (setup_asked search))
+        before
+    pub runs : AfterClaims (setup_asked search) (opening_machine (setup_asked search)) None before
         (weight_now search) (IsRunOf search machine)
     -- the graph
     pub lawful : IsLeaseGraph search.graph
@@ -96,7 +97,7 @@ pub record IsFalling (before : List Claim) (machine : Machine) (search : Falling
     pub graph_of : IsGraphOf search.parts search.graph.table.abstraction
     pub finest : IsFinest search.parts search.solve.settings.wish
         search.graph.table.abstraction.projection
-    pub choice : search.graph.choice ≡ choice_asked search.solve
+    pub asked : IsChoiceAsked search.solve search.parts search.graph.choice
     pub settings : search.graph.table.settings
         ≡ settings_of (asked_of_run search.solve search.steps search.run)
     pub reopenings : search.graph.table.past.reopenings ≡ search.run
@@ -130,38 +131,41 @@ part_of said = record { outputs = said.outputs; report = said.report }
 abbrev pub SaysClaimNow : List Claim → Machine → FallingValue → Said → Type 0
 SaysClaimNow before machine search said =
     let abstraction = search.graph.table.abstraction in
+    let choice = search.graph.choice in
     (plan : Plan) × (search.plan ≡ Some plan) × (said.status ≡ 0)
-    × SaysClaim search.solve search.parts abstraction search.steps search.run
+    × SaysClaim search.solve search.parts abstraction choice search.steps search.run
     (claim_now search machine plan) (part_of said)
-    × AreFalling search.solve search.parts abstraction search.steps
+    × AreFalling search.solve search.parts abstraction choice search.steps
     (before ++ claim_now search machine plan ∷ [])
 
 -- that there is no plan, after the first run
 abbrev pub SaysNoneNow : List Claim → FallingValue → Said → Type 0
 SaysNoneNow before search said =
     (search.plan ≡ None) × (before ≡ []) × (said.status ≡ 1)
-    × SaysNone search.solve search.parts search.graph.table.abstraction search.steps
-    (part_of said)
+    × SaysNone search.solve search.parts search.graph.table.abstraction search.graph.choice
+    search.steps (part_of said)
 
 -- that the budget was used up, after the claims before
 abbrev pub SaysStopNow : List Claim → FallingValue → Said → Type 0
 SaysStopNow before search said =
     let abstraction = search.graph.table.abstraction in
+    let choice = search.graph.choice in
     (search.plan ≡ None) × (said.status ≡ 2)
-    × SaysStop search.solve search.parts abstraction search.steps before (part_of said)
-    × AreFalling search.solve search.parts abstraction search.steps before
+    × SaysStop search.solve search.parts abstraction choice search.steps before (part_of said)
+    × AreFalling search.solve search.parts abstraction choice search.steps before
 
 abbrev pub SaysNow : List Claim → Machine → FallingValue → Said → Type 0
 SaysNow before machine search said =
     SaysClaimNow before machine search said
     ⊎ (SaysNoneNow before search said ⊎ SaysStopNow before search said)
 
--- The next run of the same search was made, over the same blocks: the one run in hand is a claim of
--- those before it now, and the new one is the run in hand.
+-- The next run of the same search was made, over the same blocks and by the same estimate: the one
+-- run in hand is a claim of those before it now, and the new one is the run in hand.
 pub record GoesOn (before : List Claim) (machine : Machine) (search next : FallingValue) : Type 0
   where
     pub plan : Plan
     pub plan_is : search.plan ≡ Some plan
     pub last : Machine
     pub blocks : next.graph.table.abstraction ≡ search.graph.table.abstraction
+    pub choice : next.graph.choice ≡ search.graph.choice
     pub falling : IsFalling (before ++ claim_now search machine plan ∷ []) last next

@@ -1,10 +1,16 @@
 -- What the words ask a search to be run with. What it means that a search came to an end is in
 -- `Searches` of `pb_search`; what it found is in `Found` of `pb_cert`.
+use Rattle.std.specs.Prelude.{◌≡◌, ◌⊎◌, ℕ, Option, None, Some, true}
 use Rattle.pb_model.specs.Weight.{Weight}
 use Rattle.pb_machine.specs.declared.settings.Settings.{Settings}
 use Rattle.pb_machine.specs.Settings.{weight_of}
-use Rattle.pb_estimate.specs.Choices.{Choice}
-use Rattle.pb_search.specs.Ends.{choice_of}
+use Rattle.pb_task.specs.declared.parts.TaskParts.{TaskParts}
+use Rattle.pb_task.specs.declared.parts.TaskParts.TheVariants as parts
+use Rattle.pb_task.specs.declared.parts.StripsParts.{StripsParts}
+use Rattle.pb_tables.specs.Tables.{TablesValue, AreTables}
+use Rattle.pb_tables.specs.Suits.{suit}
+use Rattle.pb_finder.specs.Sizes.{ListFewImages}
+use Rattle.pb_estimate.specs.Choices.{Choice, Plain, Tables, choice_with}
 use Rattle.pb_command.specs.Meaning.{SolveMeaning}
 
 -- Each setting is as the words give it, or its default.
@@ -15,7 +21,25 @@ settings_of solve = solve.settings
 abbrev pub weight_asked : SolveMeaning → Weight
 weight_asked solve = weight_of (settings_of solve)
 
--- the choice of an estimate by which the words ask to search: the plain one, or that of the pattern
--- database with the words' number
-abbrev pub choice_asked : SolveMeaning → Choice
-choice_asked solve = choice_of (settings_of solve)
+-- ---- the choice of an estimate
+
+-- Tables were looked for: the choice is the plain one, or that of lawful tables that suit the task,
+-- of which none lists too many images.
+abbrev pub IsFoundFor : StripsParts → Choice → Type 0
+IsFoundFor strips choice =
+    (choice ≡ Plain)
+    ⊎ ((tables : TablesValue) × (choice ≡ Tables tables) × AreTables tables
+    × (suit strips tables ≡ true) × ListFewImages tables)
+
+-- With an effort, tables are looked for of a STRIPS task. Else the choice is the plain one, or that
+-- of the pattern database with this number.
+abbrev pub IsChoiceFor : (effort : Option ℕ) → (pattern : ℕ) → TaskParts → Choice → Type 0
+IsChoiceFor None pattern task choice = choice ≡ choice_with pattern
+IsChoiceFor (Some effort) pattern (parts.Grid grid) choice = choice ≡ choice_with pattern
+IsChoiceFor (Some effort) pattern (parts.Tiles tiles) choice = choice ≡ choice_with pattern
+IsChoiceFor (Some effort) pattern (parts.Strips strips) choice = IsFoundFor strips choice
+
+-- this is a choice of an estimate by which the words ask to search the task
+abbrev pub IsChoiceAsked : SolveMeaning → TaskParts → Choice → Type 0
+IsChoiceAsked solve task choice =
+    IsChoiceFor solve.effort (settings_of solve).pattern task choice

@@ -5,9 +5,9 @@ ghost use Rattle.pb_task.specs.Parts.{space_of};
 ghost use Rattle.pb_lists.specs.Store.{store_with, IsQuietEnd};
 ghost use Rattle.pb_command.specs.Meaning.{IsInRange, Solve};
 ghost use Rattle.pb_command.specs.Causes.{solve_meant};
-ghost use Rattle.pb_answer.specs.Searches.{choice_asked, weight_asked};
+ghost use Rattle.pb_answer.specs.Searches.{weight_asked, IsChoiceAsked};
 ghost use Rattle.pb_answer.specs.Named.{NamesTell};
-ghost use Rattle.pb_answer.specs.Ended.{guide_asked, LeavesQuietRows, CanBeCertified};
+ghost use Rattle.pb_answer.specs.Ended.{guide_by, LeavesQuietRows, CanBeCertified};
 ghost use Rattle.pb_answer.specs.Claims.{IsCertificate, Stops};
 ghost use Rattle.pb_answer.specs.Answer.{IsSolved, IsUnsolvable, IsStopped, certificates_of, journals_of, said_of};
 
@@ -46,6 +46,7 @@ pub fn report_stop<'a>(
 pub fn report_end<'a, S: Store>(
     alloc: Global,
     task: &Task,
+    choice: &Choice,
     solve: &SolveCommand<'a>,
     store: &'a S,
     journal: Option<SavedJournal<'a>>,
@@ -53,7 +54,7 @@ pub fn report_end<'a, S: Store>(
     requires range { IsInRange (Solve (solve_meant solve.now)) }
     requires whole { S.is_whole store.now }
     requires of_task { S.is_of store.now (space_of task.now) }
-    requires quiet { LeavesQuietRows (solve_meant solve.now) task.now (S.home store.now)
+    requires quiet { LeavesQuietRows (solve_meant solve.now) task.now choice.now (S.home store.now)
         (store_with (S.rows store.now) (S.weight store.now) (S.incumbent store.now))
         (journals_of journal) }
     requires names { NamesTell task.now }
@@ -61,8 +62,8 @@ pub fn report_end<'a, S: Store>(
         ⊎ IsUnsolvable (solve_meant solve.now) task.now (said_of a)) }
 {
     match store.incumbent() {
-        Some(_) => report_plan(alloc, task, solve, store, journal),
-        None => report_none(alloc, task, solve, store, journal),
+        Some(_) => report_plan(alloc, task, choice, solve, store, journal),
+        None => report_none(alloc, task, choice, solve, store, journal),
     }
 }
 
@@ -70,6 +71,7 @@ pub fn report_end<'a, S: Store>(
 fn report_plan<'a, S: Store>(
     alloc: Global,
     task: &Task,
+    choice: &Choice,
     solve: &SolveCommand<'a>,
     store: &'a S,
     journal: Option<SavedJournal<'a>>,
@@ -77,7 +79,7 @@ fn report_plan<'a, S: Store>(
     requires range { IsInRange (Solve (solve_meant solve.now)) }
     requires whole { S.is_whole store.now }
     requires of_task { S.is_of store.now (space_of task.now) }
-    requires quiet { LeavesQuietRows (solve_meant solve.now) task.now (S.home store.now)
+    requires quiet { LeavesQuietRows (solve_meant solve.now) task.now choice.now (S.home store.now)
         (store_with (S.rows store.now) (S.weight store.now) (S.incumbent store.now))
         (journals_of journal) }
     requires names { NamesTell task.now }
@@ -89,7 +91,7 @@ fn report_plan<'a, S: Store>(
     let plan = trace(alloc, task, store)?;
     let bound = bound_of(solve.settings.num, solve.settings.den, plan.cost());
     let report = Report::of_plan(alloc, task, &plan, bound)?;
-    let certificate = certify(alloc, task, solve, Some(plan), store)?;
+    let certificate = certify(alloc, task, choice, solve, Some(plan), store)?;
     Ok(Answer {
         status: Status::Success,
         report,
@@ -103,20 +105,21 @@ fn report_plan<'a, S: Store>(
 fn report_none<'a, S: Store>(
     alloc: Global,
     task: &Task,
+    choice: &Choice,
     solve: &SolveCommand<'a>,
     store: &'a S,
     journal: Option<SavedJournal<'a>>,
 ) -> Result<Answer<'a>, AllocError>
     requires range { IsInRange (Solve (solve_meant solve.now)) }
     requires whole { S.is_whole store.now }
-    requires quiet { LeavesQuietRows (solve_meant solve.now) task.now (S.home store.now)
+    requires quiet { LeavesQuietRows (solve_meant solve.now) task.now choice.now (S.home store.now)
         (store_with (S.rows store.now) (S.weight store.now) (S.incumbent store.now))
         (journals_of journal) }
     requires none { S.incumbent store.now ≡ None }
     ensures { IfOk result (λ a. IsUnsolvable (solve_meant solve.now) task.now (said_of a)) }
 {
     let report = Report::of_no_plan(alloc)?;
-    let certificate = certify(alloc, task, solve, None, store)?;
+    let certificate = certify(alloc, task, choice, solve, None, store)?;
     Ok(Answer {
         status: Status::NoPlan,
         report,
@@ -126,25 +129,27 @@ fn report_none<'a, S: Store>(
     })
 }
 
-// The certificate with this plan or with none, if it has a name.
+// The certificate with this plan or with none, if it has a name. It states this choice of an
+// estimate.
 pub(crate) fn certify<'a, S: Store>(
     alloc: Global,
     task: &Task,
+    choice: &Choice,
     solve: &SolveCommand<'a>,
     plan: Option<Plan>,
     store: &'a S,
 ) -> Result<Option<SavedCertificate<'a>>, AllocError>
     requires range { IsInRange (Solve (solve_meant solve.now)) }
+    requires asked { IsChoiceAsked (solve_meant solve.now) task.now choice.now }
     requires whole { S.is_whole store.now }
     requires end { IsQuietEnd (space_of task.now)
-        (guide_asked (solve_meant solve.now) task.now (S.home store.now))
+        (guide_by task.now choice.now (S.home store.now))
         (store_with (S.rows store.now) (S.weight store.now) (S.incumbent store.now)) }
     requires weight { S.weight store.now ≡ weight_asked (solve_meant solve.now) }
     ensures { IfOk result (λ saved. CanBeCertified task.now
         (store_with (S.rows store.now) (S.weight store.now) (S.incumbent store.now)) plan
-        → IsCertificate (solve_meant solve.now).certificate task.now
-        (choice_asked (solve_meant solve.now)) (weight_asked (solve_meant solve.now))
-        (guide_asked (solve_meant solve.now) task.now (S.home store.now))
+        → IsCertificate (solve_meant solve.now).certificate task.now choice.now
+        (weight_asked (solve_meant solve.now)) (guide_by task.now choice.now (S.home store.now))
         (store_with (S.rows store.now) (S.weight store.now) (S.incumbent store.now)) plan
         (certificates_of saved)) }
 {
@@ -152,7 +157,8 @@ pub(crate) fn certify<'a, S: Store>(
     let _lawful = task.max_degree();
     match solve.certificate {
         Some(name) => {
-            let spelling = Spelling::of(task, Choice::with(solve.settings.pattern));
+            let stated = choice.clone()?;
+            let spelling = Spelling::of(task, stated);
             let certificate = Certificate::of(alloc, spelling, plan, store)?;
             let text = CertificateText::Found(certificate);
             Ok(Some(SavedCertificate { name, text }))

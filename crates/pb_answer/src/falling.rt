@@ -18,6 +18,7 @@ ghost use Rattle.pb_answer.specs.Falling.{asked_of_run};
 ghost use Rattle.pb_answer.specs.FallingRuns.{guide_in, weight_now, KeepsPlan, IsFalling, IsAfterRun, IsLast, SaysNow, SaysClaimNow, SaysNoneNow, SaysStopNow, GoesOn};
 
 use crate::answer::Answer;
+use crate::choosing::choice_for;
 use crate::ended::{bound_of, certify};
 use crate::kept::{claimed_plan, copy_plan, numbered_name, numerator_at};
 use crate::status::Status;
@@ -71,8 +72,8 @@ impl<'a> Model for FallingSearch<'a> {
 }
 
 impl<'a> FallingSearch<'a> {
-    /// Searches a task by leases, for the first time, at the weight of the words. An error is out of
-    /// memory.
+    /// Searches a task by leases, for the first time, at the weight and by the estimate that the
+    /// words ask for. An error is out of memory.
     pub fn start<R: Threads + Wait + Sync, G: Gate>(
         rt: &R,
         alloc: Global,
@@ -87,7 +88,8 @@ impl<'a> FallingSearch<'a> {
         ensures run { IfOk result (λ s. s.run ≡ 0) }
         ensures falling { IfOk result (λ s. (machine : Machine) × IsFalling [] machine s) }
     {
-        let graph = search(rt, alloc, task, falling.solve.settings, gate)?;
+        let choice = choice_for(alloc, task, &falling.solve)?;
+        let graph = search(rt, alloc, task, choice, falling.solve.settings, gate)?;
         // Called for its clause `lawful`: the proof asks for a lawful graph.
         let _lawful = graph.abstraction();
         let task = Arc::clone(task)?;
@@ -216,6 +218,7 @@ impl<'a> FallingSearch<'a> {
             options: self.solve.options,
             settings: *self.graph.settings(),
             engine: self.solve.engine,
+            effort: self.solve.effort,
             certificate: self.name.as_deref(),
             journal: None,
         }
@@ -245,7 +248,14 @@ impl<'a> FallingSearch<'a> {
         let report = Report::of_claim(alloc, settings.num, settings.den, &self.task, plan, bound)?;
         // The certificate owns its plan, and the search keeps one for the next claim.
         let stated = copy_plan(alloc, plan)?;
-        let certificate = certify(alloc, &self.task, &words, Some(stated), &self.graph)?;
+        let certificate = certify(
+            alloc,
+            &self.task,
+            self.graph.choice(),
+            &words,
+            Some(stated),
+            &self.graph,
+        )?;
         Ok(Answer {
             status: Status::Success,
             report,
@@ -265,7 +275,14 @@ impl<'a> FallingSearch<'a> {
     {
         let words = self.words();
         let report = Report::of_no_plan(alloc)?;
-        let certificate = certify(alloc, &self.task, &words, None, &self.graph)?;
+        let certificate = certify(
+            alloc,
+            &self.task,
+            self.graph.choice(),
+            &words,
+            None,
+            &self.graph,
+        )?;
         Ok(Answer {
             status: Status::NoPlan,
             report,

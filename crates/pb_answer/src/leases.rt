@@ -4,8 +4,9 @@ ghost use Rattle.std.specs.Arc.{arc_value};
 ghost use Rattle.pb_search.specs.Searches.{LeavesQuiet, LeavesStopped};
 ghost use Rattle.pb_command.specs.declared.command.Engine.TheVariants.{Leases};
 ghost use Rattle.pb_command.specs.Meaning.{IsInRange, Solve};
+ghost use Rattle.pb_estimate.specs.Choices.{Choice};
 ghost use Rattle.pb_command.specs.Causes.{solve_meant};
-ghost use Rattle.pb_answer.specs.Searches.{settings_of};
+ghost use Rattle.pb_answer.specs.Searches.{settings_of, IsChoiceAsked};
 ghost use Rattle.pb_answer.specs.Named.{NamesTell};
 ghost use Rattle.pb_answer.specs.Engines.{engine_asked};
 ghost use Rattle.pb_answer.specs.Claims.{journal_outputs};
@@ -15,6 +16,7 @@ use crate::answer::{Answer, SavedJournal};
 use crate::ended::{report_end, report_stop};
 use crate::store::{SearchedStore, keep_leases};
 use pb_command::SolveCommand;
+use pb_estimate::Choice;
 use pb_lease::LeaseGraph;
 use pb_machine::End;
 use pb_outside::Gate;
@@ -24,28 +26,32 @@ use std::alloc::{AllocError, Global};
 use std::sync::{Arc, Wait};
 use std::thread::Threads;
 
-/// Searches a task by leases, as the words ask. One worker waits for nobody, and more have a thread
-/// each. An error is out of memory.
+/// Searches a task by leases, as the words ask and by this choice of an estimate. One worker waits
+/// for nobody, and more have a thread each. An error is out of memory.
 pub fn solve_by_leases<'a, R: Threads + Wait + Sync, G: Gate>(
     rt: &R,
     alloc: Global,
     task: &Arc<Task>,
+    choice: &Choice,
     solve: SolveCommand<'a>,
     gate: &G,
     kept: &'a mut Option<SearchedStore>,
 ) -> Result<Answer<'a>, AllocError>
     requires range { IsInRange (Solve (solve_meant solve)) }
     requires engine { engine_asked (solve_meant solve) ≡ Leases }
+    requires asked { IsChoiceAsked (solve_meant solve) (arc_value task.now) choice.now }
     requires names { NamesTell (arc_value task.now) }
     ensures { IfOk result (λ a. IsFound (solve_meant solve.entry) (arc_value task.now)
         (said_of a)) }
 {
     let settings = solve.settings;
-    let graph = search(rt, alloc, task, settings, gate)?;
+    // The search keeps a choice of its own.
+    let searched = choice.clone()?;
+    let graph = search(rt, alloc, task, searched, settings, gate)?;
     // The caller keeps the graph, since the answer borrows it.
     let graph = keep_leases(kept, graph);
     match graph.end() {
-        Some(End::Quiet) => answer_end(alloc, task, &solve, graph),
+        Some(End::Quiet) => answer_end(alloc, task, choice, &solve, graph),
         Some(End::Budget) => answer_stop(alloc, task, &solve, graph),
         // `search` gives no other end: that memory ran out is its error.
         Some(End::Memory) | None => unreachable!(),
@@ -56,18 +62,21 @@ pub fn solve_by_leases<'a, R: Threads + Wait + Sync, G: Gate>(
 fn answer_end<'a>(
     alloc: Global,
     task: &Task,
+    choice: &Choice,
     solve: &SolveCommand<'a>,
     graph: &'a LeaseGraph,
 ) -> Result<Answer<'a>, AllocError>
     requires range { IsInRange (Solve (solve_meant solve.now)) }
     requires engine { engine_asked (solve_meant solve.now) ≡ Leases }
-    requires quiet { LeavesQuiet task.now (settings_of (solve_meant solve.now)) graph.now }
+    requires asked { IsChoiceAsked (solve_meant solve.now) task.now choice.now }
+    requires quiet { LeavesQuiet task.now choice.now (settings_of (solve_meant solve.now))
+        graph.now }
     requires names { NamesTell task.now }
     ensures { IfOk result (λ a. IsSolved (solve_meant solve.now) task.now (said_of a)
         ⊎ IsUnsolvable (solve_meant solve.now) task.now (said_of a)) }
 {
     let journal = save_journal(solve, graph);
-    report_end(alloc, task, solve, graph, journal)
+    report_end(alloc, task, choice, solve, graph, journal)
 }
 
 // The budget was used up.
@@ -78,7 +87,8 @@ fn answer_stop<'a>(
     graph: &'a LeaseGraph,
 ) -> Result<Answer<'a>, AllocError>
     requires engine { engine_asked (solve_meant solve.now) ≡ Leases }
-    requires stopped { LeavesStopped task.now (settings_of (solve_meant solve.now)) graph.now }
+    requires stopped { (choice : Choice) × IsChoiceAsked (solve_meant solve.now) task.now choice
+        × LeavesStopped task.now choice (settings_of (solve_meant solve.now)) graph.now }
     ensures { IfOk result (λ a. IsStopped (solve_meant solve.now) task.now (said_of a)) }
 {
     let journal = save_journal(solve, graph);

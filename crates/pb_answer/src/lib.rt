@@ -7,6 +7,7 @@ mod answer;
 mod begin;
 mod check;
 mod checking;
+mod choosing;
 mod ended;
 mod falling;
 mod input;

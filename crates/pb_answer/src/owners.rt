@@ -5,8 +5,9 @@ ghost use Rattle.pb_machine.specs.declared.event.End.TheVariants.{Quiet, Budget}
 ghost use Rattle.pb_owners.specs.Leaves.{LeavesOwners};
 ghost use Rattle.pb_command.specs.declared.command.Engine.TheVariants.{Owners as ByOwners};
 ghost use Rattle.pb_command.specs.Meaning.{IsInRange, Solve};
+ghost use Rattle.pb_estimate.specs.Choices.{Choice};
 ghost use Rattle.pb_command.specs.Causes.{solve_meant};
-ghost use Rattle.pb_answer.specs.Searches.{settings_of};
+ghost use Rattle.pb_answer.specs.Searches.{settings_of, IsChoiceAsked};
 ghost use Rattle.pb_answer.specs.Named.{NamesTell};
 ghost use Rattle.pb_answer.specs.Engines.{engine_asked};
 ghost use Rattle.pb_answer.specs.Answer.{IsFound, IsSolved, IsUnsolvable, IsStopped, said_of};
@@ -15,6 +16,7 @@ use crate::answer::Answer;
 use crate::ended::{report_end, report_stop};
 use crate::store::{SearchedStore, keep_owners};
 use pb_command::SolveCommand;
+use pb_estimate::Choice;
 use pb_machine::End;
 use pb_outside::Gate;
 use pb_owners::{Owners, search_by_owners};
@@ -23,28 +25,32 @@ use std::alloc::{AllocError, Global};
 use std::sync::{Arc, Wait};
 use std::thread::Threads;
 
-/// Searches a task by owners, as the words ask: as many as there are workers, each in a thread of
-/// its own. There is no journal. An error is out of memory.
+/// Searches a task by owners, as the words ask and by this choice of an estimate. There are as many
+/// owners as workers, each in a thread of its own. There is no journal. An error is out of memory.
 pub fn solve_by_owners<'a, R: Threads + Wait + Sync, G: Gate>(
     rt: &R,
     alloc: Global,
     task: &Arc<Task>,
+    choice: &Choice,
     solve: SolveCommand<'a>,
     gate: &G,
     kept: &'a mut Option<SearchedStore>,
 ) -> Result<Answer<'a>, AllocError>
     requires range { IsInRange (Solve (solve_meant solve)) }
     requires engine { engine_asked (solve_meant solve) ≡ ByOwners }
+    requires asked { IsChoiceAsked (solve_meant solve) (arc_value task.now) choice.now }
     requires names { NamesTell (arc_value task.now) }
     ensures { IfOk result (λ a. IsFound (solve_meant solve.entry) (arc_value task.now)
         (said_of a)) }
 {
     let settings = solve.settings;
-    let (end, owners) = search_by_owners(rt, alloc, task, settings, gate)?;
+    // The search keeps a choice of its own.
+    let searched = choice.clone()?;
+    let (end, owners) = search_by_owners(rt, alloc, task, searched, settings, gate)?;
     // The caller keeps the owners, since the answer borrows them.
     let owners = keep_owners(kept, owners);
     match end {
-        End::Quiet => answer_end(alloc, task, &solve, owners),
+        End::Quiet => answer_end(alloc, task, choice, &solve, owners),
         End::Budget => answer_stop(alloc, task, &solve, owners),
         // That memory ran out is an error of the search.
         End::Memory => unreachable!(),
@@ -55,17 +61,20 @@ pub fn solve_by_owners<'a, R: Threads + Wait + Sync, G: Gate>(
 fn answer_end<'a>(
     alloc: Global,
     task: &Task,
+    choice: &Choice,
     solve: &SolveCommand<'a>,
     owners: &'a Owners,
 ) -> Result<Answer<'a>, AllocError>
     requires range { IsInRange (Solve (solve_meant solve.now)) }
     requires engine { engine_asked (solve_meant solve.now) ≡ ByOwners }
-    requires quiet { LeavesOwners task.now (settings_of (solve_meant solve.now)) Quiet owners.now }
+    requires asked { IsChoiceAsked (solve_meant solve.now) task.now choice.now }
+    requires quiet { LeavesOwners task.now choice.now (settings_of (solve_meant solve.now)) Quiet
+        owners.now }
     requires names { NamesTell task.now }
     ensures { IfOk result (λ a. IsSolved (solve_meant solve.now) task.now (said_of a)
         ⊎ IsUnsolvable (solve_meant solve.now) task.now (said_of a)) }
 {
-    report_end(alloc, task, solve, owners, None)
+    report_end(alloc, task, choice, solve, owners, None)
 }
 
 // The budget was used up.
@@ -76,8 +85,8 @@ fn answer_stop<'a>(
     _owners: &'a Owners,
 ) -> Result<Answer<'a>, AllocError>
     requires engine { engine_asked (solve_meant solve.now) ≡ ByOwners }
-    requires stopped { LeavesOwners task.now (settings_of (solve_meant solve.now)) Budget
-        _owners.now }
+    requires stopped { (choice : Choice) × IsChoiceAsked (solve_meant solve.now) task.now choice
+        × LeavesOwners task.now choice (settings_of (solve_meant solve.now)) Budget _owners.now }
     ensures { IfOk result (λ a. IsStopped (solve_meant solve.now) task.now (said_of a)) }
 {
     report_stop(alloc, task, solve, None)

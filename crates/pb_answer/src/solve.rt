@@ -6,6 +6,7 @@ ghost use Rattle.pb_answer.specs.Named.{NamesTell};
 ghost use Rattle.pb_answer.specs.Answer.{IsFound, said_of};
 
 use crate::answer::Answer;
+use crate::choosing::choice_for;
 use crate::leases::solve_by_leases;
 use crate::owners::solve_by_owners;
 use crate::store::SearchedStore;
@@ -16,9 +17,9 @@ use std::alloc::{AllocError, Global};
 use std::sync::{Arc, Wait};
 use std::thread::Threads;
 
-/// Searches a task as the words ask. It makes the report and, for each that has a name, the
-/// certificate and the journal. The rows are kept in `kept`: certificate and journal borrow them.
-/// An error is out of memory.
+/// Searches a task as the words ask, by the estimate that they ask for. It makes the report and,
+/// for each that has a name, the certificate and the journal. The rows are kept in `kept`:
+/// certificate and journal borrow them. An error is out of memory.
 pub fn solve_task<'a, R: Threads + Wait + Sync, G: Gate>(
     rt: &R,
     alloc: Global,
@@ -33,8 +34,9 @@ pub fn solve_task<'a, R: Threads + Wait + Sync, G: Gate>(
 {
     // Workers share the task.
     let task = Arc::new(alloc, task)?;
+    let choice = choice_for(alloc, &task, &solve)?;
     match solve.engine {
-        Engine::Leases => solve_by_leases(rt, alloc, &task, solve, gate, kept),
-        Engine::Owners => solve_by_owners(rt, alloc, &task, solve, gate, kept),
+        Engine::Leases => solve_by_leases(rt, alloc, &task, &choice, solve, gate, kept),
+        Engine::Owners => solve_by_owners(rt, alloc, &task, &choice, solve, gate, kept),
     }
 }

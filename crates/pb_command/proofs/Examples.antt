@@ -23,5 +23,8 @@ letter_name = record { no_dashes = refl; no_long = refl; no_short = refl }
 pub zero_name : IsName (codes "0")
 zero_name = record { no_dashes = refl; no_long = refl; no_short = refl }
 
+pub tables_name : IsName (codes "tables")
+tables_name = record { no_dashes = refl; no_long = refl; no_short = refl }
+
 pub owners_name : IsName (codes "hda")
 owners_name = record { no_dashes = refl; no_long = refl; no_short = refl }

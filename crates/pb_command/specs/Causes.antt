@@ -35,6 +35,7 @@ solve_meant s = record {
   options = s.options;
   settings = s.settings;
   engine = s.engine;
+  effort = s.effort;
   certificate = option_map (λ t. t.now) s.certificate;
   journal = option_map (λ t. t.now) s.journal;
 }
@@ -98,6 +99,7 @@ IsPrinted fault.Weight text = IsLine (codes "words weight") text
 IsPrinted fault.Names text = IsLine (codes "words names") text
 IsPrinted fault.Engine text = IsLine (codes "words engine") text
 IsPrinted fault.Falling text = IsLine (codes "words falling") text
+IsPrinted fault.Estimate text = IsLine (codes "words estimate") text
 IsPrinted fault.Size text = IsLine (codes "words size") text
 IsPrinted fault.Form text = IsErrorText text
 IsPrinted fault.Kind text = IsErrorText text

@@ -50,6 +50,20 @@ EngineComesBeforeFalling = (board : List ℕ) → IsName board
     → reading_of_words (codes "solve" ∷ codes "tiles" ∷ board ∷ codes "--engine" ∷ codes "hda"
     ∷ codes "--falling" ∷ codes "2" ∷ codes "--trace" ∷ codes "c" ∷ []) ≡ Refused fault.Engine
 
+-- the journal of falling weights is tested before the pattern database beside tables
+abbrev pub FallingComesBeforeEstimate : Type 0
+FallingComesBeforeEstimate = (board : List ℕ) → IsName board
+    → reading_of_words (codes "solve" ∷ codes "tiles" ∷ board ∷ codes "--estimate"
+    ∷ codes "tables" ∷ codes "--pattern" ∷ codes "1" ∷ codes "--falling" ∷ codes "2"
+    ∷ codes "--trace" ∷ codes "c" ∷ []) ≡ Refused fault.Falling
+
+-- tables beside a pattern database, with the least effort
+abbrev pub TablesWithPatternAreRefused : Type 0
+TablesWithPatternAreRefused = (domain problem : List ℕ) → IsName domain → IsName problem
+    → reading_of_words (codes "solve" ∷ codes "strips" ∷ domain ∷ problem ∷ codes "--estimate"
+    ∷ codes "tables" ∷ codes "--effort" ∷ codes "1" ∷ codes "--pattern" ∷ codes "1" ∷ [])
+    ≡ Refused fault.Estimate
+
 abbrev pub WeightOfOneHalfIsRefused : Type 0
 WeightOfOneHalfIsRefused = (map scenario : List ℕ) → IsName map → IsName scenario
     → reading_of_words (codes "solve" ∷ codes "grid" ∷ map ∷ scenario ∷ codes "--num" ∷ codes "1"

@@ -1,5 +1,5 @@
 -- What words mean: the command that they are, or the first test that they fail.
-use Rattle.std.specs.Prelude.{ℕ, ◌≡◌, ◌≤◌, Bool, false, List, [], ◌∷◌, Option, None, Some, if◌then◌else◌, nat_lt, codes}
+use Rattle.std.specs.Prelude.{ℕ, ◌≡◌, ◌≤◌, Bool, false, List, [], ◌∷◌, Option, None, Some, IfSome, IsSome, if◌then◌else◌, nat_lt, codes}
 use Rattle.std.specs.Str.{bytes_eq}
 use Rattle.clap.specs.Words.{Kinds, Row, Text, fault_of, first_of, subcommand_of}
 use Rattle.pb_machine.specs.declared.settings.Settings.{Settings}
@@ -14,17 +14,19 @@ use Rattle.pb_command.specs.declared.table.FlagOption.{FlagOption}
 use Rattle.pb_command.specs.declared.table.FlagOption.TheVariants.{Plain, Swamp, Reachable}
 use Rattle.pb_command.specs.Parser.{the_program, seed_most}
 use Rattle.pb_command.specs.Table.{IsInRangeOf, solve_options, check_options, journal_options, make_options}
-use Rattle.pb_command.specs.Values.{InputNames, kind_of_text, input_of, values_fit, number_at, optional_number_at, text_at, flag_at, grounding_by, engine_at, seed_of, size_of, least_size, most_size, is_size, are_one_name, is_journal_of_owners, is_falling_of_owners, is_journal_of_falling, is_loaded_name}
+use Rattle.pb_command.specs.Values.{InputNames, kind_of_text, input_of, values_fit, number_at, optional_number_at, text_at, flag_at, grounding_by, engine_at, effort_at, seed_of, size_of, least_size, most_size, is_size, are_one_name, is_journal_of_owners, is_falling_of_owners, is_journal_of_falling, is_pattern_of_estimate, is_loaded_name}
 use Rattle.pb_command.specs.declared.refusal.CommandFault.{CommandFault}
 use Rattle.pb_command.specs.declared.refusal.CommandFault.TheVariants as fault
 
 -- `solve`: the task and how its files are read, what the search is run with, and how it searches.
--- The names of the certificate and of the journal, if they are given.
+-- How much is looked at to find tables for the estimate, if they are asked for. The names of the
+-- certificate and of the journal, if they are given.
 pub record SolveMeaning : Type 0 where
   pub input : InputNames
   pub options : InputOptions
   pub settings : Settings
   pub engine : Engine
+  pub effort : Option ℕ
   pub certificate : Option Text
   pub journal : Option Text
 
@@ -114,8 +116,8 @@ solve_in_steps solve None = Solve solve
 solve_in_steps solve (Some steps) = Falling (record { solve = solve; steps = steps })
 
 -- A weight below 1 is a fault, then one name for the certificate and the journal. Then a journal of
--- the engine that keeps none, or falling weights of the engine that has none, and then a journal of
--- falling weights.
+-- the engine that keeps none, or falling weights of the engine that has none, then a journal of
+-- falling weights, and then a pattern database beside tables.
 abbrev pub solve_tested : (falling : Option ℕ) → SolveMeaning → Reading
 solve_tested falling solve =
     if nat_lt solve.settings.num solve.settings.den then Refused fault.Weight
@@ -123,19 +125,23 @@ solve_tested falling solve =
     else (if is_journal_of_owners solve.engine solve.journal then Refused fault.Engine
     else (if is_falling_of_owners solve.engine falling then Refused fault.Engine
     else (if is_journal_of_falling falling solve.journal then Refused fault.Falling
-    else Read (solve_in_steps solve falling)))))
+    else (if is_pattern_of_estimate solve.effort solve.settings.pattern then Refused fault.Estimate
+    else Read (solve_in_steps solve falling))))))
 
 -- clap sees to it that a required word is there
 abbrev pub solve_with : Option Text → Option Text → InputOptions → Settings → Engine
-    → (certificate journal : Option Text) → (falling : Option ℕ) → Kind → Reading
-solve_with None second options settings engine certificate journal falling kind = Refused fault.Form
-solve_with (Some first) second options settings engine certificate journal falling kind =
+    → (effort : Option ℕ) → (certificate journal : Option Text) → (falling : Option ℕ) → Kind
+    → Reading
+solve_with None second options settings engine effort certificate journal falling kind =
+    Refused fault.Form
+solve_with (Some first) second options settings engine effort certificate journal falling kind =
     with_input (input_of kind first second)
     (λ input. solve_tested falling (record {
       input = input;
       options = options;
       settings = settings;
       engine = engine;
+      effort = effort;
       certificate = certificate;
       journal = journal;
     }))
@@ -145,7 +151,7 @@ solve_of rows = if_fit (values_fit solve_options rows)
     (with_kind (kind_of_text (first_of (codes "KIND") rows))
     (solve_with (first_of (codes "FIRST_FILE") rows) (first_of (codes "SECOND_FILE") rows)
     (options_by (number_at rows) (flag_at rows)) (settings_by (number_at rows) (flag_at rows))
-    (engine_at rows) (text_at rows Certificate) (text_at rows JournalName)
+    (engine_at rows) (effort_at rows) (text_at rows Certificate) (text_at rows JournalName)
     (optional_number_at rows FallingSteps)))
 
 -- ---- `check` and `journal`
@@ -244,12 +250,15 @@ pub record AreEachInRange (settings : Settings) : Type 0 where
   pub pattern : IsInRangeOf Pattern settings.pattern
 
 -- The row and the settings lie in their ranges, the weight is at least 1, and certificate and
--- journal have two names. Of the engine that keeps none no journal is asked for.
+-- journal have two names. Of the engine that keeps none no journal is asked for. The effort for
+-- tables is from 1 to 20, and beside tables no pattern database is asked for.
 pub record IsSolveInRange (solve : SolveMeaning) : Type 0 where
   pub row : IsInRangeOf ScenarioRow solve.options.row
   pub settings : AreInRange solve.settings
   pub names : are_one_name solve.certificate solve.journal ≡ false
   pub engine : solve.engine ≡ Owners → solve.journal ≡ None
+  pub effort : IfSome solve.effort (λ e. (1 ≤ e) × (e ≤ 20))
+  pub estimate : IsSome solve.effort → solve.settings.pattern ≡ 0
 
 -- The same, and the number of steps is from 1 to 20. The engine is the one by leases, and no
 -- journal is asked for.

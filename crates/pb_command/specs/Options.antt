@@ -16,11 +16,11 @@ use Rattle.pb_command.specs.declared.command.Engine.{Engine}
 use Rattle.pb_command.specs.declared.command.Engine.TheVariants.{Leases, Owners}
 use Rattle.pb_command.specs.declared.command.InputOptions.{InputOptions}
 use Rattle.pb_command.specs.declared.table.ValuedOption.{ValuedOption}
-use Rattle.pb_command.specs.declared.table.ValuedOption.TheVariants.{Workers, Engine as EngineOption, Num, Den, Certificate, Journal, Rewrite, Falling}
+use Rattle.pb_command.specs.declared.table.ValuedOption.TheVariants.{Workers, Engine as EngineOption, Num, Den, Pattern, Estimate, Effort, Certificate, Journal, Rewrite, Falling}
 use Rattle.pb_command.specs.declared.table.FlagOption.{FlagOption}
 use Rattle.pb_command.specs.Names.{IsName}
 use Rattle.pb_command.specs.Table.{Form, Number, OptionalNumber, FileName, OneOf, option_name, option_form, flag_name, is_value, solve_options, solve_flags, check_options, check_flags, journal_options, journal_flags, make_options}
-use Rattle.pb_command.specs.Values.{InputNames, Grid, Tiles, Strips, engine_of}
+use Rattle.pb_command.specs.Values.{InputNames, Grid, Tiles, Strips, engine_of, effort_of}
 use Rattle.pb_command.specs.Meaning.{Read, Refused, Solve, SolveMeaning, Falling as FallingCommand, Check, Journal as JournalCommand, Make, options_by, journal_options_by, settings_by, reading_of_words}
 use Rattle.pb_command.specs.declared.refusal.CommandFault.TheVariants as fault
 
@@ -108,6 +108,11 @@ settings_given arguments =
 abbrev pub engine_given : List Argument → Engine
 engine_given arguments = engine_of (value_given EngineOption arguments)
 
+-- how much is looked at to find tables for the estimate, if their word is given
+abbrev pub effort_given : List Argument → Option ℕ
+effort_given arguments =
+    effort_of (value_given Estimate arguments) (number_given Effort arguments)
+
 -- in how many steps the weight falls, if that is given
 abbrev pub falling_given : List Argument → Option ℕ
 falling_given arguments = option_map number_of (value_given Falling arguments)
@@ -194,6 +199,16 @@ HaveTwoNames arguments =
 abbrev pub HaveKeptJournal : List Argument → Type 0
 HaveKeptJournal arguments = engine_given arguments ≡ Owners → value_given Journal arguments ≡ None
 
+-- no pattern database is asked for beside tables
+abbrev pub HaveOneEstimate : List Argument → Type 0
+HaveOneEstimate arguments =
+    value_given Estimate arguments ≡ Some (codes "tables") → number_given Pattern arguments ≡ 0
+
+-- if falling weights are asked for, the engine has them, and no journal is
+abbrev pub HaveFittingFalling : List Argument → Type 0
+HaveFittingFalling arguments = (steps : Text) → value_given Falling arguments ≡ Some steps
+    → (engine_given arguments ≡ Leases) × (value_given Journal arguments ≡ None)
+
 -- no falling weights are asked for
 abbrev pub HaveOneRun : List Argument → Type 0
 HaveOneRun arguments = value_given Falling arguments ≡ None
@@ -205,6 +220,7 @@ solve_given input arguments = record {
   options = options_given arguments;
   settings = settings_given arguments;
   engine = engine_given arguments;
+  effort = effort_given arguments;
   certificate = value_given Certificate arguments;
   journal = value_given Journal arguments;
 }
@@ -215,7 +231,7 @@ abbrev pub SolveReadsOptions : Type 0
 SolveReadsOptions = (input : InputNames) (arguments : List Argument) → AreOfSolve input arguments
     → HaveOneRun arguments
     → number_given Den arguments ≤ number_given Num arguments → HaveTwoNames arguments
-    → HaveKeptJournal arguments
+    → HaveKeptJournal arguments → HaveOneEstimate arguments
     → reading_of_words (codes "solve" ∷ words_of arguments)
     ≡ Read (Solve (solve_given input arguments))
 
@@ -226,7 +242,7 @@ FallingReadsOptions =
     (input : InputNames) (steps : Text) (arguments : List Argument) → AreOfSolve input arguments
     → value_given Falling arguments ≡ Some steps
     → number_given Den arguments ≤ number_given Num arguments → engine_given arguments ≡ Leases
-    → value_given Journal arguments ≡ None
+    → value_given Journal arguments ≡ None → HaveOneEstimate arguments
     → reading_of_words (codes "solve" ∷ words_of arguments) ≡ Read (FallingCommand (record {
       solve = solve_given input arguments;
       steps = number_of steps;
@@ -246,6 +262,23 @@ EngineHasTwoWords =
     (word : Text) → (is_value_of EngineOption word ≡ true
     → (word ≡ codes "pbnf") ⊎ (word ≡ codes "hda"))
     × ((word ≡ codes "pbnf") ⊎ (word ≡ codes "hda") → is_value_of EngineOption word ≡ true)
+
+-- That of `--estimate` is this word alone.
+abbrev pub EstimateHasOneWord : Type 0
+EstimateHasOneWord =
+    (word : Text) → (is_value_of Estimate word ≡ true → word ≡ codes "tables")
+    × (word ≡ codes "tables" → is_value_of Estimate word ≡ true)
+
+-- With this word, the effort is the number of `--effort`.
+abbrev pub TablesHaveEffort : Type 0
+TablesHaveEffort =
+    (arguments : List Argument) → value_given Estimate arguments ≡ Some (codes "tables")
+    → effort_given arguments ≡ Some (number_given Effort arguments)
+
+-- And without `--estimate` there is none, whatever `--effort` is given.
+abbrev pub EffortIsOfTables : Type 0
+EffortIsOfTables = (arguments : List Argument) → value_given Estimate arguments ≡ None
+    → effort_given arguments ≡ None
 
 -- A weight below 1 is refused, wherever the options are.
 abbrev pub LowWeightIsRefused : Type 0
@@ -287,6 +320,17 @@ FallingWithJournalIsRefused =
     → HaveTwoNames arguments → engine_given arguments ≡ Leases
     → value_given Falling arguments ≡ Some steps → value_given Journal arguments ≡ Some name
     → reading_of_words (codes "solve" ∷ words_of arguments) ≡ Refused fault.Falling
+
+-- And if all of these pass, with falling weights or without, a pattern database beside tables is
+-- refused.
+abbrev pub PatternOfEstimateIsRefused : Type 0
+PatternOfEstimateIsRefused =
+    (input : InputNames) (arguments : List Argument) → AreOfSolve input arguments
+    → number_given Den arguments ≤ number_given Num arguments → HaveTwoNames arguments
+    → HaveKeptJournal arguments → HaveFittingFalling arguments
+    → value_given Estimate arguments ≡ Some (codes "tables")
+    → 1 ≤ number_given Pattern arguments
+    → reading_of_words (codes "solve" ∷ words_of arguments) ≡ Refused fault.Estimate
 
 -- the name is one of these
 abbrev pub IsAmong : Text → List Text → Type 0

@@ -1,5 +1,5 @@
 -- What the values of words are.
-use Rattle.std.specs.Prelude.{ℕ, ◌≤◌, ◌&&◌, ◌||◌, ⊤, Bool, true, false, List, [], ◌∷◌, Option, None, Some, if◌then◌else◌, nat_le, codes}
+use Rattle.std.specs.Prelude.{ℕ, ◌≤◌, ◌&&◌, ◌||◌, ⊤, Bool, true, false, List, [], ◌∷◌, Option, None, Some, if◌then◌else◌, nat_le, nat_lt, codes}
 use Rattle.std.specs.Option.{option_map_or}
 use Rattle.std.specs.Str.{bytes_eq}
 use Rattle.std.specs.Str.Parse.{digits_value, without_leading_plus}
@@ -13,13 +13,13 @@ use Rattle.pb_task.specs.declared.grounding.Grounding.TheVariants as grounding
 use Rattle.pb_command.specs.declared.command.Engine.{Engine}
 use Rattle.pb_command.specs.declared.command.Engine.TheVariants.{Leases, Owners}
 use Rattle.pb_command.specs.declared.table.ValuedOption.{ValuedOption}
-use Rattle.pb_command.specs.declared.table.ValuedOption.TheVariants.{Engine as EngineOption}
+use Rattle.pb_command.specs.declared.table.ValuedOption.TheVariants.{Engine as EngineOption, Estimate, Effort}
 use Rattle.pb_command.specs.declared.table.FlagOption.{FlagOption}
 use Rattle.pb_command.specs.declared.table.ValueForm.{ValueForm}
 use Rattle.pb_command.specs.declared.table.ValueForm.TheVariants as forms
 use Rattle.pb_command.specs.declared.table.TableEntry.{TableEntry}
 use Rattle.pb_command.specs.Parser.{seed_most, size_word_most}
-use Rattle.pb_command.specs.Table.{Form, Number, OptionalNumber, FileName, OneOf, Entry, engine_word, option_name, option_form, flag_name, is_value}
+use Rattle.pb_command.specs.Table.{Form, Number, OptionalNumber, FileName, OneOf, Entry, engine_word, tables_word, option_name, option_form, flag_name, is_value}
 
 -- the names of the files of a grid
 pub record GridNames : Type 0 where
@@ -69,6 +69,7 @@ form_meant (forms.Number least most default) =
 form_meant (forms.OptionalNumber least most) = OptionalNumber least most
 form_meant forms.FileName = FileName
 form_meant (forms.OneOf first second) = OneOf (first.now ∷ second.now ∷ [])
+form_meant (forms.OneWord only) = OneOf (only.now ∷ [])
 
 abbrev pub entry_meant : TableEntry → Entry
 entry_meant e = record { name = e.name.now; form = form_meant e.form }
@@ -79,6 +80,7 @@ HasDefault (forms.Number least most default) = (least ≤ default) × (default �
 HasDefault (forms.OptionalNumber least most) = least ≤ most
 HasDefault forms.FileName = ⊤
 HasDefault (forms.OneOf first second) = ⊤
+HasDefault (forms.OneWord only) = ⊤
 
 -- whether the value of an option, if it is given, is one of this form
 abbrev pub fits : Form → Option Text → Bool
@@ -144,6 +146,15 @@ engine_of (Some word) = if bytes_eq word (engine_word Owners) then Owners else L
 abbrev pub engine_at : List Row → Engine
 engine_at rows = engine_of (text_at rows EngineOption)
 
+-- How much is looked at to find tables for the estimate: this number if the word asks for them, and
+-- none if no word is given. A word other than that one is refused, and asks for nothing here.
+abbrev pub effort_of : (estimate : Option Text) → (effort : ℕ) → Option ℕ
+effort_of None effort = None
+effort_of (Some word) effort = if bytes_eq word tables_word then Some effort else None
+
+abbrev pub effort_at : List Row → Option ℕ
+effort_at rows = effort_of (text_at rows Estimate) (number_at rows Effort)
+
 -- a seed from 0 to 2^32 - 1
 abbrev pub seed_of : List Row → Option ℕ
 seed_of rows = number_in 0 seed_most None (one_of (codes "SEED") rows)
@@ -199,6 +210,11 @@ is_falling_of_owners _ _ = false
 abbrev pub is_journal_of_falling : (falling : Option ℕ) → (journal : Option Text) → Bool
 is_journal_of_falling (Some steps) (Some name) = true
 is_journal_of_falling _ _ = false
+
+-- whether a pattern database is asked for beside tables
+abbrev pub is_pattern_of_estimate : (effort : Option ℕ) → (pattern : ℕ) → Bool
+is_pattern_of_estimate None pattern = false
+is_pattern_of_estimate (Some effort) pattern = nat_lt 0 pattern
 
 -- whether a file of the task has this name
 abbrev pub is_input_name : InputNames → Text → Bool

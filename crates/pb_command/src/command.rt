@@ -69,6 +69,11 @@ pub struct SolveCommand<'a> {
     pub settings: Settings,
     /// `--engine WORD`: how the task is searched.
     pub engine: Engine,
+    /// `--estimate tables` with `--effort E`: how much is looked at to find tables for the estimate,
+    /// if they are asked for: 1 to 20. It is looked at for STRIPS alone. The tables state a
+    /// saturated cost partitioning (Seipp, Keller and Helmert, "Saturated Cost Partitioning for
+    /// Optimal Classical Planning", 2020). No pattern database is asked for beside them.
+    pub effort: Option<u32>,
     /// `--cert NAME`: the name under which the certificate is to be saved, if one is given.
     pub certificate: Option<&'a str>,
     /// `--trace NAME`: the name under which the journal is to be saved, if one is given. It isn't

@@ -7,20 +7,27 @@ ghost use Rattle.pb_command.specs.Options.{MakeReadsOptions, OtherSizeIsRefused}
 ghost use Rattle.pb_command.specs.Options.{OutOfRangeIsRefused, GivenTwiceIsRefused};
 ghost use Rattle.pb_command.specs.Options.{FlagTwiceIsRefused, HelpIsRefused};
 ghost use Rattle.pb_command.specs.Options.{DefaultsAreStandard, DefaultEngineIsLeases};
-ghost use Rattle.pb_command.specs.Options.{EngineHasTwoWords};
+ghost use Rattle.pb_command.specs.Options.{EngineHasTwoWords, EstimateHasOneWord};
+ghost use Rattle.pb_command.specs.Options.{TablesHaveEffort, EffortIsOfTables};
+ghost use Rattle.pb_command.specs.Options.{PatternOfEstimateIsRefused};
 ghost use Rattle.pb_command.specs.Laws.{OneFileIsRefused, TwoBoardsAreRefused};
 ghost use Rattle.pb_command.specs.Laws.{DomainAloneIsRefused, OtherKindIsRefused};
 ghost use Rattle.pb_command.specs.Laws.{FilesComeBeforeWeight, WeightComesBeforeNames};
 ghost use Rattle.pb_command.specs.Laws.{NamesComeBeforeEngine, EngineComesBeforeFalling};
+ghost use Rattle.pb_command.specs.Laws.{FallingComesBeforeEstimate, TablesWithPatternAreRefused};
 ghost use Rattle.pb_command.specs.Laws.{WeightOfOneHalfIsRefused};
 ghost use Rattle.pb_command.specs.Laws.{SideOfZeroIsRefused, SeedOutOfRangeIsRefused};
 
 /// The defaults of the table are the standard settings of a search, which is by leases. An engine
-/// has one of two words.
+/// has one of two words, and an estimate the word `tables`. With that word the effort is the number
+/// of `--effort`, and without it there is none.
 pub fn options_have_forms()
     ensures defaults { DefaultsAreStandard }
     ensures engine { DefaultEngineIsLeases }
     ensures words { EngineHasTwoWords }
+    ensures estimate { EstimateHasOneWord }
+    ensures effort { TablesHaveEffort }
+    ensures none { EffortIsOfTables }
 {}
 
 /// Without `--falling`, the options and the flags give `solve` their values, anywhere among the
@@ -30,11 +37,13 @@ pub fn solve_reads_options()
 {}
 
 /// Wherever the options of `solve` stand, these are refused, each for its own fault: a weight below
-/// 1, one name for the certificate and the journal, and a journal of a search by owners.
+/// 1, one name for the certificate and the journal, a journal of a search by owners, and a pattern
+/// database beside tables, with `--falling` or without it.
 pub fn solve_tests_options()
     ensures weight { LowWeightIsRefused }
     ensures names { OneNameIsRefused }
     ensures engine { JournalOfOwnersIsRefused }
+    ensures estimate { PatternOfEstimateIsRefused }
 {}
 
 /// With `--falling`, wherever it stands, they give a search at falling weights the same values, and
@@ -88,21 +97,25 @@ pub fn options_out_of_form_are_refused()
 {}
 
 /// The number of files is tested before the weight, the weight before the names, the names before
-/// the engine, and the engine before the journal of falling weights.
+/// the engine, the engine before the journal of falling weights, and this journal before the
+/// pattern database beside tables.
 pub fn tests_come_in_order()
     ensures files { FilesComeBeforeWeight }
     ensures weight { WeightComesBeforeNames }
     ensures names { NamesComeBeforeEngine }
     ensures engine { EngineComesBeforeFalling }
+    ensures falling { FallingComesBeforeEstimate }
 {}
 
 /// Each of these is refused for its own fault: a grid with one file, tiles with two, a domain
-/// without a problem, a kind that isn't known, a weight of one half, and a grid of side 0.
+/// without a problem, a kind that isn't known, a weight of one half, tables beside a pattern
+/// database, and a grid of side 0.
 pub fn faults_are_found()
     ensures files { OneFileIsRefused }
     ensures boards { TwoBoardsAreRefused }
     ensures domain { DomainAloneIsRefused }
     ensures kind { OtherKindIsRefused }
     ensures weight { WeightOfOneHalfIsRefused }
+    ensures estimate { TablesWithPatternAreRefused }
     ensures size { SideOfZeroIsRefused }
 {}

@@ -100,6 +100,7 @@ fn option_arg<'a>(alloc: Global, option: ValuedOption) -> Arg<'a>
         ValueForm::FileName => text_option(alloc, option.name()),
         // The reader tests the word.
         ValueForm::OneOf(_, _) => text_option(alloc, option.name()),
+        ValueForm::OneWord(_) => text_option(alloc, option.name()),
     }
 }
 

@@ -4,6 +4,7 @@ ghost use Rattle.std.specs.String.{string_bytes};
 ghost use Rattle.clap.specs.Words.{found_of, rows_of, kind_of, has_subcommand, subcommand_rows_of};
 ghost use Rattle.clap.specs.declared.error.kind.ErrorKind.TheVariants.{OutOfMemory};
 ghost use Rattle.pb_command.specs.declared.table.ValuedOption.TheVariants.{Row, Workers, Falling};
+ghost use Rattle.pb_command.specs.declared.table.ValuedOption.TheVariants.{Effort};
 ghost use Rattle.pb_command.specs.Table.{IsInRangeOf};
 ghost use Rattle.pb_command.specs.Values.{number_at, flag_at};
 ghost use Rattle.pb_command.specs.Meaning.{reading_of_words, command_met, command_of, solve_of};
@@ -17,14 +18,15 @@ use crate::command::{
     SolveCommand,
 };
 use crate::parser::program;
-use crate::refusal::{CommandFault, CommandRefusal, form_refusal, refuse};
+use crate::refusal::{CommandFault, CommandRefusal, RefusedWord, form_refusal, refuse};
 use crate::table::{
     CHECK_OPTIONS, FlagOption, JOURNAL_OPTIONS, MAKE_OPTIONS, SOLVE_OPTIONS, ValuedOption,
 };
 use crate::values::{
-    SEED_MOST, SIZE_WORD_MOST, engine_at, flag_at, grounding_at, input_of, is_falling_of_owners,
-    is_journal_of_falling, is_journal_of_owners, is_loaded_name, is_one_name, is_size, known_kind,
-    number, number_at, optional_number_at, text, text_at, values_fit,
+    SEED_MOST, SIZE_WORD_MOST, effort_at, engine_at, fits, flag_at, grounding_at, input_of,
+    is_falling_of_owners, is_journal_of_falling, is_journal_of_owners, is_loaded_name, is_one_name,
+    is_pattern_of_estimate, is_size, known_kind, number, number_at, optional_number_at, text,
+    text_at, values_fit,
 };
 use clap::{ArgMatches, Error};
 use pb_machine::Settings;
@@ -64,13 +66,14 @@ fn settings(matches: &ArgMatches<'_>) -> Settings
 
 // The command, if its weight is at least 1, its two files have two names, and its engine keeps the
 // journal and has the falling weights that are asked for. A search with falling weights keeps no
-// journal.
+// journal, and beside tables there is no pattern database.
 fn tested_solve<'a>(
     command: SolveCommand<'a>,
     falling: Option<u64>,
 ) -> Result<CommandLine<'a>, CommandFault>
     requires row { IsInRangeOf Row command.options.row }
     requires range { AreEachInRange command.settings }
+    requires effort { IfSome command.effort (IsInRangeOf Effort) }
     requires steps { IfSome falling (IsInRangeOf Falling) }
     ensures read { Answers meaning_of (solve_tested falling (solve_meant command.entry)) result }
     ensures ranges { IfOk result (λ c. IsInRange (meaning_of c)) }
@@ -90,6 +93,9 @@ fn tested_solve<'a>(
     }
     if is_journal_of_falling(falling, command.journal) {
         return Err(CommandFault::Falling);
+    }
+    if is_pattern_of_estimate(command.effort, command.settings.pattern) {
+        return Err(CommandFault::Estimate);
     }
     match falling {
         Some(steps) => Ok(CommandLine::Falling(FallingCommand {
@@ -111,6 +117,7 @@ fn read_solve<'a>(matches: &ArgMatches<'a>) -> Result<CommandLine<'a>, CommandFa
     let options = input_options(matches);
     let settings = settings(matches);
     let engine = engine_at(matches);
+    let effort = effort_at(matches);
     let certificate = text_at(matches, ValuedOption::Certificate);
     let journal = text_at(matches, ValuedOption::Journal);
     let falling = optional_number_at(matches, ValuedOption::Falling);
@@ -128,6 +135,7 @@ fn read_solve<'a>(matches: &ArgMatches<'a>) -> Result<CommandLine<'a>, CommandFa
                     options,
                     settings,
                     engine,
+                    effort,
                     certificate,
                     journal,
                 };
@@ -267,12 +275,49 @@ fn read_command<'a>(name: &str, matches: &ArgMatches<'a>) -> Result<CommandLine<
     }
 }
 
-// The word that the text for this fault repeats: the one for the engine, or the one in the place of
-// the kind.
-fn repeated_word<'a>(matches: &ArgMatches<'a>, fault: CommandFault) -> Option<&'a str> {
+// The value of an option, if it is given and isn't of the option's form.
+fn unfit_text<'a>(matches: &ArgMatches<'a>, option: ValuedOption) -> Option<&'a str> {
+    if fits(matches, option) {
+        None
+    } else {
+        text_at(matches, option)
+    }
+}
+
+// Whether the first option is given before the second, where both are.
+fn is_given_first(matches: &ArgMatches<'_>, first: ValuedOption, second: ValuedOption) -> bool {
+    match (
+        matches.index_of(first.name()),
+        matches.index_of(second.name()),
+    ) {
+        (Some(first), Some(second)) => first < second,
+        _ => true,
+    }
+}
+
+// The word of an option that is none of the option's words: the first of them that is given.
+fn unfit_word<'a>(matches: &ArgMatches<'a>) -> Option<RefusedWord<'a>> {
+    let engine = unfit_text(matches, ValuedOption::Engine);
+    let estimate = unfit_text(matches, ValuedOption::Estimate);
+    let is_engine_first = is_given_first(matches, ValuedOption::Engine, ValuedOption::Estimate);
+    match (engine, estimate) {
+        (Some(engine), None) => Some(RefusedWord::of_engine(engine)),
+        (None, Some(estimate)) => Some(RefusedWord::of_estimate(estimate)),
+        (Some(engine), Some(_)) if is_engine_first => Some(RefusedWord::of_engine(engine)),
+        (Some(_), Some(estimate)) => Some(RefusedWord::of_estimate(estimate)),
+        (None, None) => None,
+    }
+}
+
+// The word that the text for this fault repeats: one of an option, or the one in the place of the
+// kind.
+fn refused_word<'a>(matches: &ArgMatches<'a>, fault: CommandFault) -> Option<RefusedWord<'a>> {
     match fault {
-        CommandFault::Form => text_at(matches, ValuedOption::Engine),
-        _ => text(matches, "KIND"),
+        CommandFault::Form => unfit_word(matches),
+        _ => match text(matches, "KIND") {
+            Some(word) => Some(RefusedWord::of_kind(word)),
+            None => None,
+        },
     }
 }
 
@@ -290,7 +335,7 @@ fn read_subcommand<'a>(
 {
     match read_command(name, matches) {
         Ok(command) => Ok(command),
-        Err(fault) => Err(refuse(alloc, name, repeated_word(matches, fault), fault)),
+        Err(fault) => Err(refuse(alloc, name, refused_word(matches, fault), fault)),
     }
 }
 
@@ -308,7 +353,8 @@ fn parse<'a>(alloc: Global, words: &'a [String]) -> Result<ArgMatches<'a>, Error
 
 /// Reads the words after the program's name: the command that they are, or why they are none, with
 /// what is to be printed of it. The tests come in this order: the form, the kind, the number of
-/// files, the weight, the two names, the engine, the journal of falling weights, the size.
+/// files, the weight, the two names, the engine, the journal of falling weights, the pattern
+/// database beside tables, the size.
 pub fn read_words<'a>(alloc: Global, words: &'a [String]) -> Result<CommandLine<'a>, CommandRefusal>
     ensures read { IfOk result (λ c. reading_of_words (map string_bytes words.entry.now)
         ≡ Read (meaning_of c)) }

@@ -11,6 +11,7 @@ ghost use Rattle.pb_command.specs.Causes.{text_most};
 ghost use Rattle.pb_command.specs.declared.refusal.CommandRefusal.TheVariants.{Memory};
 
 use crate::parser::{check, journal, make, solve};
+use crate::table::TABLES;
 use clap::error::ErrorKind;
 use clap::{Command, Error};
 use std::alloc::{AllocError, Global};
@@ -19,8 +20,9 @@ use std::marker::Model;
 /// Which test words fail, the first of them in this order.
 #[derive(Clone, Copy, Debug, PartialEq, Eq)]
 pub enum CommandFault {
-    /// They are not of the declared form: an unknown command, option or engine, a number out of its
-    /// range, a word too many or too few. Words for help and for the version are refused so too.
+    /// They are not of the declared form: an unknown command, option, engine or estimate, a number
+    /// out of its range, a word too many or too few. Words for help and for the version are refused
+    /// so too.
     Form,
     /// The word in the place of the kind names none.
     Kind,
@@ -35,6 +37,9 @@ pub enum CommandFault {
     Engine,
     /// A journal is asked for of a search with falling weights: `--falling` stands with `--trace`.
     Falling,
+    /// A pattern database is asked for beside tables: `--estimate tables` stands with a `--pattern`
+    /// over 0.
+    Estimate,
     /// A made task of this kind can't have this size.
     Size,
 }
@@ -201,49 +206,83 @@ fn clap_message(alloc: Global, name: &str, mistake: &str) -> Result<Message, All
     error_message(alloc, &error)
 }
 
-// The message of clap for a word that names no kind.
-fn kind_message(alloc: Global, name: &str, word: &str) -> Result<Message, AllocError>
-    ensures { IfOk result IsErrorText }
-{
-    let mistake = format!(in alloc;
-        "invalid value '{word}' for '<KIND>'\n  [possible values: grid, tiles, strips]"
-    )?;
-    clap_message(alloc, name, mistake.as_str())
+// A word that clap takes and the reader refuses.
+#[derive(Clone, Copy)]
+pub(crate) struct RefusedWord<'a> {
+    // What it stands for, in clap's words.
+    place: &'a str,
+    // The words that may stand there.
+    possible: &'a str,
+    word: &'a str,
 }
 
-// The message of clap for words out of form that clap took. Only the word for an engine, if one is
-// given, can be wrong there.
-fn form_message(alloc: Global, name: &str, word: Option<&str>) -> Result<Message, AllocError>
+impl<'a> RefusedWord<'a> {
+    // A word that names no kind.
+    pub(crate) fn of_kind(word: &'a str) -> RefusedWord<'a> {
+        RefusedWord {
+            place: "<KIND>",
+            possible: "grid, tiles, strips",
+            word,
+        }
+    }
+
+    // A word that names no engine.
+    pub(crate) fn of_engine(word: &'a str) -> RefusedWord<'a> {
+        RefusedWord {
+            place: "--engine <engine>",
+            possible: "pbnf, hda",
+            word,
+        }
+    }
+
+    // A word that names no estimate.
+    pub(crate) fn of_estimate(word: &'a str) -> RefusedWord<'a> {
+        RefusedWord {
+            place: "--estimate <estimate>",
+            possible: TABLES,
+            word,
+        }
+    }
+}
+
+// The message of clap for a word that clap took and that is refused.
+fn word_message(
+    alloc: Global,
+    name: &str,
+    refused: Option<RefusedWord<'_>>,
+) -> Result<Message, AllocError>
     ensures { IfOk result IsErrorText }
 {
-    let Some(word) = word else {
+    let Some(refused) = refused else {
         // No words lead here, since clap tests all else. Its clauses don't say so.
         return clap_message(alloc, name, "a required value is missing");
     };
+    let (word, place, possible) = (refused.word, refused.place, refused.possible);
     let mistake = format!(in alloc;
-        "invalid value '{word}' for '--engine <engine>'\n  [possible values: pbnf, hda]"
+        "invalid value '{word}' for '{place}'\n  [possible values: {possible}]"
     )?;
     clap_message(alloc, name, mistake.as_str())
 }
 
-// What is printed if the words of a subcommand fail a test. The word is the one for the engine if
-// they are out of form, and else the one in the place of the kind.
+// What is printed if the words of a subcommand fail a test. The word is one of an option if they
+// are out of form, and else the one in the place of the kind.
 pub(crate) fn message_of(
     alloc: Global,
     name: &str,
-    word: Option<&str>,
+    word: Option<RefusedWord<'_>>,
     fault: CommandFault,
 ) -> Result<Message, AllocError>
     ensures { IfOk result (λ m. IsPrinted fault m) }
 {
     match fault {
-        CommandFault::Form => form_message(alloc, name, word),
-        CommandFault::Kind => kind_message(alloc, name, word.unwrap_or("")),
+        CommandFault::Form => word_message(alloc, name, word),
+        CommandFault::Kind => word_message(alloc, name, word),
         CommandFault::Files => Message::of_line(alloc, "words files"),
         CommandFault::Weight => Message::of_line(alloc, "words weight"),
         CommandFault::Names => Message::of_line(alloc, "words names"),
         CommandFault::Engine => Message::of_line(alloc, "words engine"),
         CommandFault::Falling => Message::of_line(alloc, "words falling"),
+        CommandFault::Estimate => Message::of_line(alloc, "words estimate"),
         CommandFault::Size => Message::of_line(alloc, "words size"),
     }
 }
@@ -252,7 +291,7 @@ pub(crate) fn message_of(
 pub(crate) fn refuse(
     alloc: Global,
     name: &str,
-    word: Option<&str>,
+    word: Option<RefusedWord<'_>>,
     fault: CommandFault,
 ) -> CommandRefusal
     ensures { IsRefusal fault result }

@@ -27,6 +27,10 @@ pub enum ValuedOption {
     Blocks,
     /// `--pattern K`: the number of the pattern database, 0 for none.
     Pattern,
+    /// `--estimate tables`: tables are looked for, from which the estimate is read.
+    Estimate,
+    /// `--effort E`: how much is looked at to find these tables.
+    Effort,
     /// `--cert NAME`: the name under which the certificate is saved.
     Certificate,
     /// `--trace NAME`: the name under which the journal is saved.
@@ -60,7 +64,12 @@ pub(crate) enum ValueForm<'a> {
     FileName,
     // One of two words.
     OneOf(&'a str, &'a str),
+    // This word alone.
+    OneWord(&'a str),
 }
+
+// The word that asks for tables for the estimate.
+pub(crate) const TABLES: &str = "tables";
 
 // A row of the table.
 #[derive(Clone, Copy)]
@@ -70,7 +79,7 @@ pub(crate) struct TableEntry<'a> {
 }
 
 // The options of each command, in the order in which clap knows them.
-pub(crate) const SOLVE_OPTIONS: [ValuedOption; 12] = [
+pub(crate) const SOLVE_OPTIONS: [ValuedOption; 14] = [
     ValuedOption::Row,
     ValuedOption::Workers,
     ValuedOption::Engine,
@@ -80,6 +89,8 @@ pub(crate) const SOLVE_OPTIONS: [ValuedOption; 12] = [
     ValuedOption::Lot,
     ValuedOption::Blocks,
     ValuedOption::Pattern,
+    ValuedOption::Estimate,
+    ValuedOption::Effort,
     ValuedOption::Certificate,
     ValuedOption::Journal,
     ValuedOption::Falling,
@@ -155,6 +166,17 @@ fn word<'a>(name: &'a str, first: &'a str, second: &'a str) -> TableEntry<'a>
     }
 }
 
+// An option with this word alone.
+fn one_word<'a>(name: &'a str, only: &'a str) -> TableEntry<'a>
+    ensures entry { entry_meant result ≡ word name.now (only.now ∷ []) }
+    ensures default { HasDefault result.form }
+{
+    TableEntry {
+        name,
+        form: ValueForm::OneWord(only),
+    }
+}
+
 impl Engine {
     // The word that asks for it.
     pub(crate) fn word<'a>(self) -> &'a str
@@ -183,6 +205,8 @@ fn entry_of<'a>(option: ValuedOption) -> TableEntry<'a>
         ValuedOption::Lot => number("lot", 1, 1_048_576, 256),
         ValuedOption::Blocks => number("blocks", 16, 4_096, 256),
         ValuedOption::Pattern => number("pattern", 0, 12, 0),
+        ValuedOption::Estimate => one_word("estimate", TABLES),
+        ValuedOption::Effort => number("effort", 1, 20, 10),
         ValuedOption::Certificate => file_name("cert"),
         ValuedOption::Journal => file_name("trace"),
         ValuedOption::Rewrite => file_name("rewrite"),

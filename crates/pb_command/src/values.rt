@@ -1,17 +1,19 @@
 //! What the values of a parse are.
-ghost use Rattle.std.specs.Prelude.{◌≡◌, ◌≤◌, false, None, Some, ℕ, IfSome, option_map};
+ghost use Rattle.std.specs.Prelude.{◌≡◌, ◌≤◌, false, None, Some, ℕ, IfSome, IsSome, option_map};
 ghost use Rattle.clap.specs.Words.{first_of, found_of, one_of, rows_of};
 ghost use Rattle.pb_command.specs.Values.{number_in, flag_of, kind_of_text, input_of, is_size};
 ghost use Rattle.pb_command.specs.Values.{are_one_name, option_fits, values_fit, number_at};
 ghost use Rattle.pb_command.specs.Values.{optional_number_at, text_at, flag_at, grounding_by};
 ghost use Rattle.pb_command.specs.Values.{is_input_name, is_loaded_name, is_journal_of_owners};
 ghost use Rattle.pb_command.specs.Values.{engine_at, is_falling_of_owners, is_journal_of_falling};
+ghost use Rattle.pb_command.specs.Values.{effort_at, is_pattern_of_estimate};
 ghost use Rattle.pb_command.specs.Table.{IsInRangeOf};
 ghost use Rattle.pb_command.specs.declared.command.Engine.TheVariants.{Leases, Owners};
+ghost use Rattle.pb_command.specs.declared.table.ValuedOption.TheVariants.{Effort};
 ghost use Rattle.pb_command.specs.Causes.{input_meant};
 
 use crate::command::{Engine, GridFiles, Input, StripsFiles};
-use crate::table::{FlagOption, ValueForm, ValuedOption};
+use crate::table::{FlagOption, TABLES, ValueForm, ValuedOption};
 use clap::ArgMatches;
 use pb_task::{Grounding, Kind};
 
@@ -67,7 +69,7 @@ fn is_given(matches: &ArgMatches<'_>, id: &str) -> bool
 }
 
 // Whether the value of an option, if it is given, is one of the option's form.
-fn fits(matches: &ArgMatches<'_>, option: ValuedOption) -> bool
+pub(crate) fn fits(matches: &ArgMatches<'_>, option: ValuedOption) -> bool
     ensures { result ≡ option_fits option (rows_of (found_of matches.now)) }
 {
     match option.form() {
@@ -89,6 +91,10 @@ fn fits(matches: &ArgMatches<'_>, option: ValuedOption) -> bool
         ValueForm::FileName => true,
         ValueForm::OneOf(first, second) => match text_at(matches, option) {
             Some(word) => first == word || second == word,
+            None => true,
+        },
+        ValueForm::OneWord(only) => match text_at(matches, option) {
+            Some(word) => only == word,
             None => true,
         },
     }
@@ -122,6 +128,7 @@ pub(crate) fn number_at(matches: &ArgMatches<'_>, option: ValuedOption) -> u64
         ValueForm::OptionalNumber { least, .. } => least,
         ValueForm::FileName => 0,
         ValueForm::OneOf(_, _) => 0,
+        ValueForm::OneWord(_) => 0,
     }
 }
 
@@ -137,6 +144,7 @@ pub(crate) fn optional_number_at(matches: &ArgMatches<'_>, option: ValuedOption)
         ValueForm::Number { .. } => None,
         ValueForm::FileName => None,
         ValueForm::OneOf(_, _) => None,
+        ValueForm::OneWord(_) => None,
     }
 }
 
@@ -161,6 +169,22 @@ pub(crate) fn engine_at(matches: &ArgMatches<'_>) -> Engine
             }
         }
         None => Engine::Leases,
+    }
+}
+
+// How much is looked at to find tables for the estimate, if they are asked for.
+pub(crate) fn effort_at(matches: &ArgMatches<'_>) -> Option<u32>
+    ensures effort { result ≡ effort_at (rows_of (found_of matches.now)) }
+    ensures range { IfSome result (IsInRangeOf Effort) }
+{
+    // The number is read in each case. No cast loses anything, by the range of the table.
+    let effort = number_at(matches, ValuedOption::Effort) as u32;
+    match text_at(matches, ValuedOption::Estimate) {
+        Some(word) => {
+            // Any other word is refused by `values_fit`.
+            if word == TABLES { Some(effort) } else { None }
+        }
+        None => None,
     }
 }
 
@@ -228,6 +252,17 @@ pub(crate) fn is_journal_of_falling(falling: Option<u64>, journal: Option<&str>)
     match (falling, journal) {
         (Some(_), Some(_)) => true,
         _ => false,
+    }
+}
+
+// Whether a pattern database is asked for beside tables.
+pub(crate) fn is_pattern_of_estimate(effort: Option<u32>, pattern: u32) -> bool
+    ensures test { result ≡ is_pattern_of_estimate effort pattern }
+    ensures none { result ≡ false → IsSome effort → pattern ≡ 0 }
+{
+    match effort {
+        Some(_) => pattern > 0,
+        None => false,
     }
 }
 

@@ -16,7 +16,7 @@ use Rattle.pb_estimate.specs.Choices.{Plain}
 use Rattle.pb_check.specs.declared.fault.CertificateFault.{CertificateFault}
 use Rattle.pb_check.specs.declared.fault.Verdict.{Verdict}
 use Rattle.pb_check.specs.Judging.{verdict_of, bound_of}
-use Rattle.pb_search.specs.Ends.{choice_of, searched_guide}
+use Rattle.pb_search.specs.Ends.{searched_guide}
 use Rattle.pb_search.specs.Searches.{LeavesQuiet}
 use Rattle.pb_search.proofs.Callers.{quiet_end, search_ends}
 use Rattle.pb_cert.specs.Found.{IsTracedIfAny, IsPlanOf, IsCertificateOf}
@@ -45,9 +45,9 @@ no_fault : (verdict : Verdict) (fault : CertificateFault)
 no_fault verdict fault e = cc
 
 module _ (parts : TaskParts) (graph : GraphValue) (workers : ℕ)
-    (left : LeavesQuiet parts (made_settings workers) graph) where
+    (left : LeavesQuiet parts Plain (made_settings workers) graph) where
   abbrev guide : Guide
-  guide = searched_guide parts graph.table.abstraction (made_settings workers)
+  guide = searched_guide parts graph.table.abstraction Plain
 
   -- a plan that the rows at home lead to, or none
   abbrev pub IsPlanOfRows : Option Plan → Type 0
@@ -57,62 +57,43 @@ module _ (parts : TaskParts) (graph : GraphValue) (workers : ℕ)
   abbrev pub IsOfRows : Option Plan → List ℕ → Type 0
   IsOfRows plan text = IsCertificateOf parts Plain unweighted guide (home_store graph) plan text
 
-  -- what is said of the rows by the graph's own settings
-  pub plan_of_rows : (plan : Option Plan)
-      → IsPlanOf parts (searched_guide parts graph.table.abstraction graph.table.settings)
-      (home_store graph) plan → IsPlanOfRows plan
-  plan_of_rows plan is =
-      subst (λ (s : Settings). IsPlanOf parts (searched_guide parts graph.table.abstraction s)
-      (home_store graph) plan) left.settings_are is
-
-  pub text_of_rows : (plan : Option Plan) (text : List ℕ)
-      → IsCertificateOf parts Plain unweighted
-      (searched_guide parts graph.table.abstraction graph.table.settings) (home_store graph) plan text
-      → IsOfRows plan text
-  text_of_rows plan text is =
-      subst (λ (s : Settings). IsCertificateOf parts Plain unweighted
-      (searched_guide parts graph.table.abstraction s) (home_store graph) plan text) left.settings_are is
-
   -- the search with the settings that the graph has
-  pub with_its_settings : LeavesQuiet parts graph.table.settings graph
+  pub with_its_settings : LeavesQuiet parts Plain graph.table.settings graph
   with_its_settings =
-      subst (λ (s : Settings). LeavesQuiet parts s graph) (sym left.settings_are) left
+      subst (λ (s : Settings). LeavesQuiet parts Plain s graph) (sym left.settings_are) left
 
   pub is_unweighted : weight_of graph.table.settings ≡ unweighted
   is_unweighted = left.best.weight
-
-  pub is_plain : choice_of graph.table.settings ≡ Plain
-  is_plain = ap choice_of left.settings_are
 
   holds : (incumbent : Option ℕ) → graph.incumbent ≡ incumbent
       → IncumbentHolds (space_of parts) unweighted incumbent
   holds incumbent known =
       subst (λ (o : Option ℕ). IncumbentHolds (space_of parts) unweighted o) known
       (subst (λ (w : Weight). IncumbentHolds (space_of parts) w graph.incumbent) is_unweighted
-      (quiet_end parts (made_settings workers) graph left).holds)
+      (quiet_end parts Plain (made_settings workers) graph left).holds)
 
   finds : (plan : Option Plan) → IsPlanOfRows plan
       → Finds parts (made_settings workers) graph.table.journal plan
   finds plan best = record {
-    run = search_ends parts (made_settings workers) graph left;
+    run = search_ends parts Plain (made_settings workers) graph left;
     backed = subst (λ (s : Store). IsBackedBy s.incumbent plan) left.run.rows best.backed;
     traced = subst (λ (s : Store). IsTracedIfAny (space_of parts)
-        (searched_guide parts left.run.ends.abstraction (made_settings workers)) s plan) left.run.rows
+        (searched_guide parts left.run.ends.abstraction Plain) s plan) left.run.rows
         (subst (λ (g : AbstractGraph).
-        IsTracedIfAny (space_of parts) (searched_guide parts g (made_settings workers)) (home_store graph) plan) left.run.blocks
+        IsTracedIfAny (space_of parts) (searched_guide parts g Plain) (home_store graph) plan) left.run.blocks
         best.traced);
   }
 
   -- it is the certificate of the search's rows
   is_of_search : (plan : Option Plan) (text : List ℕ) → IsOfRows plan text
-      → IsCertificateOf parts Plain unweighted (searched_guide parts left.run.ends.abstraction (made_settings workers))
+      → IsCertificateOf parts Plain unweighted (searched_guide parts left.run.ends.abstraction Plain)
       left.run.ends.run.machine.store plan text
   is_of_search plan text is =
       subst (λ (s : Store).
-      IsCertificateOf parts Plain unweighted (searched_guide parts left.run.ends.abstraction (made_settings workers)) s plan text)
+      IsCertificateOf parts Plain unweighted (searched_guide parts left.run.ends.abstraction Plain) s plan text)
       left.run.rows
       (subst (λ (g : AbstractGraph).
-      IsCertificateOf parts Plain unweighted (searched_guide parts g (made_settings workers)) (home_store graph) plan text)
+      IsCertificateOf parts Plain unweighted (searched_guide parts g Plain) (home_store graph) plan text)
       left.run.blocks is)
 
   certified : (plan : Option Plan) (text : List ℕ) → IsPlanOfRows plan → IsOfRows plan text

@@ -44,7 +44,7 @@ IsCertified parts workers verdict =
     × (found : Finds parts (made_settings workers) journal plan)
     × (text : List ℕ)
     × IsCertificateOf parts Plain unweighted
-    (searched_guide parts found.run.ends.abstraction (made_settings workers))
+    (searched_guide parts found.run.ends.abstraction Plain)
     found.run.ends.run.machine.store plan text
     × (verdict ≡ verdict_of unweighted plan)
 
@@ -75,7 +75,7 @@ IfStopped (Stopped budget) P = P budget
 abbrev pub IsStopped : TaskParts → (workers budget : ℕ) → Type 0
 IsStopped parts workers budget =
     (budget ≡ 16777216)
-    × ((journal : List Event) × SearchEnds parts (made_settings workers) Budget journal)
+    × ((journal : List Event) × SearchEnds parts Plain (made_settings workers) Budget journal)
 
 -- all that an answer says of a task
 abbrev pub IsAnswered : TaskParts → (workers : ℕ) → MadeAnswer → Type 0

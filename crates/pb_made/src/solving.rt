@@ -11,7 +11,7 @@ ghost use Rattle.pb_made.specs.Made.{IsSize, OfMade};
 ghost use Rattle.pb_made.specs.Answers.{IfAccepted, IfNoneAccepted, IfStopped, IsAnswered};
 ghost use Rattle.pb_made.specs.Answers.{HasPlan, IsCertified, IsStopped, unweighted};
 ghost use Rattle.pb_made.specs.Answers.{made_settings};
-ghost use Rattle.pb_search.specs.Ends.{choice_of, searched_guide};
+ghost use Rattle.pb_search.specs.Ends.{searched_guide};
 ghost use Rattle.pb_search.specs.Searches.{LeavesQuiet};
 ghost use Rattle.pb_cert.specs.Found.{IsPlanOf, IsCertificateOf};
 
@@ -19,7 +19,7 @@ use crate::MadeAnswer;
 use crate::certified::{verdict_of, written_text};
 use crate::made_task::made_task;
 use pb_cert::{Certificate, Plan, trace};
-use pb_estimate::Spelling;
+use pb_estimate::{Choice, Spelling};
 use pb_lease::LeaseGraph;
 use pb_machine::{End, STANDARD, Settings};
 use pb_outside::Gate;
@@ -104,7 +104,7 @@ fn answer_task<R: Threads + Wait + Sync, G: Gate>(
 {
     let settings = made_settings(workers);
     let budget = settings.budget;
-    let graph = search(rt, alloc, task, settings, gate)?;
+    let graph = search(rt, alloc, task, Choice::plain(), settings, gate)?;
     match graph.end() {
         Some(End::Quiet) => answer_end(alloc, task, &graph, workers),
         Some(End::Budget) => Ok(MadeAnswer::Stopped { budget }),
@@ -120,7 +120,7 @@ fn answer_end(
     graph: &LeaseGraph,
     workers: u32,
 ) -> Result<MadeAnswer, AllocError>
-    requires { LeavesQuiet task.now (made_settings workers) graph.now }
+    requires { LeavesQuiet task.now Plain (made_settings workers) graph.now }
     ensures { IfOk result (IsAnswered task.now workers) }
 {
     let plan = best_plan(alloc, task, graph)?;
@@ -135,9 +135,9 @@ fn answer_end(
 
 // The plan that the rows lead to, if there is one.
 fn best_plan(alloc: Global, task: &Task, graph: &LeaseGraph) -> Result<Option<Plan>, AllocError>
-    requires { LeavesQuiet task.now graph.now.table.settings graph.now }
+    requires { LeavesQuiet task.now Plain graph.now.table.settings graph.now }
     ensures { IfOk result (IsPlanOf task.now
-        (searched_guide task.now graph.now.table.abstraction graph.now.table.settings)
+        (searched_guide task.now graph.now.table.abstraction Plain)
         (home_store graph.now)) }
 {
     match graph.incumbent() {
@@ -148,10 +148,10 @@ fn best_plan(alloc: Global, task: &Task, graph: &LeaseGraph) -> Result<Option<Pl
 
 // The plan that the rows lead to, which there is.
 fn traced_plan(alloc: Global, task: &Task, graph: &LeaseGraph) -> Result<Option<Plan>, AllocError>
-    requires quiet { LeavesQuiet task.now graph.now.table.settings graph.now }
+    requires quiet { LeavesQuiet task.now Plain graph.now.table.settings graph.now }
     requires known { (cost : ℕ) × (graph.now.incumbent ≡ Some cost) }
     ensures { IfOk result (IsPlanOf task.now
-        (searched_guide task.now graph.now.table.abstraction graph.now.table.settings)
+        (searched_guide task.now graph.now.table.abstraction Plain)
         (home_store graph.now)) }
 {
     // Called for its clause `lawful`: the proof asks for a lawful task.
@@ -167,14 +167,13 @@ fn certificate_text(
     plan: Option<Plan>,
     graph: &LeaseGraph,
 ) -> Result<Vec<u8>, AllocError>
-    requires quiet { LeavesQuiet task.now graph.now.table.settings graph.now }
+    requires quiet { LeavesQuiet task.now Plain graph.now.table.settings graph.now }
     requires weight { weight_of graph.now.table.settings ≡ unweighted }
-    requires choice { choice_of graph.now.table.settings ≡ Plain }
     requires plan { IsPlanOf task.now
-        (searched_guide task.now graph.now.table.abstraction graph.now.table.settings)
+        (searched_guide task.now graph.now.table.abstraction Plain)
         (home_store graph.now) plan }
     ensures { IfOk result (λ text. IsCertificateOf task.now Plain unweighted
-        (searched_guide task.now graph.now.table.abstraction graph.now.table.settings)
+        (searched_guide task.now graph.now.table.abstraction Plain)
         (home_store graph.now) plan text.items) }
 {
     // Called for its clause `lawful`, as above.

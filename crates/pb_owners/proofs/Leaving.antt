@@ -11,7 +11,7 @@ use Rattle.pb_task.specs.declared.parts.TaskParts.{TaskParts}
 use Rattle.pb_task.specs.Parts.{space_of, greatest_cost, IsTask}
 use Rattle.pb_task.proofs.Callers.{tasks_are_proper}
 use Rattle.pb_estimate.specs.Estimates.{suits}
-use Rattle.pb_estimate.specs.Choices.{choice_with}
+use Rattle.pb_estimate.specs.Choices.{Choice}
 use Rattle.pb_estimate.proofs.Callers.{estimates_are_admissible}
 use Rattle.pb_abstract.specs.Projection.{IsFinest}
 use Rattle.pb_abstract.specs.Graph.{AbstractGraph, IsGraphOf}
@@ -32,10 +32,10 @@ quiet_is_best end v is_task suits_it ended is =
       small = ended.small;
     }
 
-module _ (parts : TaskParts) (abstraction : AbstractGraph) (settings : Settings) (range : AreInRange settings) (is_task : IsTask parts) (graph_of : IsGraphOf parts abstraction) (finest : IsFinest parts settings.wish abstraction.projection) where
+module _ (parts : TaskParts) (abstraction : AbstractGraph) (choice : Choice) (settings : Settings) (range : AreInRange settings) (is_task : IsTask parts) (graph_of : IsGraphOf parts abstraction) (finest : IsFinest parts settings.wish abstraction.projection) where
   -- from the owners at the start of a search to those at its end
-  pub leaves : (old new : OwnersValue) → old.task ≡ parts → old.abstraction ≡ abstraction → old.choice ≡ choice_with settings.pattern → old.settings ≡ settings → IsOpening old → IsSameSearch old new → (end : End) → OwnersEnd end new → LeavesOwners parts settings end new
-  leaves old new task of_abstraction choice settings_are opening same end ended =
+  pub leaves : (old new : OwnersValue) → old.task ≡ parts → old.abstraction ≡ abstraction → old.choice ≡ choice → old.settings ≡ settings → IsOpening old → IsSameSearch old new → (end : End) → OwnersEnd end new → LeavesOwners parts choice settings end new
+  leaves old new task of_abstraction its_choice settings_are opening same end ended =
       let task_is : new.task ≡ parts = same.task ∙ task in
       let graph_is : new.abstraction ≡ abstraction = same.abstraction ∙ of_abstraction in
       let are : new.settings ≡ settings = same.settings ∙ settings_are in
@@ -45,7 +45,7 @@ module _ (parts : TaskParts) (abstraction : AbstractGraph) (settings : Settings)
         abstraction = its_graph;
         finest = subst (λ (a : AbstractGraph). IsFinest parts settings.wish a.projection) (sym graph_is) finest;
         settings_are = are;
-        choice = same.choice ∙ choice;
+        choice_is = same.choice ∙ its_choice;
         ended = ended;
         quiet = λ is. subst (λ (p : TaskParts). IsQuietEnd (space_of p) (guide_in new) (owners_store new)) task_is
             (quiet_is_best end new (subst IsTask (sym task_is) is_task) ((λ i. suits (same.task i) (same.choice i)) ∙ opening.suits) ended is);

@@ -1,4 +1,4 @@
-//! A search from a task and settings to its end.
+//! A search from a task, an estimate and settings to its end.
 ghost use Rattle.std.specs.Prelude.{◌≡◌, ◌⊎◌, true, IfOk, option_copied};
 ghost use Rattle.std.specs.Option.{option_map};
 ghost use Rattle.std.specs.Arc.{arc_value};
@@ -60,23 +60,24 @@ fn opening(
     )
 }
 
-/// Searches a task by owners with these settings, in a thread for each owner that has work. The
-/// result is how the search ended, and the owners with their rows. The blocks are the finest that
-/// are no more than the settings wish for. A pattern database that they ask for is made once, and
-/// all owners share it. The gate is called as by `run_owners`. An error means out of memory.
+/// Searches a task by owners, by this choice of an estimate and with these settings, in a thread for
+/// each owner that has work. The result is how the search ended, and the owners with their rows. The
+/// blocks are the finest that are no more than the settings wish for. The table of a pattern is made
+/// once, and all owners share it, as they share tables. The gate is called as by `run_owners`. An error means out of memory.
 pub fn search_by_owners<R: Threads + Wait + Sync, G: Gate>(
     rt: &R,
     alloc: Global,
     task: &Arc<Task>,
+    choice: Choice,
     settings: Settings,
     gate: &G,
 ) -> Result<(End, Owners), AllocError>
     requires range { AreInRange settings }
-    ensures left { IfOk result (λ r. LeavesOwners (arc_value task.now) settings r.0 r.1) }
+    requires suits { suits (arc_value task.now) choice ≡ true }
+    ensures left { IfOk result (λ r. LeavesOwners (arc_value task.now) choice settings r.0 r.1) }
     ensures ended { IfOk result (λ r. (r.0 ≡ Quiet) ⊎ (r.0 ≡ Budget)) }
 {
     let abstraction = Arc::new(alloc, AbsGraph::of(alloc, task, settings.wish)?)?;
-    let choice = Choice::with(settings.pattern);
     let made = choice.table(alloc, task)?;
     let table = made.as_ref();
     let mut owners = opening(alloc, task, &abstraction, choice, table, settings)?;

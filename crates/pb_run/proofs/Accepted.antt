@@ -18,7 +18,7 @@ use Rattle.pb_command.specs.Meaning.{Reading, Read, Solve, Check, Journal, Solve
 use Rattle.pb_command.specs.Options.{Argument, value_given, engine_given, HaveKeptJournal, SolveReadsOptions, CheckReadsOptions, JournalReadsOptions}
 use Rattle.pb_answer.specs.Outputs.{Output, output}
 use Rattle.pb_answer.specs.Loaded.{input_task, solve_task, check_task, journal_task, with_text, OfTexts}
-use Rattle.pb_answer.specs.Searches.{settings_of, choice_asked, weight_asked}
+use Rattle.pb_answer.specs.Searches.{settings_of, weight_asked}
 use Rattle.pb_answer.specs.Claims.{IsCertificate, journal_outputs, journal_outputs_if_any, Certifies, Stops}
 use Rattle.pb_answer.specs.Journals.{IsJournalOf}
 use Rattle.pb_answer.specs.Answer.{Says, Saves}
@@ -85,8 +85,8 @@ module _ (solve : SolveMeaning) (check : CheckMeaning) (ran checked_ran : Outcom
   -- the text of the certificate is accepted
   accepted : (parts : TaskParts) (plan : Option Plan) → solve_task solve ran.texts ≡ Ok parts → Certifies (Saves ran.said) solve parts plan
       → AcceptsUnlessStopped check.input check.options checked_ran
-  accepted parts plan is (left, searched, found, outputs, certificate, saves) =
-      let mine = subst (λ (n : Option (List ℕ)). IsCertificate n parts (choice_asked solve) (weight_asked solve) left.guide
+  accepted parts plan is (choice, asked, left, searched, found, outputs, certificate, saves) =
+      let mine = subst (λ (n : Option (List ℕ)). IsCertificate n parts choice (weight_asked solve) left.guide
       left.store plan outputs) named certificate in
       let journals = journal_outputs_if_any solve.journal (settings_of solve) left.journal in
       let all : output name text ∷ saved.0 ≡ (output name mine.0 ∷ []) ++ journals =
@@ -289,7 +289,7 @@ pub certificates_are_accepted_by_words : SolveReadsOptions → CheckReadsOptions
 certificates_are_accepted_by_words solve_reads check_reads input name file text arguments others solved checked matching same_swamp new named kept kept_too answered saved texts =
     certificate_by_words _ _ _ solved checked
     (solve_reads input arguments matching.solve matching.one_run matching.weight matching.names
-    matching.kept) kept
+    matching.kept matching.estimate) kept
     kept_too _ name
     text (check_reads input file others matching.each matching.distinct matching.placed new) refl
     (options_agree _ _ _ _ _ _ matching.row same_swamp matching.reachable) named answered saved texts
@@ -311,7 +311,7 @@ pub journals_are_accepted_by_words : SavedJournalsAreAccepted → SolveReadsOpti
 journals_are_accepted_by_words law solve_reads journal_reads input name file text arguments others solved judged matching named kept kept_too answered saved texts =
     journal_by_words _ _ _ solved judged
     (solve_reads input arguments matching.solve matching.one_run matching.weight matching.names
-    matching.kept) kept
+    matching.kept matching.estimate) kept
     kept_too law (by_leases arguments name matching.kept named) _
     name text (journal_reads input file others matching.each matching.distinct matching.placed) refl
     (options_agree _ _ false false _ _ matching.row refl matching.reachable) named answered saved texts

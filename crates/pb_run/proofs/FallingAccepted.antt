@@ -13,7 +13,7 @@ use Rattle.pb_command.specs.Values.{InputNames, Grid, Tiles, Strips}
 use Rattle.pb_command.specs.Meaning.{Reading, Read, Falling, FallingMeaning, CheckMeaning, SolveMeaning}
 use Rattle.pb_command.specs.Options.{number_of, solve_given, FallingReadsOptions, CheckReadsOptions}
 use Rattle.pb_answer.specs.Outputs.{Output}
-use Rattle.pb_answer.specs.Searches.{choice_asked, weight_asked}
+use Rattle.pb_answer.specs.Searches.{weight_asked}
 use Rattle.pb_answer.specs.Loaded.{input_task, solve_task, check_task, with_text, OfTexts}
 use Rattle.pb_answer.specs.Parts.{AnswerPart}
 use Rattle.pb_answer.specs.Stops.{StopsGrounding, StopsBehind}
@@ -52,12 +52,12 @@ saved_accepted None run task choice weight plan files none = none_accepted task 
 saved_accepted (Some name) run task choice weight plan files (file, is, are) =
     subst (AllByRecursion (IsAcceptedFile task)) (sym are) (one_accepted name run task choice weight plan file is, tt)
 
-next_accepted : (solve : SolveMeaning) (task : TaskParts) (steps : ℕ) (claims : List PrintedClaim) (part : AnswerPart) → IsNext solve task steps claims part → AllByRecursion (IsAcceptedFile task) part.outputs
-next_accepted solve task steps claims part (inl (claim, are, of, text, saves)) =
-    saved_accepted solve.certificate (length claims) task (choice_asked solve) claim.weight (Some claim.plan) part.outputs saves
-next_accepted solve task steps claims part (inr (inl (none, no_plan, text, saves))) =
-    saved_accepted solve.certificate 0 task (choice_asked solve) (weight_asked solve) None part.outputs saves
-next_accepted solve task steps claims part (inr (inr (spent, text, none))) = none_accepted task part.outputs none
+next_accepted : (solve : SolveMeaning) (task : TaskParts) (choice : Choice) (steps : ℕ) (claims : List PrintedClaim) (part : AnswerPart) → IsNext solve task choice steps claims part → AllByRecursion (IsAcceptedFile task) part.outputs
+next_accepted solve task choice steps claims part (inl (claim, are, of, same, text, saves)) =
+    saved_accepted solve.certificate (length claims) task choice claim.weight (Some claim.plan) part.outputs saves
+next_accepted solve task choice steps claims part (inr (inl (none, no_plan, text, asked, saves))) =
+    saved_accepted solve.certificate 0 task choice (weight_asked solve) None part.outputs saves
+next_accepted solve task choice steps claims part (inr (inr (spent, text, none))) = none_accepted task part.outputs none
 
 -- ---- one of the files
 
@@ -104,28 +104,28 @@ module _ (falling : FallingMeaning) (check : CheckMeaning) (ran checked_ran : Ou
 
   pub by_status : SavesWhole ran.said.status → FallingHolds falling ran → Accepts
   by_status (inl zero) holds = of_texts (EndsProved falling.solve falling.steps ran.said)
-      (λ task e. each_accepted falling.solve.certificate task (choice_asked falling.solve) (e.claims ++ e.last ∷ []) ran.said.outputs e.certified) (holds.proved zero)
+      (λ task e. each_accepted falling.solve.certificate task e.searched.choice (e.claims ++ e.last ∷ []) ran.said.outputs e.certified) (holds.proved zero)
   by_status (inr (inl one)) holds = of_texts (EndsNone falling.solve ran.said)
-      (λ task e. saved_accepted falling.solve.certificate 0 task (choice_asked falling.solve) (weight_asked falling.solve) None ran.said.outputs e.certified) (holds.none one)
+      (λ task e. saved_accepted falling.solve.certificate 0 task e.choice (weight_asked falling.solve) None ran.said.outputs e.certified) (holds.none one)
   by_status (inr (inr (inl two))) holds = go (holds.stopped two)
     where
       go : OfTexts falling.solve ran.texts (EndsStopped falling.solve falling.steps ran.said) ⊎ StopsGrounding falling.solve.input falling.solve.options 0 ran.texts ran.said → Accepts
       go (inl stop) = of_texts (EndsStopped falling.solve falling.steps ran.said)
-          (λ task e. each_accepted falling.solve.certificate task (choice_asked falling.solve) e.claims ran.said.outputs e.so_far.certified) stop
+          (λ task e. each_accepted falling.solve.certificate task e.so_far.searched.choice e.claims ran.said.outputs e.so_far.certified) stop
       go (inr halted) = nothing halted.outputs
   by_status (inr (inr (inr (inl memory)))) holds = go (holds.short memory)
     where
       go : IsSilent ran.said ⊎ OfTexts falling.solve ran.texts (EndsShort falling.solve falling.steps ran.said) → Accepts
       go (inl silent) = nothing silent.1
       go (inr short) = of_texts (EndsShort falling.solve falling.steps ran.said)
-          (λ task e. each_accepted falling.solve.certificate task (choice_asked falling.solve) e.claims ran.said.outputs e.so_far.certified) short
+          (λ task e. each_accepted falling.solve.certificate task e.so_far.searched.choice e.claims ran.said.outputs e.so_far.certified) short
   by_status (inr (inr (inr (inr sink)))) holds = go (holds.unprinted sink)
     where
       all : (task : TaskParts) → EndsUnprinted falling.solve falling.steps ran.said task → AllByRecursion (IsAcceptedFile task) ran.said.outputs
       all task e = subst (AllByRecursion (IsAcceptedFile task)) (sym e.outputs)
           (all_joined (IsAcceptedFile task) e.files e.part.outputs
-          (each_accepted falling.solve.certificate task (choice_asked falling.solve) e.claims e.files e.so_far.certified)
-          (next_accepted falling.solve task falling.steps e.claims e.part e.next))
+          (each_accepted falling.solve.certificate task e.so_far.searched.choice e.claims e.files e.so_far.certified)
+          (next_accepted falling.solve task e.so_far.searched.choice falling.steps e.claims e.part e.next))
 
       go : IsRefusedInPart falling.solve ran.texts ran.said
           ⊎ (IsStoppedInPart falling.solve ran.texts ran.said ⊎ OfTexts falling.solve ran.texts (EndsUnprinted falling.solve falling.steps ran.said)) → Accepts
@@ -142,7 +142,7 @@ saved_claims_are_accepted falling check ran checked_ran file asked same_input sa
 pub claims_are_accepted_by_words : FallingReadsOptions → CheckReadsOptions → ClaimsAreAcceptedByWords
 claims_are_accepted_by_words falling_reads check_reads input steps file arguments others ran checked_ran saved m asked holds kept whole is texts =
     let falling : FallingMeaning = record { solve = solve_given input arguments; steps = number_of steps } in
-    let reads : ran.asked ≡ Read (Falling falling) = asked ∙ falling_reads input steps arguments m.solve m.falling m.weight m.engine m.journal in
+    let reads : ran.asked ≡ Read (Falling falling) = asked ∙ falling_reads input steps arguments m.solve m.falling m.weight m.engine m.journal m.estimate in
     let also = kept.asked ∙ check_reads input file others m.each m.distinct m.placed m.new in
     check_accepts checked_ran _ also
     (saved_claims_are_accepted falling _ ran checked_ran saved reads refl (options_agree _ _ _ _ _ _ m.row m.swamp m.reachable) whole is texts

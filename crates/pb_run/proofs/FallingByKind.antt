@@ -81,15 +81,15 @@ module _ (falling : FallingMeaning) (it : Outcome) where
       Whole : (rest : List ℕ) → Type 0
       Whole rest = PrintsClaims (it.said.report ++ e.rest) (space_of task) name (weight_of_words falling.solve) falling.steps rest
 
-      go : IsNext falling.solve task falling.steps e.claims e.part
+      go : IsNext falling.solve task e.so_far.searched.choice falling.steps e.claims e.part
           → Whole [] ⊎ (Whole budget_line ⊎ ((it.said.report ++ e.rest ≡ none_report) × HasNoPlan (space_of task)))
-      go (inl (claim, are, searched, text, saves)) =
+      go (inl (claim, are, searched, same, text, saves)) =
           inl (
             e.claims ++ claim ∷ [],
             are,
             whole_of task e ∙ ap (λ (t : List ℕ). claims_text name e.claims ++ t) text ∙ one_more name e.claims claim,
           )
-      go (inr (inl (first, none, text, saves))) =
+      go (inr (inl (first, none, text, asked, saves))) =
           inr (inr (whole_of task e ∙ ap (λ (c : List PrintedClaim). claims_text name c ++ e.part.report) first ∙ text, none))
       go (inr (inr (spent, text, nothing))) =
           inr (inl (e.claims, e.so_far.are, whole_of task e ∙ ap (λ (t : List ℕ). claims_text name e.claims ++ t) text))

@@ -6,16 +6,17 @@ use Rattle.pb_model.specs.Weight.{Weight}
 use Rattle.pb_model.specs.Plan.{Plan, IsBound}
 use Rattle.pb_task.specs.declared.parts.TaskParts.{TaskParts}
 use Rattle.pb_task.specs.Parts.{space_of, action_name}
+use Rattle.pb_estimate.specs.Choices.{Choice}
 use Rattle.pb_abstract.specs.Projection.{IsFinest}
 use Rattle.pb_abstract.specs.Graph.{AbstractGraph, IsGraphOf}
 use Rattle.pb_falling.specs.Falling.{Claim}
 use Rattle.pb_command.specs.Meaning.{SolveMeaning}
 use Rattle.pb_answer.specs.Outputs.{Output}
-use Rattle.pb_answer.specs.Searches.{choice_asked, weight_asked}
+use Rattle.pb_answer.specs.Searches.{weight_asked, IsChoiceAsked}
 use Rattle.pb_answer.specs.Answer.{Said}
 use Rattle.pb_answer.specs.Parts.{AnswerPart, outputs_of, report_of}
 use Rattle.pb_answer.specs.Falling.{AreFalling, MayBeImproved, SayClaims, IsProvedCheapest, IsFallingNone, IsFallingStop, AreClaimParts, IsFallingFound}
-use Rattle.pb_run.specs.FallingHeadline.{PrintedClaim, claims_text, AreClaimsOf, MayBeCheaper, SavesOne, SavesEach, AreOfRuns, AreSearched, HaveClaimed, IsNext, EndsProved, EndsNone, EndsStopped, EndsShort}
+use Rattle.pb_run.specs.FallingHeadline.{PrintedClaim, claims_text, AreClaimsOf, MayBeCheaper, SavesOne, SavesEach, AreOfRuns, HaveClaimed, IsNext, EndsProved, EndsNone, EndsStopped, EndsShort}
 use Rattle.pb_run.proofs.FallingTold.{all_first, all_last, IsBounded, all_of, may_be_cheaper, falling_first, no_files, each_file, saves_one, told, split_claims, are_claims, searched, have_claimed, one_more}
 
 -- ---- parts after others
@@ -31,14 +32,14 @@ files_joined (part ∷ parts) more =
     ap (λ (files : List Output). part.outputs ++ files) (files_joined parts more) ∙ sym (append_assoc part.outputs (outputs_of parts) (outputs_of more))
 
 -- the same claims, printed and saved as these
-pub claimed_as : (solve : SolveMeaning) (task : TaskParts) (steps : ℕ) (claims : List PrintedClaim) (report other : List ℕ) (files others : List Output) → other ≡ report → others ≡ files
+abbrev pub claimed_as : (solve : SolveMeaning) (task : TaskParts) (steps : ℕ) (claims : List PrintedClaim) (report other : List ℕ) (files others : List Output) → other ≡ report → others ≡ files
     → HaveClaimed solve task steps claims report files → HaveClaimed solve task steps claims other others
 claimed_as solve task steps claims report other files others is are have = record {
   are = have.are;
   searched = have.searched;
   improvable = have.improvable;
   printed = is ∙ have.printed;
-  certified = subst (λ (os : List Output). SavesEach solve.certificate task (choice_asked solve) claims os) (sym are) have.certified;
+  certified = subst (λ (os : List Output). SavesEach solve.certificate task have.searched.choice claims os) (sym are) have.certified;
 }
 
 -- ---- the last claim
@@ -128,31 +129,31 @@ module _ (solve : SolveMeaning) (task : TaskParts) (steps : ℕ) where
   pub record Broken (before : List AnswerPart) (part : AnswerPart) : Type 0 where
     pub claims : List PrintedClaim
     pub so_far : HaveClaimed solve task steps claims (report_of before) (outputs_of before)
-    pub next : IsNext solve task steps claims part
+    pub next : IsNext solve task so_far.searched.choice steps claims part
 
-  module _ (abstraction : AbstractGraph) (graph_of : IsGraphOf task abstraction) (finest : IsFinest task solve.settings.wish abstraction.projection) where
+  module _ (abstraction : AbstractGraph) (choice : Choice) (graph_of : IsGraphOf task abstraction) (finest : IsFinest task solve.settings.wish abstraction.projection) (asked : IsChoiceAsked solve task choice) where
     abbrev Say : List Claim → List AnswerPart → Type 0
-    Say runs parts = SayClaims solve task abstraction steps 0 runs parts
+    Say runs parts = SayClaims solve task abstraction choice steps 0 runs parts
 
     abbrev Fall : List Claim → Type 0
-    Fall runs = AreFalling solve task abstraction steps runs
+    Fall runs = AreFalling solve task abstraction choice steps runs
 
     broken_claim : (runs : List Claim) (before : List AnswerPart) (part : AnswerPart) (after : List AnswerPart) → Fall runs → Say runs (before ++ part ∷ after)
         → ((first : List Claim) (one : Claim) (rest : List Claim) → runs ≡ first ++ one ∷ rest → AllByRecursion MayBeImproved first) → Broken before part
     broken_claim runs before part after falling say improvable =
-        let s = split_claims solve task abstraction steps 0 runs before part after say in
+        let s = split_claims solve task abstraction choice steps 0 runs before part after say in
         let all = subst (λ (rs : List Claim). Fall rs) s.runs_are falling in
         let some = improvable s.first s.claim s.rest s.runs_are in
         record {
-          claims = (told solve task abstraction steps 0 s.first before s.say).claims;
-          so_far = have_claimed solve task abstraction steps graph_of finest s.first before s.say (first_falling s.first s.claim s.rest all) some;
-          next = inl (one_more solve task abstraction steps graph_of finest s.first s.claim s.rest before part s.say s.says all);
+          claims = (told solve task abstraction choice steps 0 s.first before s.say).claims;
+          so_far = have_claimed solve task abstraction choice steps graph_of finest asked s.first before s.say (first_falling s.first s.claim s.rest all) some;
+          next = inl (one_more solve task abstraction choice steps graph_of finest asked s.first s.claim s.rest before part s.say s.says all);
         }
       where
         first_falling : (first : List Claim) (one : Claim) (rest : List Claim) → Fall (first ++ one ∷ rest) → Fall first
-        first_falling first one rest all = falling_first solve task abstraction steps first (one ∷ rest) all
+        first_falling first one rest all = falling_first solve task abstraction choice steps first (one ∷ rest) all
 
-    broken_proved : (before : List AnswerPart) (part : AnswerPart) (after : List AnswerPart) → IsProvedCheapest solve task abstraction steps (before ++ part ∷ after) → Broken before part
+    broken_proved : (before : List AnswerPart) (part : AnswerPart) (after : List AnswerPart) → IsProvedCheapest solve task abstraction choice steps (before ++ part ∷ after) → Broken before part
     broken_proved before part after (runs, last, falling, say, improvable, bound, least) =
         broken_claim (runs ++ last ∷ []) before part after falling say (λ first one rest is. all_before MayBeImproved runs last first one rest is improvable)
 
@@ -163,16 +164,16 @@ module _ (solve : SolveMeaning) (task : TaskParts) (steps : ℕ) where
     no_claims : Fall []
     no_claims = record { are = tt; quiet_runs = tt; few = omega arith; weights = tt; hold = tt; fall = tt }
 
-    nothing_claimed : HaveClaimed solve task steps [] [] []
+    abbrev nothing_claimed : HaveClaimed solve task steps [] [] []
     nothing_claimed = record {
-      are = are_claims solve task abstraction steps [] [] no_claims tt tt;
-      searched = searched solve task abstraction steps graph_of finest [] [] no_claims tt;
+      are = are_claims solve task abstraction choice steps [] [] no_claims tt tt;
+      searched = searched solve task abstraction choice steps graph_of finest asked [] [] no_claims tt;
       improvable = tt;
       printed = refl;
-      certified = each_file solve.certificate task (choice_asked solve) [] [] (no_files solve.certificate 0 task (choice_asked solve));
+      certified = each_file solve.certificate task choice [] [] (no_files solve.certificate 0 task choice);
     }
 
-    broken_none : (before : List AnswerPart) (part : AnswerPart) (after : List AnswerPart) → IsFallingNone solve task abstraction steps (before ++ part ∷ after) → Broken before part
+    broken_none : (before : List AnswerPart) (part : AnswerPart) (after : List AnswerPart) → IsFallingNone solve task abstraction choice steps (before ++ part ∷ after) → Broken before part
     broken_none before part after (one, (none, report, moves, run, saved), are) = go (where_in before part after [] one are)
       where
         go : Behind before part after [] one → Broken before part
@@ -183,29 +184,30 @@ module _ (solve : SolveMeaning) (task : TaskParts) (steps : ℕ) where
             never (b ∷ before) more is = cc
         go (inr (is, also)) = record {
           claims = [];
-          so_far = subst (λ (parts : List AnswerPart). HaveClaimed solve task steps [] (report_of parts) (outputs_of parts)) (sym is) nothing_claimed;
+          so_far = claimed_as solve task steps [] [] (report_of before) [] (outputs_of before) (ap report_of is) (ap outputs_of is) nothing_claimed;
           next = inr (inl (
             refl,
             none,
             ap (λ (p : AnswerPart). p.report) also ∙ report,
-            subst (λ (p : AnswerPart). SavesOne solve.certificate 0 task (choice_asked solve) (weight_asked solve) None p.outputs) (sym also)
-                (saves_one solve.certificate 0 task (choice_asked solve) (weight_asked solve) _ _ None one.outputs saved),
+            asked,
+            subst (λ (p : AnswerPart). SavesOne solve.certificate 0 task choice (weight_asked solve) None p.outputs) (sym also)
+                (saves_one solve.certificate 0 task choice (weight_asked solve) _ _ None one.outputs saved),
           ));
         }
 
-    broken_stop : (before : List AnswerPart) (part : AnswerPart) (after : List AnswerPart) → IsFallingStop solve task abstraction steps (before ++ part ∷ after) → Broken before part
+    broken_stop : (before : List AnswerPart) (part : AnswerPart) (after : List AnswerPart) → IsFallingStop solve task abstraction choice steps (before ++ part ∷ after) → Broken before part
     broken_stop before part after (runs, said, last, falling, say, improvable, stop, are) = go (where_in before part after said last are)
       where
         go : Behind before part after said last → Broken before part
         go (inl (more, is)) = broken_first runs before part more falling (subst (λ (parts : List AnswerPart). Say runs parts) is say) improvable
         go (inr (is, also)) =
-            let t = told solve task abstraction steps 0 runs said say in
+            let t = told solve task abstraction choice steps 0 runs said say in
             record {
               claims = t.claims;
-              so_far = subst (λ (parts : List AnswerPart). HaveClaimed solve task steps t.claims (report_of parts) (outputs_of parts)) (sym is)
-                  (have_claimed solve task abstraction steps graph_of finest runs said say falling improvable);
+              so_far = claimed_as solve task steps t.claims (report_of said) (report_of before) (outputs_of said) (outputs_of before) (ap report_of is) (ap outputs_of is)
+                  (have_claimed solve task abstraction choice steps graph_of finest asked runs said say falling improvable);
               next = inr (inr (
-                (searched solve task abstraction steps graph_of finest runs t.claims falling t.are_of, stop.0),
+                (searched solve task abstraction choice steps graph_of finest asked runs t.claims falling t.are_of, refl, stop.0),
                 ap (λ (p : AnswerPart). p.report) also ∙ stop.1,
                 ap (λ (p : AnswerPart). p.outputs) also ∙ stop.2,
               ));
@@ -213,10 +215,10 @@ module _ (solve : SolveMeaning) (task : TaskParts) (steps : ℕ) where
 
     -- ---- all of it
 
-    ends_proved : (said : Said) (parts : List AnswerPart) → said.report ≡ report_of parts → said.outputs ≡ outputs_of parts → IsProvedCheapest solve task abstraction steps parts → EndsProved solve steps said task
+    ends_proved : (said : Said) (parts : List AnswerPart) → said.report ≡ report_of parts → said.outputs ≡ outputs_of parts → IsProvedCheapest solve task abstraction choice steps parts → EndsProved solve steps said task
     ends_proved said parts report outputs (runs, last, falling, say, improvable, bound, least) =
         let all = runs ++ last ∷ [] in
-        let t = told solve task abstraction steps 0 all parts say in
+        let t = told solve task abstraction choice steps 0 all parts say in
         let s = split_last runs last t.claims t.are_of in
         let bounded = subst (λ (cs : List PrintedClaim). AllByRecursion IsBounded cs) s.claims_are t.bounded in
         let last_bound : IsBound s.final.weight s.final.plan.cost s.final.plan.cost =
@@ -226,86 +228,88 @@ module _ (solve : SolveMeaning) (task : TaskParts) (steps : ℕ) where
           claims = s.first;
           last = s.final;
           are = subst (λ (cs : List PrintedClaim). AreClaimsOf (space_of task) (weight_asked solve) steps cs) s.claims_are
-              (are_claims solve task abstraction steps all t.claims falling t.are_of t.bounded);
-          searched = subst (λ (cs : List PrintedClaim). AreSearched solve task steps cs) s.claims_are
-              (searched solve task abstraction steps graph_of finest all t.claims falling t.are_of);
+              (are_claims solve task abstraction choice steps all t.claims falling t.are_of t.bounded);
+          searched = searched solve task abstraction choice steps graph_of finest asked all (s.first ++ s.final ∷ []) falling
+              (subst (λ (cs : List PrintedClaim). AreOfRuns all cs) s.claims_are t.are_of);
           printed = report ∙ t.printed ∙ ap (claims_text (action_name task)) s.claims_are;
-          certified = subst (λ (os : List Output). SavesEach solve.certificate task (choice_asked solve) (s.first ++ s.final ∷ []) os) (sym outputs)
-              (subst (λ (cs : List PrintedClaim). SavesEach solve.certificate task (choice_asked solve) cs (outputs_of parts)) s.claims_are
-              (each_file solve.certificate task (choice_asked solve) t.claims (outputs_of parts) t.files));
+          certified = subst (λ (os : List Output). SavesEach solve.certificate task choice (s.first ++ s.final ∷ []) os) (sym outputs)
+              (subst (λ (cs : List PrintedClaim). SavesEach solve.certificate task choice cs (outputs_of parts)) s.claims_are
+              (each_file solve.certificate task choice t.claims (outputs_of parts) t.files));
           improvable = all_of MayBeImproved MayBeCheaper may_be_cheaper runs s.first s.are_of (all_first IsBounded s.first (s.final ∷ []) bounded) improvable;
           proved = one_bound s.final.weight s.final.plan.cost s.final.bound s.final.plan.cost (all_last IsBounded s.first s.final bounded).0 last_bound;
           least = λ plan is. subst (λ (p : Plan). p.cost ≤ plan.cost) (sym s.plan) (least plan is);
         }
 
-    ends_none : (said : Said) (parts : List AnswerPart) → said.report ≡ report_of parts → said.outputs ≡ outputs_of parts → IsFallingNone solve task abstraction steps parts → EndsNone solve said task
+    ends_none : (said : Said) (parts : List AnswerPart) → said.report ≡ report_of parts → said.outputs ≡ outputs_of parts → IsFallingNone solve task abstraction choice steps parts → EndsNone solve said task
     ends_none said parts report outputs (one, (none, text, moves, run, saved), are) =
         let files : said.outputs ≡ one.outputs = outputs ∙ ap outputs_of are ∙ append-nil one.outputs in
         record {
           printed = report ∙ ap report_of are ∙ append-nil one.report ∙ text;
           no_plan = none;
-          certified = subst (λ (os : List Output). SavesOne solve.certificate 0 task (choice_asked solve) (weight_asked solve) None os) (sym files)
-              (saves_one solve.certificate 0 task (choice_asked solve) (weight_asked solve) _ _ None one.outputs saved);
+          choice = choice;
+          asked = asked;
+          certified = subst (λ (os : List Output). SavesOne solve.certificate 0 task choice (weight_asked solve) None os) (sym files)
+              (saves_one solve.certificate 0 task choice (weight_asked solve) _ _ None one.outputs saved);
         }
 
-    ends_stopped : (said : Said) (parts : List AnswerPart) → said.report ≡ report_of parts → said.outputs ≡ outputs_of parts → IsFallingStop solve task abstraction steps parts → EndsStopped solve steps said task
+    ends_stopped : (said : Said) (parts : List AnswerPart) → said.report ≡ report_of parts → said.outputs ≡ outputs_of parts → IsFallingStop solve task abstraction choice steps parts → EndsStopped solve steps said task
     ends_stopped said parts report outputs (runs, first, last, falling, say, improvable, stop, are) =
-        let t = told solve task abstraction steps 0 runs first say in
+        let t = told solve task abstraction choice steps 0 runs first say in
         let files : said.outputs ≡ outputs_of first =
         outputs ∙ ap outputs_of are ∙ files_joined first (last ∷ []) ∙ ap (λ (os : List Output). outputs_of first ++ (os ++ [])) stop.2 ∙ append-nil (outputs_of first) in
         record {
           claims = t.claims;
           report = report_of first;
           so_far = claimed_as solve task steps t.claims (report_of first) (report_of first) (outputs_of first) said.outputs refl files
-              (have_claimed solve task abstraction steps graph_of finest runs first say falling improvable);
+              (have_claimed solve task abstraction choice steps graph_of finest asked runs first say falling improvable);
           printed = report ∙ ap report_of are ∙ reports_joined first (last ∷ [])
               ∙ ap (λ (text : List ℕ). report_of first ++ text) (append-nil last.report ∙ stop.1);
-          spent = (searched solve task abstraction steps graph_of finest runs t.claims falling t.are_of, stop.0);
+          spent = (searched solve task abstraction choice steps graph_of finest asked runs t.claims falling t.are_of, refl, stop.0);
         }
 
   -- what comes next has one file at most
-  one_or_none : (given : Option (List ℕ)) (run : ℕ) (weight : Weight) (plan : Option Plan) (files : List Output) → SavesOne given run task (choice_asked solve) weight plan files
+  one_or_none : (given : Option (List ℕ)) (run : ℕ) (choice : Choice) (weight : Weight) (plan : Option Plan) (files : List Output) → SavesOne given run task choice weight plan files
       → (files ≡ []) ⊎ ((file : Output) × (files ≡ file ∷ []))
-  one_or_none None run weight plan files none = inl none
-  one_or_none (Some name) run weight plan files (file, is, are) = inr (file, are)
+  one_or_none None run choice weight plan files none = inl none
+  one_or_none (Some name) run choice weight plan files (file, is, are) = inr (file, are)
 
-  pub one_file : (claims : List PrintedClaim) (part : AnswerPart) → IsNext solve task steps claims part → (part.outputs ≡ []) ⊎ ((file : Output) × (part.outputs ≡ file ∷ []))
-  one_file claims part (inl (claim, are, of, text, saves)) = one_or_none solve.certificate (length claims) claim.weight (Some claim.plan) part.outputs saves
-  one_file claims part (inr (inl (none, no_plan, text, saves))) = one_or_none solve.certificate 0 (weight_asked solve) None part.outputs saves
-  one_file claims part (inr (inr (spent, text, none))) = inl none
+  pub one_file : (choice : Choice) (claims : List PrintedClaim) (part : AnswerPart) → IsNext solve task choice steps claims part → (part.outputs ≡ []) ⊎ ((file : Output) × (part.outputs ≡ file ∷ []))
+  one_file choice claims part (inl (claim, are, of, same, text, saves)) = one_or_none solve.certificate (length claims) choice claim.weight (Some claim.plan) part.outputs saves
+  one_file choice claims part (inr (inl (none, no_plan, text, asked, saves))) = one_or_none solve.certificate 0 choice (weight_asked solve) None part.outputs saves
+  one_file choice claims part (inr (inr (spent, text, none))) = inl none
 
   -- ---- by how it was found
 
   pub broken : (said : Said) (before : List AnswerPart) (part : AnswerPart) (after : List AnswerPart) → IsFallingFound solve task steps said (before ++ part ∷ after) → Broken before part
   broken said before part after found = go found.found
     where
-      go : ((said.status ≡ 0) × IsProvedCheapest solve task found.abstraction steps (before ++ part ∷ after))
-          ⊎ (((said.status ≡ 1) × IsFallingNone solve task found.abstraction steps (before ++ part ∷ after))
-          ⊎ ((said.status ≡ 2) × IsFallingStop solve task found.abstraction steps (before ++ part ∷ after))) → Broken before part
-      go (inl (status, proved)) = broken_proved found.abstraction found.graph_of found.finest before part after proved
-      go (inr (inl (status, none))) = broken_none found.abstraction found.graph_of found.finest before part after none
-      go (inr (inr (status, stop))) = broken_stop found.abstraction found.graph_of found.finest before part after stop
+      go : ((said.status ≡ 0) × IsProvedCheapest solve task found.abstraction found.choice steps (before ++ part ∷ after))
+          ⊎ (((said.status ≡ 1) × IsFallingNone solve task found.abstraction found.choice steps (before ++ part ∷ after))
+          ⊎ ((said.status ≡ 2) × IsFallingStop solve task found.abstraction found.choice steps (before ++ part ∷ after))) → Broken before part
+      go (inl (status, proved)) = broken_proved found.abstraction found.choice found.graph_of found.finest found.asked before part after proved
+      go (inr (inl (status, none))) = broken_none found.abstraction found.choice found.graph_of found.finest found.asked before part after none
+      go (inr (inr (status, stop))) = broken_stop found.abstraction found.choice found.graph_of found.finest found.asked before part after stop
 
   pub broken_among : (before : List AnswerPart) (part : AnswerPart) (after : List AnswerPart) → AreClaimParts solve task steps (before ++ part ∷ after) → Broken before part
-  broken_among before part after are = broken_first are.abstraction are.graph_of are.finest are.claims before part after are.falling are.say are.improvable
+  broken_among before part after are = broken_first are.abstraction are.choice are.graph_of are.finest are.asked are.claims before part after are.falling are.say are.improvable
 
   -- the claims so far, and nothing else
   pub ends_short : (said : Said) (parts : List AnswerPart) → said.report ≡ report_of parts → said.outputs ≡ outputs_of parts → AreClaimParts solve task steps parts → EndsShort solve steps said task
   ends_short said parts report outputs are =
-      let t = told solve task are.abstraction steps 0 are.claims parts are.say in
+      let t = told solve task are.abstraction are.choice steps 0 are.claims parts are.say in
       record {
         claims = t.claims;
         so_far = claimed_as solve task steps t.claims (report_of parts) said.report (outputs_of parts) said.outputs report outputs
-            (have_claimed solve task are.abstraction steps are.graph_of are.finest are.claims parts are.say are.falling are.improvable);
+            (have_claimed solve task are.abstraction are.choice steps are.graph_of are.finest are.asked are.claims parts are.say are.falling are.improvable);
       }
 
   module _ (said : Said) (parts : List AnswerPart) (found : IsFallingFound solve task steps said parts) where
     by_status : (Q : Type 0) → (said.status ≡ 0 → Q) → (said.status ≡ 1 → Q) → (said.status ≡ 2 → Q) → Q
     by_status Q zero one two = go found.found
       where
-        go : ((said.status ≡ 0) × IsProvedCheapest solve task found.abstraction steps parts)
-            ⊎ (((said.status ≡ 1) × IsFallingNone solve task found.abstraction steps parts)
-            ⊎ ((said.status ≡ 2) × IsFallingStop solve task found.abstraction steps parts)) → Q
+        go : ((said.status ≡ 0) × IsProvedCheapest solve task found.abstraction found.choice steps parts)
+            ⊎ (((said.status ≡ 1) × IsFallingNone solve task found.abstraction found.choice steps parts)
+            ⊎ ((said.status ≡ 2) × IsFallingStop solve task found.abstraction found.choice steps parts)) → Q
         go (inl h) = zero h.0
         go (inr (inl h)) = one h.0
         go (inr (inr h)) = two h.0
@@ -313,32 +317,32 @@ module _ (solve : SolveMeaning) (task : TaskParts) (steps : ℕ) where
     pub at_zero : said.status ≡ 0 → EndsProved solve steps said task
     at_zero e = go found.found
       where
-        go : ((said.status ≡ 0) × IsProvedCheapest solve task found.abstraction steps parts)
-            ⊎ (((said.status ≡ 1) × IsFallingNone solve task found.abstraction steps parts)
-            ⊎ ((said.status ≡ 2) × IsFallingStop solve task found.abstraction steps parts)) → EndsProved solve steps said task
-        go (inl (status, proved)) = ends_proved found.abstraction found.graph_of found.finest said parts found.report found.outputs proved
+        go : ((said.status ≡ 0) × IsProvedCheapest solve task found.abstraction found.choice steps parts)
+            ⊎ (((said.status ≡ 1) × IsFallingNone solve task found.abstraction found.choice steps parts)
+            ⊎ ((said.status ≡ 2) × IsFallingStop solve task found.abstraction found.choice steps parts)) → EndsProved solve steps said task
+        go (inl (status, proved)) = ends_proved found.abstraction found.choice found.graph_of found.finest found.asked said parts found.report found.outputs proved
         go (inr (inl (status, none))) = absurd (omega (arith, e, status))
         go (inr (inr (status, stop))) = absurd (omega (arith, e, status))
 
     pub at_one : said.status ≡ 1 → EndsNone solve said task
     at_one e = go found.found
       where
-        go : ((said.status ≡ 0) × IsProvedCheapest solve task found.abstraction steps parts)
-            ⊎ (((said.status ≡ 1) × IsFallingNone solve task found.abstraction steps parts)
-            ⊎ ((said.status ≡ 2) × IsFallingStop solve task found.abstraction steps parts)) → EndsNone solve said task
+        go : ((said.status ≡ 0) × IsProvedCheapest solve task found.abstraction found.choice steps parts)
+            ⊎ (((said.status ≡ 1) × IsFallingNone solve task found.abstraction found.choice steps parts)
+            ⊎ ((said.status ≡ 2) × IsFallingStop solve task found.abstraction found.choice steps parts)) → EndsNone solve said task
         go (inl (status, proved)) = absurd (omega (arith, e, status))
-        go (inr (inl (status, none))) = ends_none found.abstraction found.graph_of found.finest said parts found.report found.outputs none
+        go (inr (inl (status, none))) = ends_none found.abstraction found.choice found.graph_of found.finest found.asked said parts found.report found.outputs none
         go (inr (inr (status, stop))) = absurd (omega (arith, e, status))
 
     pub at_two : said.status ≡ 2 → EndsStopped solve steps said task
     at_two e = go found.found
       where
-        go : ((said.status ≡ 0) × IsProvedCheapest solve task found.abstraction steps parts)
-            ⊎ (((said.status ≡ 1) × IsFallingNone solve task found.abstraction steps parts)
-            ⊎ ((said.status ≡ 2) × IsFallingStop solve task found.abstraction steps parts)) → EndsStopped solve steps said task
+        go : ((said.status ≡ 0) × IsProvedCheapest solve task found.abstraction found.choice steps parts)
+            ⊎ (((said.status ≡ 1) × IsFallingNone solve task found.abstraction found.choice steps parts)
+            ⊎ ((said.status ≡ 2) × IsFallingStop solve task found.abstraction found.choice steps parts)) → EndsStopped solve steps said task
         go (inl (status, proved)) = absurd (omega (arith, e, status))
         go (inr (inl (status, none))) = absurd (omega (arith, e, status))
-        go (inr (inr (status, stop))) = ends_stopped found.abstraction found.graph_of found.finest said parts found.report found.outputs stop
+        go (inr (inr (status, stop))) = ends_stopped found.abstraction found.choice found.graph_of found.finest found.asked said parts found.report found.outputs stop
 
     pub which : (said.status ≡ 0) ⊎ ((said.status ≡ 1) ⊎ (said.status ≡ 2))
     which = by_status ((said.status ≡ 0) ⊎ ((said.status ≡ 1) ⊎ (said.status ≡ 2))) inl (λ e. inr (inl e)) (λ e. inr (inr e))

@@ -223,15 +223,17 @@ module _ (falling : FallingMeaning) (n looks : ℕ) (shelf sink : List Call) whe
           abstraction = found.abstraction;
           graph_of = found.graph_of;
           finest = found.finest;
+          choice = found.choice;
+          asked = found.asked;
           found = ends found.found;
         })
           where
-            ends : ((h.said.status ≡ 0) × IsProvedCheapest falling.solve task found.abstraction falling.steps a.parts)
-                ⊎ (((h.said.status ≡ 1) × IsFallingNone falling.solve task found.abstraction falling.steps a.parts)
-                ⊎ ((h.said.status ≡ 2) × IsFallingStop falling.solve task found.abstraction falling.steps a.parts))
-                → ((n ≡ 0) × IsProvedCheapest falling.solve task found.abstraction falling.steps a.parts)
-                ⊎ (((n ≡ 1) × IsFallingNone falling.solve task found.abstraction falling.steps a.parts)
-                ⊎ ((n ≡ 2) × IsFallingStop falling.solve task found.abstraction falling.steps a.parts))
+            ends : ((h.said.status ≡ 0) × IsProvedCheapest falling.solve task found.abstraction found.choice falling.steps a.parts)
+                ⊎ (((h.said.status ≡ 1) × IsFallingNone falling.solve task found.abstraction found.choice falling.steps a.parts)
+                ⊎ ((h.said.status ≡ 2) × IsFallingStop falling.solve task found.abstraction found.choice falling.steps a.parts))
+                → ((n ≡ 0) × IsProvedCheapest falling.solve task found.abstraction found.choice falling.steps a.parts)
+                ⊎ (((n ≡ 1) × IsFallingNone falling.solve task found.abstraction found.choice falling.steps a.parts)
+                ⊎ ((n ≡ 2) × IsFallingStop falling.solve task found.abstraction found.choice falling.steps a.parts))
             ends (inl (status, proved)) = inl (h.status_is ∙ status, proved)
             ends (inr (inl (status, none))) = inr (inl (h.status_is ∙ status, none))
             ends (inr (inr (status, stop))) = inr (inr (h.status_is ∙ status, stop))
@@ -302,7 +304,7 @@ module _ (falling : FallingMeaning) (n looks : ℕ) (shelf sink : List Call) whe
         no_file said none one = subst (λ (os : List Output). FailToSaveAll s.own os) ((only_part s.before s.part s.after said one).1 ∙ none) s.fails
 
         ends : (task : TaskParts) → Broken falling.solve task falling.steps s.before s.part → EndsUnsaved falling.solve falling.steps it.said task
-        ends task b = go (one_file falling.solve task falling.steps b.claims s.part b.next)
+        ends task b = go (one_file falling.solve task falling.steps b.so_far.searched.choice b.claims s.part b.next)
           where
             go : (s.part.outputs ≡ []) ⊎ ((file : Output) × (s.part.outputs ≡ file ∷ [])) → EndsUnsaved falling.solve falling.steps it.said task
             go (inl none) = absurd (subst (λ (os : List Output). FailToSaveAll s.own os) none s.fails)

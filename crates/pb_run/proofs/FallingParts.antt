@@ -6,6 +6,7 @@ use Rattle.pb_outside.specs.Outside.{Files}
 use Rattle.pb_outside.specs.Calls.{Call, KeepsTakes}
 use Rattle.pb_model.specs.Plan.{Plan}
 use Rattle.pb_task.specs.declared.parts.TaskParts.{TaskParts}
+use Rattle.pb_estimate.specs.Choices.{Choice}
 use Rattle.pb_abstract.specs.Graph.{AbstractGraph}
 use Rattle.pb_falling.specs.Falling.{Claim}
 use Rattle.pb_command.specs.Meaning.{SolveMeaning}
@@ -70,6 +71,8 @@ module _ (search : FallingValue) (parts : List AnswerPart) (has : HandedOutBefor
     abstraction = blocks;
     graph_of = has.run.graph_of;
     finest = has.run.finest;
+    choice = search.graph.choice;
+    asked = has.run.asked;
     claims = has.before ++ claim_now search has.machine plan ∷ [];
     falling = falling;
     say = claim_handed_out has.before has.machine search has.run parts has.say plan (part_of said) says;
@@ -195,6 +198,8 @@ ends_without_memory search parts has files files' calls calls' puts puts' writte
           abstraction = search.graph.table.abstraction;
           graph_of = has.run.graph_of;
           finest = has.run.finest;
+          choice = search.graph.choice;
+          asked = has.run.asked;
           claims = has.before;
           falling = has.falling;
           say = has.say;
@@ -218,6 +223,8 @@ ends_between_claims search parts has files files' calls calls' puts puts' writte
           abstraction = search.graph.table.abstraction;
           graph_of = has.run.graph_of;
           finest = has.run.finest;
+          choice = search.graph.choice;
+          asked = has.run.asked;
           claims = has.before ++ claim_now search has.machine has.plan ∷ [];
           falling = has.falling;
           say = has.say;
@@ -233,25 +240,26 @@ same_plan : (search : Option Plan) (a b : Plan) → search ≡ Some a → search
 same_plan search a b x y = cc
 
 pub next_claimed : (search next : FallingValue) (parts : List AnswerPart) (has : HandedOutNow search parts) → GoesOn has.before has.machine search next
-    → next.solve ≡ search.solve → next.parts ≡ search.parts → next.steps ≡ search.steps → next.graph.table.abstraction ≡ search.graph.table.abstraction → HandedOutBefore next parts
-next_claimed search next parts has goes solve_is task_is steps_is blocks_are =
+    → next.solve ≡ search.solve → next.parts ≡ search.parts → next.steps ≡ search.steps → HandedOutBefore next parts
+next_claimed search next parts has goes solve_is task_is steps_is =
     let same = same_plan search.plan goes.plan has.plan goes.plan_is has.plan_is in
     let claims = has.before ++ claim_now search has.machine has.plan ∷ [] in
     record {
       before = claims;
       machine = goes.last;
       run = subst (λ (plan : Plan). IsFalling (has.before ++ claim_now search has.machine plan ∷ []) goes.last next) same goes.falling;
-      falling = same_search (λ solve task blocks steps. AreFalling solve task blocks steps claims) has.falling;
-      say = same_search (λ solve task blocks steps. SayClaims solve task blocks steps 0 claims parts) has.say;
+      falling = same_search (λ solve task blocks choice steps. AreFalling solve task blocks choice steps claims) has.falling;
+      say = same_search (λ solve task blocks choice steps. SayClaims solve task blocks choice steps 0 claims parts) has.say;
     }
   where
-    same_search : (P : SolveMeaning → TaskParts → AbstractGraph → ℕ → Type 0) → P search.solve search.parts search.graph.table.abstraction search.steps
-        → P next.solve next.parts next.graph.table.abstraction next.steps
+    same_search : (P : SolveMeaning → TaskParts → AbstractGraph → Choice → ℕ → Type 0) → P search.solve search.parts search.graph.table.abstraction search.graph.choice search.steps
+        → P next.solve next.parts next.graph.table.abstraction next.graph.choice next.steps
     same_search P h =
-        subst (λ (s : SolveMeaning). P s next.parts next.graph.table.abstraction next.steps) (sym solve_is)
-        (subst (λ (t : TaskParts). P search.solve t next.graph.table.abstraction next.steps) (sym task_is)
-        (subst (λ (a : AbstractGraph). P search.solve search.parts a next.steps) (sym blocks_are)
-        (subst (λ (k : ℕ). P search.solve search.parts search.graph.table.abstraction k) (sym steps_is) h)))
+        subst (λ (s : SolveMeaning). P s next.parts next.graph.table.abstraction next.graph.choice next.steps) (sym solve_is)
+        (subst (λ (t : TaskParts). P search.solve t next.graph.table.abstraction next.graph.choice next.steps) (sym task_is)
+        (subst (λ (a : AbstractGraph). P search.solve search.parts a next.graph.choice next.steps) (sym goes.blocks)
+        (subst (λ (c : Choice). P search.solve search.parts search.graph.table.abstraction c next.steps) (sym goes.choice)
+        (subst (λ (k : ℕ). P search.solve search.parts search.graph.table.abstraction search.graph.choice k) (sym steps_is) h))))
 
 -- ---- the first run, and the search of all runs
 

@@ -41,6 +41,8 @@ module _ (falling : FallingMeaning) (texts : List (List ℕ)) (search : FallingV
     abstraction = found.abstraction;
     graph_of = found.graph_of;
     finest = found.finest;
+    choice = found.choice;
+    asked = found.asked;
     found = found.found;
   }
 

@@ -15,7 +15,7 @@ use Rattle.pb_abstract.specs.Graph.{AbstractGraph, IsGraphOf}
 use Rattle.pb_falling.specs.Falling.{Claim, AreClaims, HaveWeights, CostsFall}
 use Rattle.pb_command.specs.Meaning.{SolveMeaning}
 use Rattle.pb_answer.specs.Outputs.{Output, output}
-use Rattle.pb_answer.specs.Searches.{choice_asked, weight_asked}
+use Rattle.pb_answer.specs.Searches.{weight_asked, IsChoiceAsked}
 use Rattle.pb_answer.specs.Claims.{IsCertificate}
 use Rattle.pb_answer.specs.Parts.{AnswerPart, outputs_of, report_of}
 use Rattle.pb_answer.specs.Falling.{numbered, first_setup, AreOfQuietRuns, AreFalling, MayBeImproved, SaysClaim, SayClaims}
@@ -119,10 +119,10 @@ costs_first before [] more fall = tt
 costs_first None (one ∷ runs) more fall = costs_first (Some one.plan) runs more fall
 costs_first (Some plan) (one ∷ runs) more fall = (fall.0, costs_first (Some one.plan) runs more fall.1)
 
-pub falling_first : (solve : SolveMeaning) (task : TaskParts) (abstraction : AbstractGraph) (steps : ℕ) (runs more : List Claim) → AreFalling solve task abstraction steps (runs ++ more) → AreFalling solve task abstraction steps runs
-falling_first solve task abstraction steps runs more falling = record {
-  are = claims_first (first_setup solve task abstraction) (opening_machine (first_setup solve task abstraction)) None runs more falling.are;
-  quiet_runs = quiet_first (first_setup solve task abstraction) (opening_machine (first_setup solve task abstraction)) runs more falling.quiet_runs;
+pub falling_first : (solve : SolveMeaning) (task : TaskParts) (abstraction : AbstractGraph) (choice : Choice) (steps : ℕ) (runs more : List Claim) → AreFalling solve task abstraction choice steps (runs ++ more) → AreFalling solve task abstraction choice steps runs
+falling_first solve task abstraction choice steps runs more falling = record {
+  are = claims_first (first_setup solve task abstraction choice) (opening_machine (first_setup solve task abstraction choice)) None runs more falling.are;
+  quiet_runs = quiet_first (first_setup solve task abstraction choice) (opening_machine (first_setup solve task abstraction choice)) runs more falling.quiet_runs;
   few = let few : length (runs ++ more) ≤ steps + 1 = falling.few in let joined = length-append runs more in omega (arith, few, joined);
   weights = weights_first (weight_asked solve) steps 0 runs more falling.weights;
   hold = all_first (λ run. IsPlan (space_of task) run.plan × NoneCheaper (space_of task) run.weight run.plan.cost) runs more falling.hold;
@@ -158,16 +158,16 @@ each_file (Some name) task choice claims files saves = saves
 
 -- ---- parts that say claims
 
-module _ (solve : SolveMeaning) (task : TaskParts) (abstraction : AbstractGraph) (steps : ℕ) where
+module _ (solve : SolveMeaning) (task : TaskParts) (abstraction : AbstractGraph) (choice : Choice) (steps : ℕ) where
   pub record Told (run : ℕ) (runs : List Claim) (parts : List AnswerPart) : Type 0 where
     pub claims : List PrintedClaim
     pub are_of : AreOfRuns runs claims
     pub bounded : AllByRecursion IsBounded claims
     pub printed : report_of parts ≡ claims_text (action_name task) claims
-    pub files : SavesFrom solve.certificate run task (choice_asked solve) claims (outputs_of parts)
+    pub files : SavesFrom solve.certificate run task choice claims (outputs_of parts)
 
-  pub told : (run : ℕ) (runs : List Claim) (parts : List AnswerPart) → SayClaims solve task abstraction steps run runs parts → Told run runs parts
-  told run [] [] say = record { claims = []; are_of = tt; bounded = tt; printed = refl; files = no_files solve.certificate run task (choice_asked solve) }
+  pub told : (run : ℕ) (runs : List Claim) (parts : List AnswerPart) → SayClaims solve task abstraction choice steps run runs parts → Told run runs parts
+  told run [] [] say = record { claims = []; are_of = tt; bounded = tt; printed = refl; files = no_files solve.certificate run task choice }
   told run [] (part ∷ parts) say = absurd say
   told run (one ∷ runs) [] say = absurd say
   told run (one ∷ runs) (part ∷ parts) (says, say) =
@@ -177,8 +177,8 @@ module _ (solve : SolveMeaning) (task : TaskParts) (abstraction : AbstractGraph)
         are_of = (refl, refl, later.are_of);
         bounded = ((says.bounded, says.fits), later.bounded);
         printed = λ i. says.report i ++ later.printed i;
-        files = more_files solve.certificate run task (choice_asked solve) (printed_of one says.bound) later.claims part.outputs (outputs_of parts)
-            (saves_one solve.certificate run task (choice_asked solve) one.weight _ _ (Some one.plan) part.outputs says.outputs) later.files;
+        files = more_files solve.certificate run task choice (printed_of one says.bound) later.claims part.outputs (outputs_of parts)
+            (saves_one solve.certificate run task choice one.weight _ _ (Some one.plan) part.outputs says.outputs) later.files;
       }
 
   -- the part among them that stands behind others says a claim too
@@ -187,11 +187,11 @@ module _ (solve : SolveMeaning) (task : TaskParts) (abstraction : AbstractGraph)
     pub claim : Claim
     pub rest : List Claim
     pub runs_are : runs ≡ first ++ claim ∷ rest
-    pub say : SayClaims solve task abstraction steps run first before
-    pub says : SaysClaim solve task abstraction steps (run + length first) claim part
+    pub say : SayClaims solve task abstraction choice steps run first before
+    pub says : SaysClaim solve task abstraction choice steps (run + length first) claim part
 
   pub split_claims : (run : ℕ) (runs : List Claim) (before : List AnswerPart) (part : AnswerPart) (after : List AnswerPart)
-      → SayClaims solve task abstraction steps run runs (before ++ part ∷ after) → SplitClaims run runs before part
+      → SayClaims solve task abstraction choice steps run runs (before ++ part ∷ after) → SplitClaims run runs before part
   split_claims run [] [] part after say = absurd say
   split_claims run [] (one ∷ before) part after say = absurd say
   split_claims run (claim ∷ runs) [] part after (says, say) = record {
@@ -200,7 +200,7 @@ module _ (solve : SolveMeaning) (task : TaskParts) (abstraction : AbstractGraph)
     rest = runs;
     runs_are = refl;
     say = tt;
-    says = subst (λ (n : ℕ). SaysClaim solve task abstraction steps n claim part) (let same : run ≡ run + 0 = omega arith in same) says;
+    says = subst (λ (n : ℕ). SaysClaim solve task abstraction choice steps n claim part) (let same : run ≡ run + 0 = omega arith in same) says;
   }
   split_claims run (claim ∷ runs) (one ∷ before) part after (says, say) =
       let later = split_claims (run + 1) runs before part after say in
@@ -210,13 +210,13 @@ module _ (solve : SolveMeaning) (task : TaskParts) (abstraction : AbstractGraph)
         rest = later.rest;
         runs_are = ap (λ (rs : List Claim). claim ∷ rs) later.runs_are;
         say = (says, later.say);
-        says = subst (λ (n : ℕ). SaysClaim solve task abstraction steps n later.claim part)
+        says = subst (λ (n : ℕ). SaysClaim solve task abstraction choice steps n later.claim part)
             (let same : (run + 1) + length later.first ≡ run + length (claim ∷ later.first) = omega arith in same) later.says;
       }
 
   -- ---- what is promised of them
 
-  pub are_claims : (runs : List Claim) (claims : List PrintedClaim) → AreFalling solve task abstraction steps runs → AreOfRuns runs claims → AllByRecursion IsBounded claims
+  pub are_claims : (runs : List Claim) (claims : List PrintedClaim) → AreFalling solve task abstraction choice steps runs → AreOfRuns runs claims → AllByRecursion IsBounded claims
       → AreClaimsOf (space_of task) (weight_asked solve) steps claims
   are_claims runs claims falling are bounded = record {
     weights = weights_are (weight_asked solve) steps 0 runs claims are falling.weights;
@@ -235,11 +235,11 @@ module _ (solve : SolveMeaning) (task : TaskParts) (abstraction : AbstractGraph)
         (λ run claim weight plan bound h. bound.1) runs claims are bounded falling.hold;
   }
 
-  module _ (graph_of : IsGraphOf task abstraction) (finest : IsFinest task solve.settings.wish abstraction.projection) where
-    abbrev pub searched : (runs : List Claim) (claims : List PrintedClaim) → AreFalling solve task abstraction steps runs → AreOfRuns runs claims → AreSearched solve task steps claims
-    searched runs claims falling are = record { abstraction = abstraction; graph_of = graph_of; finest = finest; runs = runs; falling = falling; are_of = are }
+  module _ (graph_of : IsGraphOf task abstraction) (finest : IsFinest task solve.settings.wish abstraction.projection) (asked : IsChoiceAsked solve task choice) where
+    abbrev pub searched : (runs : List Claim) (claims : List PrintedClaim) → AreFalling solve task abstraction choice steps runs → AreOfRuns runs claims → AreSearched solve task steps claims
+    searched runs claims falling are = record { abstraction = abstraction; graph_of = graph_of; finest = finest; choice = choice; asked = asked; runs = runs; falling = falling; are_of = are }
 
-    pub have_claimed : (runs : List Claim) (parts : List AnswerPart) (say : SayClaims solve task abstraction steps 0 runs parts) → AreFalling solve task abstraction steps runs → AllByRecursion MayBeImproved runs
+    abbrev pub have_claimed : (runs : List Claim) (parts : List AnswerPart) (say : SayClaims solve task abstraction choice steps 0 runs parts) → AreFalling solve task abstraction choice steps runs → AllByRecursion MayBeImproved runs
         → HaveClaimed solve task steps (told 0 runs parts say).claims (report_of parts) (outputs_of parts)
     have_claimed runs parts say falling improvable =
         let t = told 0 runs parts say in
@@ -248,25 +248,26 @@ module _ (solve : SolveMeaning) (task : TaskParts) (abstraction : AbstractGraph)
           searched = searched runs t.claims falling t.are_of;
           improvable = all_of MayBeImproved MayBeCheaper may_be_cheaper runs t.claims t.are_of t.bounded improvable;
           printed = t.printed;
-          certified = each_file solve.certificate task (choice_asked solve) t.claims (outputs_of parts) t.files;
+          certified = each_file solve.certificate task choice t.claims (outputs_of parts) t.files;
         }
 
     -- and one more claim after them
-    pub one_more : (first : List Claim) (claim : Claim) (rest : List Claim) (before : List AnswerPart) (part : AnswerPart) (say : SayClaims solve task abstraction steps 0 first before)
-        → SaysClaim solve task abstraction steps (0 + length first) claim part → AreFalling solve task abstraction steps (first ++ claim ∷ rest)
-        → IsOneMoreClaim solve task steps (told 0 first before say).claims part
+    pub one_more : (first : List Claim) (claim : Claim) (rest : List Claim) (before : List AnswerPart) (part : AnswerPart) (say : SayClaims solve task abstraction choice steps 0 first before)
+        → SaysClaim solve task abstraction choice steps (0 + length first) claim part → AreFalling solve task abstraction choice steps (first ++ claim ∷ rest)
+        → IsOneMoreClaim solve task choice steps (told 0 first before say).claims part
     one_more first claim rest before part say says falling =
         let t = told 0 first before say in
         let counted = of_runs_count first t.claims t.are_of in
         let number : 0 + length first ≡ length t.claims = omega (arith, counted) in
-        let all = falling_first solve task abstraction steps (first ++ claim ∷ []) rest
-        (subst (λ (rs : List Claim). AreFalling solve task abstraction steps rs) (sym (append_assoc first (claim ∷ []) rest)) falling) in
+        let all = falling_first solve task abstraction choice steps (first ++ claim ∷ []) rest
+        (subst (λ (rs : List Claim). AreFalling solve task abstraction choice steps rs) (sym (append_assoc first (claim ∷ []) rest)) falling) in
         let one = printed_of claim says.bound in
         let are = of_runs_joined first (claim ∷ []) t.claims (one ∷ []) t.are_of (refl, refl, tt) in (
           one,
           are_claims (first ++ claim ∷ []) (t.claims ++ one ∷ []) all are (all_joined IsBounded t.claims (one ∷ []) t.bounded ((says.bounded, says.fits), tt)),
           searched (first ++ claim ∷ []) (t.claims ++ one ∷ []) all are,
+          refl,
           says.report,
-          subst (λ (n : ℕ). SavesOne solve.certificate n task (choice_asked solve) claim.weight (Some claim.plan) part.outputs) number
-              (saves_one solve.certificate (0 + length first) task (choice_asked solve) claim.weight _ _ (Some claim.plan) part.outputs says.outputs),
+          subst (λ (n : ℕ). SavesOne solve.certificate n task choice claim.weight (Some claim.plan) part.outputs) number
+              (saves_one solve.certificate (0 + length first) task choice claim.weight _ _ (Some claim.plan) part.outputs says.outputs),
         )

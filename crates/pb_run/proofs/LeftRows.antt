@@ -16,6 +16,7 @@ use Rattle.pb_task.specs.declared.parts.TaskParts.{TaskParts}
 use Rattle.pb_task.specs.declared.parts.TaskParts.TheVariants.{Grid, Tiles, Strips}
 use Rattle.pb_task.specs.Parts.{space_of, IsTask, greatest_cost}
 use Rattle.pb_task.proofs.Callers.{tasks_are_proper}
+use Rattle.pb_estimate.specs.Choices.{Choice}
 use Rattle.pb_abstract.specs.Graph.{blocks_of}
 use Rattle.pb_journal.specs.Texts.{journal_text}
 use Rattle.pb_journal.specs.Lengths.{JournalTextsAreShort}
@@ -44,10 +45,10 @@ pub record AreWithin (parts : TaskParts) (settings : Settings) (left : Left) : T
   pub sound : IsSound (space_of parts) left.guide left.store
 
 -- the same of a search by owners, of its own task and settings
-owners_within : (end : End) (parts : TaskParts) (settings : Settings) (owners : OwnersValue)
-    → LeavesOwners parts settings end owners
+owners_within : (end : End) (parts : TaskParts) (choice : Choice) (settings : Settings)
+    (owners : OwnersValue) → LeavesOwners parts choice settings end owners
     → AreWithin owners.task owners.settings (left_by_owners owners)
-owners_within end parts settings owners leaves =
+owners_within end parts choice settings owners leaves =
     let ended = leaves.ended in
     let searched = ended.searched in
     let works = searched.works in
@@ -84,12 +85,13 @@ module _ (parts : TaskParts) (settings : Settings) (range : AreInRange settings)
         let most = mul-le-mul few budget in
         omega (arith, most)
 
-    leases_within : (journal : List Event) (run : SearchEnds parts settings Quiet journal)
+    leases_within : (choice : Choice) (journal : List Event)
+        (run : SearchEnds parts choice settings Quiet journal)
         → AreWithin parts settings (left_by_leases run)
-    leases_within journal run =
+    leases_within choice journal run =
         let ended = run.ends.run in
         let works = ended.works in
-        let guide = searched_guide parts run.ends.abstraction settings in
+        let guide = searched_guide parts run.ends.abstraction choice in
         let store = ended.machine.store in
         let none = ended.none_broken in
         let within = ended.ended_so.0 in
@@ -113,21 +115,22 @@ module _ (parts : TaskParts) (settings : Settings) (range : AreInRange settings)
           sound = all.0;
         }
 
-    pub quiet_is_within : (engine : Engine) (left : Left)
-        → SearchLeaves engine parts settings Quiet left → AreWithin parts settings left
-    quiet_is_within Leases left (journal, run, is) =
-        subst (λ (l : Left). AreWithin parts settings l) (sym is) (leases_within journal run)
-    quiet_is_within Owners left (owners, leaves, is) =
+    pub quiet_is_within : (engine : Engine) (choice : Choice) (left : Left)
+        → SearchLeaves engine parts choice settings Quiet left → AreWithin parts settings left
+    quiet_is_within Leases choice left (journal, run, is) =
+        subst (λ (l : Left). AreWithin parts settings l) (sym is)
+        (leases_within choice journal run)
+    quiet_is_within Owners choice left (owners, leaves, is) =
         subst (λ (l : Left). AreWithin parts settings l) (sym is)
         (subst (λ (p : TaskParts). AreWithin p settings (left_by_owners owners)) leaves.task
         (subst (λ (s : Settings). AreWithin owners.task s (left_by_owners owners))
-        leaves.settings_are (owners_within Quiet parts settings owners leaves)))
+        leaves.settings_are (owners_within Quiet parts choice settings owners leaves)))
 
   module _ (lengths : JournalTextsAreShort) where
-    leases_are_short : (end : End) (journal : List Event)
-        (run : SearchEnds parts settings end journal)
+    leases_are_short : (choice : Choice) (end : End) (journal : List Event)
+        (run : SearchEnds parts choice settings end journal)
         → length (journal_text settings journal) ≤ most_of_journal parts settings
-    leases_are_short end journal run =
+    leases_are_short choice end journal run =
         let ends = run.ends in
         let counts = ends.run.machine.counts in
         let legal : IsHistory (blocks_of ends.abstraction) settings 0 journal counts =
@@ -141,10 +144,10 @@ module _ (parts : TaskParts) (settings : Settings) (range : AreInRange settings)
         let more = mul-le-mul_left (space_of parts).actions spent in
         omega (arith, text, same, short, more)
 
-    pub journal_is_short : (engine : Engine) (end : End) (left : Left)
-        → SearchLeaves engine parts settings end left → IsShort parts settings left.journal
-    journal_is_short Leases end left (journal, run, is) =
+    pub journal_is_short : (engine : Engine) (choice : Choice) (end : End) (left : Left)
+        → SearchLeaves engine parts choice settings end left → IsShort parts settings left.journal
+    journal_is_short Leases choice end left (journal, run, is) =
         subst (λ (l : Left). IsShort parts settings l.journal) (sym is)
-        (leases_are_short end journal run)
-    journal_is_short Owners end left (owners, leaves, is) =
+        (leases_are_short choice end journal run)
+    journal_is_short Owners choice end left (owners, leaves, is) =
         subst (λ (l : Left). IsShort parts settings l.journal) (sym is) tt

@@ -16,12 +16,14 @@ use Rattle.pb_task.specs.declared.kind.Kind.{Kind}
 use Rattle.pb_task.specs.declared.kind.Kind.TheVariants.{Grid, Tiles, Strips}
 use Rattle.pb_task.specs.declared.grounding.Grounding.{Grounding}
 use Rattle.pb_task.specs.declared.grounding.Grounding.TheVariants.{All, Reachable}
+use Rattle.pb_tables.specs.Tables.{TablesValue}
+use Rattle.pb_table_lines.specs.Lines.{tables_lines}
 use Rattle.pb_estimate.specs.Choices.{Choice, Plain, Pattern, Tables}
 use Rattle.pb_estimate.specs.declared.spelling.Spelling.{Spelling}
 use Rattle.pb_estimate.specs.declared.spelling.Stated.{Stated}
 use Rattle.pb_estimate.specs.declared.spelling.Version.{Version}
 use Rattle.pb_estimate.specs.declared.spelling.Version.TheVariants.{One, Two, Three, Four}
-use Rattle.pb_estimate.specs.Spelling.{version_line, kind_line, width_text, choice_text, grounding_line, estimate_text, stated_text, head_of, spelled_text}
+use Rattle.pb_estimate.specs.Spelling.{version_line, kind_line, width_text, choice_text, grounding_line, estimate_text, stated_text, version_of, head_of, spelled_text}
 
 pub line_long : (text : List ℕ) → length (line text) ≡ length text + 1
 line_long text = length-append text (10 ∷ [])
@@ -167,7 +169,7 @@ weight_long weight num den =
     let dens = number_long weight.den den in
     omega (arith, whole, one, two, nums, dens)
 
--- the plain choice, or a pattern whose number is small; no search of the program has tables
+-- the plain choice, or a pattern whose number is small
 abbrev pub IsSmallChoice : Choice → Type 0
 IsSmallChoice Plain = ⊤
 IsSmallChoice (Pattern number) = number < 2 ^ 63
@@ -214,7 +216,7 @@ choice_long (Pattern number) small =
     omega (arith, one, two, digits)
 choice_long (Tables tables) small = absurd small
 
-lines_append : (first second : List (List ℕ)) → length (lines (first ++ second))
+pub lines_append : (first second : List (List ℕ)) → length (lines (first ++ second))
     ≡ length (lines first) + length (lines second)
 lines_append [] second = omega arith
 lines_append (text ∷ first) second =
@@ -251,9 +253,11 @@ stated_long Four width stated small =
     let choice = estimate_long width stated.choice small in
     omega (arith, both, grounding, choice)
 
-head_long : (spelling : Spelling) → spelling.width < 2 ^ 63 → IsSmallChoice spelling.stated.choice
-    → length (lines (head_of spelling)) ≤ 114
-head_long spelling small fine =
+-- the lines up to the estimate, if those from the grounding on have so many bytes
+head_long_with : (spelling : Spelling) (bytes : ℕ) → spelling.width < 2 ^ 63
+    → length (lines (stated_text spelling.version spelling.width spelling.stated)) ≤ bytes
+    → length (lines (head_of spelling)) ≤ 57 + bytes
+head_long_with spelling bytes small besides =
     let widths = width_text spelling.version spelling.width in
     let stated = stated_text spelling.version spelling.width spelling.stated in
     let first = length-append (line (version_line spelling.version))
@@ -263,8 +267,59 @@ head_long spelling small fine =
     let version = version_long spelling.version in
     let kind = kind_long spelling.kind in
     let width = width_long spelling.version spelling.width small in
-    let besides = stated_long spelling.version spelling.width spelling.stated fine in
     omega (arith, first, second, third, version, kind, width, besides)
+
+-- the lines up to the estimate, if it isn't one of tables
+pub head_long : (spelling : Spelling) → spelling.width < 2 ^ 63
+    → IsSmallChoice spelling.stated.choice
+    → length (lines (head_of spelling)) ≤ 114
+head_long spelling small fine =
+    head_long_with spelling 57 small (stated_long spelling.version spelling.width spelling.stated fine)
+
+-- the same of tables whose lines have so many bytes
+pub head_with_tables_long : (kind : Kind) (grounding : Grounding) (width : ℕ)
+    (tables : TablesValue) (bytes : ℕ)
+    → width < 2 ^ 63 → length (lines (tables_lines width tables)) ≤ bytes
+    → length (lines (head_of (record {
+      kind = kind;
+      version = version_of grounding (Tables tables);
+      width = width;
+      stated = record { grounding = grounding; choice = Tables tables };
+    }))) ≤ 77 + bytes
+head_with_tables_long kind grounding width tables bytes small short = go grounding
+  where
+    -- behind the line of the grounding
+    stated : (grounding : Grounding)
+        → length (lines (stated_text Four width (record { grounding = grounding; choice = Tables tables })))
+        ≤ 20 + bytes
+    stated grounding =
+        let both = length-append (line (grounding_line grounding)) (lines (tables_lines width tables)) in
+        let first = grounding_long grounding in
+        omega (arith, both, first, short)
+
+    four : (grounding : Grounding) → length (lines (head_of (record {
+      kind = kind;
+      version = Four;
+      width = width;
+      stated = record { grounding = grounding; choice = Tables tables };
+    }))) ≤ 77 + bytes
+    four grounding =
+        let all = head_long_with (record {
+          kind = kind;
+          version = Four;
+          width = width;
+          stated = record { grounding = grounding; choice = Tables tables };
+        }) (20 + bytes) small (stated grounding) in
+        omega (arith, all)
+
+    go : (grounding : Grounding) → length (lines (head_of (record {
+      kind = kind;
+      version = version_of grounding (Tables tables);
+      width = width;
+      stated = record { grounding = grounding; choice = Tables tables };
+    }))) ≤ 77 + bytes
+    go All = four All
+    go Reachable = four Reachable
 
 -- a certificate whose numbers are small, with so many rows and steps at most
 pub record IsSmallCertificate (most : ℕ) (certificate : Certificate) : Type 0 where
@@ -275,11 +330,11 @@ pub record IsSmallCertificate (most : ℕ) (certificate : Certificate) : Type 0 
   pub rows : length certificate.lines ≤ most
   pub costs : AllByRecursion (λ row. row.g < 2 ^ 63) certificate.lines
 
-pub certificate_long : (spelling : Spelling) (certificate : Certificate) (most : ℕ)
-    → spelling.width < 2 ^ 63 → IsSmallChoice spelling.stated.choice
-    → IsSmallCertificate most certificate
-    → length (spelled_text spelling certificate) ≤ 256 + (spelling.width + 34) * most
-certificate_long spelling certificate most wide fine small =
+-- the whole text, if the lines up to the estimate have so many bytes
+pub certificate_long : (spelling : Spelling) (certificate : Certificate) (most bytes : ℕ)
+    → length (lines (head_of spelling)) ≤ bytes → IsSmallCertificate most certificate
+    → length (spelled_text spelling certificate) ≤ 142 + bytes + (spelling.width + 34) * most
+certificate_long spelling certificate most bytes heads small =
     let digits = spelling.width in
     let head = lines (head_of spelling) in
     let weight = weight_text certificate.weight in
@@ -289,7 +344,6 @@ certificate_long spelling certificate most wide fine small =
     let whole = three_long (head ++ weight ++ plan) rows (line (codes "end")) in
     let few = small.few in
     let within = small.rows in
-    let heads = head_long spelling wide fine in
     let weights = weight_long certificate.weight small.num small.den in
     let plans = stated_plan_long most certificate.plan small.few small.plan in
     let all = rows_long digits certificate.lines (omega (arith, within, few)) small.costs in

@@ -33,6 +33,8 @@ mod FallingReadings
 mod Stating
 mod InMemory
 mod Lengths
+mod TableLengths
+mod Heads
 mod Rows
 mod MailRows
 mod Rooms

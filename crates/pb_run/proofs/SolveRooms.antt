@@ -1,5 +1,5 @@
 -- A `solve` is served with room for what its budget allows.
-use Rattle.std.proofs.Common.{◌≡◌, inl, inr, ℕ, ◌+◌, ◌^◌, ◌<◌, ◌≤◌, ◌==◌, Bool, true, false, cond, Option, None, Some, IfSome, IsSome, List, [], ◌∷◌, ◌++◌, length, map, reverse, Result, refl, sym, ap, subst, arith}
+use Rattle.std.proofs.Common.{◌≡◌, inl, inr, ℕ, ◌+◌, ◌^◌, ◌<◌, ◌≤◌, ◌==◌, Bool, Option, None, Some, IfSome, IsSome, List, [], ◌∷◌, ◌++◌, length, map, reverse, Result, refl, sym, ap, subst, arith}
 use Rattle.std.specs.Option.{IsSomeAnd}
 use Rattle.std.specs.Cmp.{unsigned_tied}
 use Rattle.std.specs.Ordering.{nat_cmp}
@@ -11,7 +11,7 @@ use Rattle.std.proofs.lemmas.Map.Keys.{IsDistinct-from_sorted}
 use Rattle.pb_model.specs.declared.row.Row.{Row}
 use Rattle.pb_model.specs.Plan.{Plan, IsPlan, IsBound}
 use Rattle.pb_model.specs.Store.{row_at}
-use Rattle.pb_model.specs.Texts.{none_report, stopped_report}
+use Rattle.pb_model.specs.Texts.{lines, none_report, stopped_report}
 use Rattle.pb_model.specs.Certificate.{Line, AreLinesOf, line_of}
 use Rattle.pb_outside.specs.Memory.{ShelfView, SinkView, HasRoom, CanTake, room_of}
 use Rattle.pb_machine.specs.declared.event.End.TheVariants.{Quiet, Budget}
@@ -20,26 +20,25 @@ use Rattle.pb_machine.specs.declared.settings.Settings.{Settings}
 use Rattle.pb_machine.specs.Settings.{AreInRange}
 use Rattle.pb_task.specs.declared.parts.TaskParts.{TaskParts}
 use Rattle.pb_task.specs.Parts.{space_of, IsTask, action_name, greatest_cost}
-use Rattle.pb_task.proofs.Callers.{tasks_are_proper, states_fit_their_width}
-use Rattle.pb_estimate.specs.Choices.{Plain, Pattern}
-use Rattle.pb_estimate.specs.Choices.{choice_with}
-use Rattle.pb_estimate.specs.Spelling.{spelling_of}
+use Rattle.pb_task.proofs.Callers.{tasks_are_proper}
+use Rattle.pb_estimate.specs.Choices.{Choice}
+use Rattle.pb_estimate.specs.Spelling.{spelling_of, head_of}
 use Rattle.pb_cert.specs.Found.{certificate_of, IsCertificateOf}
 use Rattle.pb_cert.proofs.Callers.{walk_actions}
 use Rattle.pb_journal.specs.Lengths.{JournalTextsAreShort}
 use Rattle.pb_report.specs.Texts.{plan_text}
 use Rattle.pb_command.specs.Meaning.{Read, Solve, SolveMeaning, IsSolveInRange}
 use Rattle.pb_answer.specs.Outputs.{Output}
-use Rattle.pb_answer.specs.Searches.{choice_asked, weight_asked}
+use Rattle.pb_answer.specs.Searches.{weight_asked, IsChoiceAsked}
 use Rattle.pb_answer.specs.Engines.{engine_asked, Left, FindsIn}
 use Rattle.pb_answer.specs.Claims.{IsCertificate, journal_outputs_if_any}
 use Rattle.pb_answer.specs.Answer.{Said, IsFound, OrRefused}
 use Rattle.pb_run.specs.Calls.{CanHold}
 use Rattle.pb_run.specs.Answers.{AnswersReading}
 use Rattle.pb_run.specs.InMemory.{HasRoomFor}
-use Rattle.pb_run.specs.Rooms.{HasTextsAndLine, most_rows, most_of_certificate, most_of_journal, NamesAreWithin, HasSearchRoom, SolvesAreServed}
+use Rattle.pb_run.specs.Rooms.{HasTextsAndLine, most_rows, most_of_certificate, most_of_journal, NamesAreWithin, HeadsAreWithin, HasSearchRoom, SolvesAreServed}
 use Rattle.pb_run.proofs.InMemory.{can_hold}
-use Rattle.pb_run.proofs.Lengths.{plan_report_long, stopped_long, IsSmallPlan, IsSmallPlanIfAny, IsSmallChoice, certificate_long}
+use Rattle.pb_run.proofs.Lengths.{plan_report_long, stopped_long, IsSmallPlan, IsSmallPlanIfAny, certificate_long}
 use Rattle.pb_run.proofs.Rows.{traces_are_short}
 use Rattle.pb_run.proofs.LeftRows.{few_actions, AreWithin, IsShort, rows_are_small, quiet_is_within, journal_is_short}
 use Rattle.pb_run.proofs.Rooms.{serves, takes, stop_fits}
@@ -59,13 +58,6 @@ holds_both can_hold (one ∷ first) second holds too =
     (holds.0, holds_both can_hold first second holds.1 too)
 
 -- ---- numbers
-
-choice_is_small : (pattern : ℕ) → pattern ≤ 12 → IsSmallChoice (choice_with pattern)
-choice_is_small pattern few = go (pattern == 0)
-  where
-    go : (b : Bool) → IsSmallChoice (cond b Plain (Pattern pattern))
-    go true = tt
-    go false = omega (arith, few)
 
 all_of : {A : Type 0} (P Q : A → Type 0) → ((x : A) → P x → Q x) → (xs : List A)
     → AllByRecursion P xs → AllByRecursion Q xs
@@ -135,20 +127,20 @@ module _ (parts : TaskParts) (settings : Settings) (lawful : IsTask parts)
           cost = small;
         }
 
-  certificate_is_short : (plan : Option Plan) (text : List ℕ)
+  certificate_is_short : (choice : Choice) (head : ℕ)
+      → length (lines (head_of (spelling_of parts choice))) ≤ head
+      → (plan : Option Plan) (text : List ℕ)
       → IsSmallPlanIfAny (most_rows parts settings) plan
-      → IsCertificateOf parts (choice_with settings.pattern)
-      (record { num = settings.num; den = settings.den }) left.guide left.store plan text
-      → length text ≤ most_of_certificate parts settings
-  certificate_is_short plan text small is =
+      → IsCertificateOf parts choice (record { num = settings.num; den = settings.den })
+      left.guide left.store plan text
+      → length text ≤ most_of_certificate parts settings head
+  certificate_is_short choice head short plan text small is =
       let weight = range.weight in
       let num = weight.small in
       let den = weight.at_least_one in
-      let width = (states_fit_their_width parts lawful).1 in
       let made = certificate_of (record { num = settings.num; den = settings.den }) plan is.lines in
-      let long = certificate_long (spelling_of parts (choice_with settings.pattern)) made
-      (most_rows parts settings) (omega (arith, width))
-      (choice_is_small settings.pattern range.pattern)
+      let long = certificate_long (spelling_of parts choice) made (most_rows parts settings) head
+      short
       (record {
         few = rows_are_small parts settings range lawful;
         num = omega (arith, num);
@@ -163,10 +155,10 @@ module _ (parts : TaskParts) (settings : Settings) (lawful : IsTask parts)
 -- ---- what is served
 
 module _ (lengths : JournalTextsAreShort) (solve : SolveMeaning) (shelf : ShelfView)
-    (sink : SinkView) (texts : List (List ℕ)) (parts : TaskParts) (longest : ℕ)
+    (sink : SinkView) (texts : List (List ℕ)) (parts : TaskParts) (longest head : ℕ)
     (has : HasTextsAndLine (Read (Solve solve)) shelf sink texts) (lawful : IsTask parts)
     (range : IsSolveInRange solve) (names : NamesAreWithin parts longest)
-    (room : HasSearchRoom solve parts longest shelf sink) where
+    (room : HasSearchRoom solve parts longest head shelf sink) where
   abbrev Most : ℕ
   Most = most_rows parts solve.settings
 
@@ -193,27 +185,28 @@ module _ (lengths : JournalTextsAreShort) (solve : SolveMeaning) (shelf : ShelfV
       go (Some name) has_room (Some events) short =
           (room_for_less (room_of shelf name) _ (most_of_journal parts solve.settings) short has_room, tt)
 
-  certificate_fits : (left : Left) → AreWithin parts solve.settings left → (plan : Option Plan)
+  certificate_fits : (choice : Choice) → IsChoiceAsked solve parts choice → (left : Left)
+      → AreWithin parts solve.settings left → (plan : Option Plan)
       → IsSmallPlanIfAny Most plan → (outputs : List Output)
-      → IsCertificate solve.certificate parts (choice_asked solve) (weight_asked solve) left.guide
-      left.store plan outputs
+      → IsCertificate solve.certificate parts choice (weight_asked solve) left.guide left.store plan
+      outputs
       → CanHold (HasRoomFor shelf) outputs
-  certificate_fits left within plan small outputs is =
+  certificate_fits choice asked left within plan small outputs is =
       go solve.certificate room.certificate is
     where
       go : (name : Option (List ℕ))
-          → IfSome name (λ n. HasRoomFor shelf n (most_of_certificate parts solve.settings))
-          → IsCertificate name parts (choice_asked solve) (weight_asked solve) left.guide left.store
-          plan outputs
+          → IfSome name (λ n. HeadsAreWithin solve parts head
+          × HasRoomFor shelf n (most_of_certificate parts solve.settings head))
+          → IsCertificate name parts choice (weight_asked solve) left.guide left.store plan outputs
           → CanHold (HasRoomFor shelf) outputs
       go None has_room none =
           subst (λ (o : List Output). CanHold (HasRoomFor shelf) o) (sym none) tt
-      go (Some name) has_room (text, certificate, saved) =
+      go (Some name) (heads, has_room) (text, certificate, saved) =
           subst (λ (o : List Output). CanHold (HasRoomFor shelf) o) (sym saved) (
             room_for_less (room_of shelf name) (length text)
-                (most_of_certificate parts solve.settings)
-                (certificate_is_short parts solve.settings lawful range.settings left within plan text
-                small certificate)
+                (most_of_certificate parts solve.settings head)
+                (certificate_is_short parts solve.settings lawful range.settings left within choice
+                head (heads choice asked) plan text small certificate)
                 has_room,
             tt,
           )
@@ -241,43 +234,43 @@ module _ (lengths : JournalTextsAreShort) (solve : SolveMeaning) (shelf : ShelfV
 
   found_fits : (said : Said) → IsFound solve parts said
       → CanHold (HasRoom shelf) said.outputs × CanTake sink (length said.report)
-  found_fits said (inl (status, (plan, bound, says, a_plan, is_bound, none, (left, searched, found, outputs, certificate, saves), small), least, saved)) =
-      let within = quiet_is_within parts solve.settings range.settings lawful (engine_asked solve) left searched in
+  found_fits said (inl (status, (plan, bound, says, a_plan, is_bound, none, (choice, asked, left, searched, found, outputs, certificate, saves), small), least, saved)) =
+      let within = quiet_is_within parts solve.settings range.settings lawful (engine_asked solve) choice left searched in
       fits said (outputs ++ journal_outputs_if_any solve.journal solve.settings left.journal)
       (plan_text parts plan bound) saves says
       (holds_both (HasRoomFor shelf) outputs (journal_outputs_if_any solve.journal solve.settings left.journal)
-      (certificate_fits left within (Some plan)
+      (certificate_fits choice asked left within (Some plan)
       (plan_is_small parts solve.settings lawful range.settings left within plan a_plan small found)
       outputs certificate)
       (journal_fits left.journal
-      (journal_is_short parts solve.settings range.settings lengths (engine_asked solve) Quiet left searched)))
+      (journal_is_short parts solve.settings range.settings lengths (engine_asked solve) choice Quiet left searched)))
       (plan_takes left within plan bound a_plan is_bound small found)
-  found_fits said (inr (inl (status, says, none, (left, searched, found, outputs, certificate, saves)))) =
-      let within = quiet_is_within parts solve.settings range.settings lawful (engine_asked solve) left searched in
+  found_fits said (inr (inl (status, says, none, (choice, asked, left, searched, found, outputs, certificate, saves)))) =
+      let within = quiet_is_within parts solve.settings range.settings lawful (engine_asked solve) choice left searched in
       fits said (outputs ++ journal_outputs_if_any solve.journal solve.settings left.journal)
       none_report saves says
       (holds_both (HasRoomFor shelf) outputs (journal_outputs_if_any solve.journal solve.settings left.journal)
-      (certificate_fits left within None tt outputs certificate)
+      (certificate_fits choice asked left within None tt outputs certificate)
       (journal_fits left.journal
-      (journal_is_short parts solve.settings range.settings lengths (engine_asked solve) Quiet left searched)))
+      (journal_is_short parts solve.settings range.settings lengths (engine_asked solve) choice Quiet left searched)))
       (takes (Read (Solve solve)) shelf sink texts has (length none_report) (omega arith))
-  found_fits said (inr (inr (status, says, (left, searched, saves)))) =
+  found_fits said (inr (inr (status, says, (choice, asked, left, searched, saves)))) =
       let budget = range.settings.budget.1 in
       fits said (journal_outputs_if_any solve.journal solve.settings left.journal)
       (stopped_report solve.settings.budget) saves says
       (journal_fits left.journal
-      (journal_is_short parts solve.settings range.settings lengths (engine_asked solve) Budget left searched))
+      (journal_is_short parts solve.settings range.settings lengths (engine_asked solve) choice Budget left searched))
       (takes (Read (Solve solve)) shelf sink texts has (length (stopped_report solve.settings.budget))
       (stopped_long solve.settings.budget (omega (arith, budget))))
 
 pub solves_are_served : JournalTextsAreShort → SolvesAreServed
-solves_are_served lengths solve shelf sink texts parts longest has task lawful range names room =
+solves_are_served lengths solve shelf sink texts parts longest head has task lawful range names room =
     serves (Read (Solve solve)) shelf sink texts has refl
     (λ said answers. go said answers)
   where
     go : (said : Said) → AnswersReading (Read (Solve solve)) texts said
         → CanHold (HasRoom shelf) said.outputs × CanTake sink (length said.report)
     go said (inl answer) =
-        found_fits lengths solve shelf sink texts parts longest has lawful range names room said
+        found_fits lengths solve shelf sink texts parts longest head has lawful range names room said
         (subst (λ (t : Result TaskParts (List ℕ)). OrRefused t (IsFound solve) said) task answer)
     go said (inr stop) = stop_fits (Read (Solve solve)) shelf sink texts has said stop

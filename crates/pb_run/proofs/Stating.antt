@@ -3,30 +3,29 @@ use Rattle.std.proofs.Common.{◌≡◌, ◌⊎◌, inl, inr, ℕ, ◌==◌, Boo
 use Rattle.std.specs.Fmt.{decimal}
 use Rattle.pb_model.specs.Plan.{Plan}
 use Rattle.pb_model.specs.Texts.{line, lines, spaced, weight_text, plan_text, rows_text}
-use Rattle.pb_task.specs.declared.kind.Kind.{Kind}
 use Rattle.pb_task.specs.Kinds.{kind_of, kind_name}
 use Rattle.pb_task.specs.declared.grounding.Grounding.{Grounding}
 use Rattle.pb_task.specs.declared.grounding.Grounding.TheVariants.{All, Reachable}
 use Rattle.pb_task.specs.Groundings.{grounding_of, grounding_name}
 use Rattle.pb_task.specs.Widths.{width_of}
 use Rattle.pb_task.specs.declared.parts.TaskParts.{TaskParts}
-use Rattle.pb_estimate.specs.Choices.{Choice}
-use Rattle.pb_estimate.specs.Choices.{Plain, Pattern}
+use Rattle.pb_estimate.specs.Choices.{Choice, Plain, Pattern, choice_with}
 use Rattle.pb_estimate.specs.declared.spelling.Spelling.{Spelling}
-use Rattle.pb_estimate.specs.Choices.{choice_with}
 use Rattle.pb_estimate.specs.Spelling.{head_of, spelling_of, version_of}
 use Rattle.pb_command.specs.Meaning.{Reading, Read, Solve, SolveMeaning}
-use Rattle.pb_command.specs.Options.{SolveReadsOptions, kind_word}
+use Rattle.pb_command.specs.declared.table.ValuedOption.TheVariants.{Estimate, Effort}
+use Rattle.pb_command.specs.Values.{effort_of}
+use Rattle.pb_command.specs.Options.{Argument, value_given, number_given, effort_given, solve_given, HaveOneEstimate, SolveReadsOptions, kind_word}
 use Rattle.pb_answer.specs.Outputs.{Output, output}
 use Rattle.pb_answer.specs.Loaded.{solve_task, grounding_asked}
-use Rattle.pb_answer.specs.Searches.{settings_of, choice_asked, weight_asked}
+use Rattle.pb_answer.specs.Searches.{settings_of, weight_asked, IsChoiceFor, IsChoiceAsked}
 use Rattle.pb_answer.specs.Claims.{IsCertificate, journal_outputs_if_any, Certifies}
 use Rattle.pb_answer.specs.Answer.{Saves}
 use Rattle.pb_answer.proofs.Callers.{input_kind, input_grounding}
 use Rattle.pb_run.specs.Outcome.{Outcome, IfSolve}
 use Rattle.pb_run.specs.Headline.{CertificateHolds}
 use Rattle.pb_run.specs.Commands.{SolveHolds}
-use Rattle.pb_run.specs.Laws.{IsSavedFirst, BeginsWithLines, first_lines, CertificatesStateTheirPattern}
+use Rattle.pb_run.specs.Laws.{IsSavedFirst, BeginsWithLines, first_lines, CertificatesStateTheirChoice, CertificatesStateTheirPattern}
 use Rattle.pb_run.proofs.Accepted.{none_of, first_text}
 
 -- ---- the first lines
@@ -82,50 +81,83 @@ regroup head weight plan rows end =
 
 module _ (solve : SolveMeaning) (ran : Outcome) (name text : List ℕ)
     (named : solve.certificate ≡ Some name) (saved : IsSavedFirst ran.said name text) where
+  -- the text begins with the lines of an estimate that the words ask for
+  abbrev pub StatesAsked : Type 0
+  StatesAsked = (task : TaskParts) × (solve_task solve ran.texts ≡ Ok task)
+      × (choice : Choice) × IsChoiceAsked solve task choice
+      × BeginsWithLines (head_of (spelling_of task choice)) text
+
   -- the text is that of the certificate, under its first lines
-  begins : (task : TaskParts) (plan : Option Plan) → Certifies (Saves ran.said) solve task plan
-      → BeginsWithLines (head_of (spelling_of task (choice_asked solve))) text
-  begins task plan (left, searched, found, outputs, certificate, saves) =
-      let mine = subst (λ (n : Option (List ℕ)). IsCertificate n task (choice_asked solve)
+  begins : (task : TaskParts) (plan : Option Plan) → solve_task solve ran.texts ≡ Ok task
+      → Certifies (Saves ran.said) solve task plan → StatesAsked
+  begins task plan is (choice, asked, left, searched, found, outputs, certificate, saves) =
+      let mine = subst (λ (n : Option (List ℕ)). IsCertificate n task choice
       (weight_asked solve) left.guide left.store plan outputs) named certificate in
       let journals = journal_outputs_if_any solve.journal (settings_of solve) left.journal in
       let all : output name text ∷ saved.0 ≡ (output name mine.0 ∷ []) ++ journals =
       sym saved.1 ∙ saves ∙ ap (λ (os : List Output). os ++ journals) mine.2 in (
-        _,
-        ap first_text all ∙ mine.1.text_is
-            ∙ regroup (lines (head_of (spelling_of task (choice_asked solve))))
-            (weight_text (weight_asked solve)) (plan_text plan) (rows_text (width_of task) mine.1.lines)
-            (line (codes "end")),
+        task,
+        is,
+        choice,
+        asked,
+        (
+          _,
+          ap first_text all ∙ mine.1.text_is
+              ∙ regroup (lines (head_of (spelling_of task choice)))
+              (weight_text (weight_asked solve)) (plan_text plan) (rows_text (width_of task) mine.1.lines)
+              (line (codes "end")),
+        ),
       )
 
-  abbrev pub States : Type 0
-  States = (task : TaskParts) × (solve_task solve ran.texts ≡ Ok task)
+  pub states_asked : (ran.said.status ≡ 0) ⊎ (ran.said.status ≡ 1)
+      → ran.asked ≡ Read (Solve solve) → SolveHolds solve ran → CertificateHolds ran → StatesAsked
+  states_asked (inl zero) is all certified =
+      let found = all.one_plan zero in begins found.0 (Some found.2.0) found.1 found.2.6
+  states_asked (inr one) is all certified =
+      let found = none_of solve ran is certified one in begins found.0 None found.1 found.2
+
+  abbrev pub StatesPattern : Type 0
+  StatesPattern = (task : TaskParts) × (solve_task solve ran.texts ≡ Ok task)
       × BeginsWithLines (first_lines (kind_word solve.input) (width_of task)
       (grounding_asked solve.input solve.options) solve.settings.pattern) text
 
-  states : (task : TaskParts) (plan : Option Plan) → solve_task solve ran.texts ≡ Ok task
-      → Certifies (Saves ran.said) solve task plan → States
-  states task plan is certifies =
-      let first = begins task plan certifies in
+  -- without tables that estimate is the one by the pattern's number
+  pub states_pattern : solve.effort ≡ None → StatesAsked → StatesPattern
+  states_pattern none (task, is, choice, asked, first) =
+      let pattern = solve.settings.pattern in
+      let same : choice ≡ choice_with pattern =
+      subst (λ (e : Option ℕ). IsChoiceFor e pattern task choice) none asked in
       let kinds = input_kind task solve.input solve.options 0 ran.texts is in
       let groundings = input_grounding task solve.input solve.options 0 ran.texts is in (
         task,
         is,
         subst (λ (lines : List (List ℕ)). BeginsWithLines lines text)
-            (head_is task solve.settings.pattern
-            ∙ (λ i. first_lines (kind_name (kinds i)) (width_of task) (groundings i) solve.settings.pattern))
+            (ap (λ (c : Choice). head_of (spelling_of task c)) same ∙ head_is task pattern
+            ∙ (λ i. first_lines (kind_name (kinds i)) (width_of task) (groundings i) pattern))
             first,
       )
 
-  pub either : (ran.said.status ≡ 0) ⊎ (ran.said.status ≡ 1) → ran.asked ≡ Read (Solve solve)
-      → SolveHolds solve ran → CertificateHolds ran → States
-  either (inl zero) is all certified =
-      let found = all.one_plan zero in states found.0 (Some found.2.0) found.1 found.2.6
-  either (inr one) is all certified =
-      let found = none_of solve ran is certified one in states found.0 None found.1 found.2
+-- ---- by the words
 
-pub certificates_state_their_pattern : SolveReadsOptions → CertificatesStateTheirPattern
-certificates_state_their_pattern reads input name text arguments solved are one_run weight names journal named kept answered saved =
-    let asked = kept.asked ∙ reads input arguments are one_run weight names journal in
-    either _ solved name text named saved answered asked
+pub certificates_state_their_choice : SolveReadsOptions → CertificatesStateTheirChoice
+certificates_state_their_choice reads input name text arguments solved are one_run weight names journal estimate named kept answered saved =
+    let asked = kept.asked ∙ reads input arguments are one_run weight names journal estimate in
+    states_asked (solve_given input arguments) solved name text named saved answered asked
     (subst (λ (r : Reading). IfSolve r (λ s. SolveHolds s solved)) asked kept.solve) kept.certified
+
+-- without `--estimate` there is no effort, and a pattern database may be asked for
+without_tables : (arguments : List Argument) → value_given Estimate arguments ≡ None
+    → (effort_given arguments ≡ None) × HaveOneEstimate arguments
+without_tables arguments none = (
+  ap (λ (word : Option (List ℕ)). effort_of word (number_given Effort arguments)) none,
+  λ some. absurd (never (sym none ∙ some)),
+)
+  where
+    never : ◌≡◌ {A = Option (List ℕ)} None (Some (codes "tables")) → ⊥
+    never e = cc
+
+pub certificates_state_their_pattern : CertificatesStateTheirChoice → CertificatesStateTheirPattern
+certificates_state_their_pattern law input name text arguments solved are one_run weight names journal none named kept answered saved =
+    let plain = without_tables arguments none in
+    states_pattern (solve_given input arguments) solved name text named saved plain.0
+    (law input name text arguments solved are one_run weight names journal plain.1 named kept answered saved)

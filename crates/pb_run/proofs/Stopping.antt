@@ -1,5 +1,5 @@
 -- What a stop of grounding says.
-use Rattle.std.proofs.Common.{◌≡◌, ℕ, ◌≤◌, List, [], length, subst, sym, arith}
+use Rattle.std.proofs.Common.{◌≡◌, ℕ, ◌≤◌, List, [], length, arith}
 use Rattle.pb_command.specs.Meaning.{Reading, Refused, Read, Solve, Falling, Check, Journal, Make}
 use Rattle.pb_report.specs.Texts.{stopped_grounding_report}
 use Rattle.pb_answer.specs.Answer.{Said, Says, Saves}

@@ -25,7 +25,7 @@ use Rattle.pb_answer.specs.Claims.{IsCertificate, journal_outputs, journal_outpu
 use Rattle.pb_answer.specs.Journals.{AcceptsJournal, RejectsJournal}
 use Rattle.pb_answer.specs.Parts.{AnswerPart, outputs_of}
 use Rattle.pb_answer.specs.Falling.{IsFallingFound}
-use Rattle.pb_answer.specs.Answer.{Said, Says, Saves, IsSolved, IsUnsolvable, IsStopped, IsFound, IsChecked, IsJudged, IsRefused, OrRefused}
+use Rattle.pb_answer.specs.Answer.{Said, Says, Saves, IsSolved, IsUnsolvable, IsStopped, IsFound, IsChecked, IsRefused, OrRefused}
 use Rattle.pb_run.specs.Makes.{MakesPlan, MakesNone, MakesStop}
 use Rattle.pb_run.specs.Answers.{IsMade, AnswersReading}
 use Rattle.pb_run.specs.Outcome.{Outcome, IsAnswer, IsBroken, AnswersOneOf}
@@ -146,7 +146,7 @@ module _ (texts : List (List ℕ)) (said : Said) where
     kept_names given settings (Some journal) = subst (λ (ns : List (List ℕ)). AreSomeOf ns (listed given)) (sym (journal_names given settings journal)) (all_are_some (listed given))
 
     certified_named : (parts : TaskParts) (plan : Option Plan) → Certifies (Saves said) solve parts plan → AreNamed (Read (Solve solve))
-    certified_named parts plan (left, searched, found, outputs, is_certificate, saves) =
+    certified_named parts plan (choice, asked, left, searched, found, outputs, is_certificate, saves) =
         let journals = journal_outputs_if_any solve.journal (settings_of solve) left.journal in
         let names : names_of said.outputs ≡ listed solve.certificate ++ names_of journals =
         ap names_of saves ∙ names_joined outputs journals
@@ -155,7 +155,7 @@ module _ (texts : List (List ℕ)) (said : Said) where
         (some_with (listed solve.certificate) (names_of journals) (listed solve.journal) (kept_names solve.journal (settings_of solve) left.journal))
 
     stopped_named : (parts : TaskParts) → Stops (Saves said) solve parts → AreNamed (Read (Solve solve))
-    stopped_named parts (left, searched, saves) =
+    stopped_named parts (choice, asked, left, searched, saves) =
         let journals = journal_outputs_if_any solve.journal (settings_of solve) left.journal in
         subst (λ (os : List Output). AreSomeOf (names_of os) (listed solve.certificate ++ listed solve.journal)) (sym saves)
         (some_behind (listed solve.certificate) (names_of journals) (listed solve.journal) (kept_names solve.journal (settings_of solve) left.journal))

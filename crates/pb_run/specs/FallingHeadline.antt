@@ -21,7 +21,7 @@ use Rattle.pb_falling.specs.Falling.{weight_at, Claim}
 use Rattle.pb_report.specs.Texts.{stopped_grounding_report}
 use Rattle.pb_command.specs.Meaning.{SolveMeaning, FallingMeaning}
 use Rattle.pb_answer.specs.Outputs.{Output, output}
-use Rattle.pb_answer.specs.Searches.{choice_asked, weight_asked}
+use Rattle.pb_answer.specs.Searches.{weight_asked, IsChoiceAsked}
 use Rattle.pb_answer.specs.Loaded.{OfTexts, solve_task, IsErr}
 use Rattle.pb_answer.specs.Answer.{Said, Says, Saves}
 use Rattle.pb_answer.specs.Parts.{AnswerPart}
@@ -127,22 +127,25 @@ AreOfRuns (run ∷ runs) (claim ∷ claims) =
 
 -- These are claims of one search, as the words ask for it. Each run goes on with the rows of the
 -- one before. The blocks are those of the task, and the finest that are no more than the words wish
--- for.
+-- for. All runs go by one choice of an estimate.
 pub record AreSearched (solve : SolveMeaning) (task : TaskParts) (steps : ℕ)
     (claims : List PrintedClaim) : Type 0 where
   pub abstraction : AbstractGraph
   pub graph_of : IsGraphOf task abstraction
   pub finest : IsFinest task solve.settings.wish abstraction.projection
+  pub choice : Choice
+  pub asked : IsChoiceAsked solve task choice
   pub runs : List Claim
-  pub falling : AreFalling solve task abstraction steps runs
+  pub falling : AreFalling solve task abstraction choice steps runs
   pub are_of : AreOfRuns runs claims
 
--- One more run of the same search used up the budget. All its runs together made exactly as many
--- expansions as that allows.
-abbrev pub SpendBudget : SolveMeaning → TaskParts → (steps : ℕ) → List PrintedClaim → Type 0
-SpendBudget solve task steps claims =
-    (of : AreSearched solve task steps claims)
-    × EndsAfter solve task of.abstraction steps of.runs Budget
+-- One more run of the same search, by this choice of an estimate, used up the budget. All its runs
+-- together made exactly as many expansions as that allows.
+abbrev pub SpendBudget : SolveMeaning → TaskParts → Choice → (steps : ℕ) → List PrintedClaim
+    → Type 0
+SpendBudget solve task choice steps claims =
+    (of : AreSearched solve task steps claims) × (of.choice ≡ choice)
+    × EndsAfter solve task of.abstraction of.choice steps of.runs Budget
 
 -- ---- the claims so far, and what comes after them
 
@@ -153,38 +156,40 @@ pub record HaveClaimed (solve : SolveMeaning) (task : TaskParts) (steps : ℕ)
   pub searched : AreSearched solve task steps claims
   pub improvable : AllByRecursion MayBeCheaper claims
   pub printed : report ≡ claims_text (action_name task) claims
-  pub certified : SavesEach solve.certificate task (choice_asked solve) claims files
+  pub certified : SavesEach solve.certificate task searched.choice claims files
 
--- after these claims the part says one more, and its certificate is the part's file
-abbrev pub IsOneMoreClaim : SolveMeaning → TaskParts → (steps : ℕ) → List PrintedClaim → AnswerPart
-    → Type 0
-IsOneMoreClaim solve task steps claims part =
+-- after these claims, of a search by this choice of an estimate, the part says one more, and its
+-- certificate is the part's file
+abbrev pub IsOneMoreClaim : SolveMeaning → TaskParts → Choice → (steps : ℕ) → List PrintedClaim
+    → AnswerPart → Type 0
+IsOneMoreClaim solve task choice steps claims part =
     (claim : PrintedClaim)
     × AreClaimsOf (space_of task) (weight_asked solve) steps (claims ++ claim ∷ [])
-    × AreSearched solve task steps (claims ++ claim ∷ [])
+    × (searched : AreSearched solve task steps (claims ++ claim ∷ [])) × (searched.choice ≡ choice)
     × (part.report ≡ printed_text (action_name task) claim)
-    × SavesOne solve.certificate (length claims) task (choice_asked solve) claim.weight
-    (Some claim.plan) part.outputs
+    × SavesOne solve.certificate (length claims) task choice claim.weight (Some claim.plan)
+    part.outputs
 
 -- there is no claim, and the part says that there is no plan, with the certificate of that
-abbrev pub IsNoPlan : SolveMeaning → TaskParts → List PrintedClaim → AnswerPart → Type 0
-IsNoPlan solve task claims part =
+abbrev pub IsNoPlan : SolveMeaning → TaskParts → Choice → List PrintedClaim → AnswerPart → Type 0
+IsNoPlan solve task choice claims part =
     (claims ≡ []) × HasNoPlan (space_of task) × (part.report ≡ none_report)
-    × SavesOne solve.certificate 0 task (choice_asked solve) (weight_asked solve) None part.outputs
+    × IsChoiceAsked solve task choice
+    × SavesOne solve.certificate 0 task choice (weight_asked solve) None part.outputs
 
 -- after these claims the part says that the budget was used up, and has no file
-abbrev pub IsStop : SolveMeaning → TaskParts → (steps : ℕ) → List PrintedClaim → AnswerPart
-    → Type 0
-IsStop solve task steps claims part =
-    SpendBudget solve task steps claims × (part.report ≡ stopped_report solve.settings.budget)
+abbrev pub IsStop : SolveMeaning → TaskParts → Choice → (steps : ℕ) → List PrintedClaim
+    → AnswerPart → Type 0
+IsStop solve task choice steps claims part =
+    SpendBudget solve task choice steps claims × (part.report ≡ stopped_report solve.settings.budget)
     × (part.outputs ≡ [])
 
--- what comes after these claims
-abbrev pub IsNext : SolveMeaning → TaskParts → (steps : ℕ) → List PrintedClaim → AnswerPart
-    → Type 0
-IsNext solve task steps claims part =
-    IsOneMoreClaim solve task steps claims part
-    ⊎ (IsNoPlan solve task claims part ⊎ IsStop solve task steps claims part)
+-- what comes after these claims, in a search by this choice of an estimate
+abbrev pub IsNext : SolveMeaning → TaskParts → Choice → (steps : ℕ) → List PrintedClaim
+    → AnswerPart → Type 0
+IsNext solve task choice steps claims part =
+    IsOneMoreClaim solve task choice steps claims part
+    ⊎ (IsNoPlan solve task choice claims part ⊎ IsStop solve task choice steps claims part)
 
 -- ---- by the status
 
@@ -201,7 +206,7 @@ pub record EndsProved (solve : SolveMeaning) (steps : ℕ) (said : Said) (task :
     pub are : AreClaimsOf (space_of task) (weight_asked solve) steps (claims ++ last ∷ [])
     pub searched : AreSearched solve task steps (claims ++ last ∷ [])
     pub printed : Says said (claims_text (action_name task) (claims ++ last ∷ []))
-    pub certified : SavesEach solve.certificate task (choice_asked solve) (claims ++ last ∷ [])
+    pub certified : SavesEach solve.certificate task searched.choice (claims ++ last ∷ [])
         said.outputs
     pub improvable : AllByRecursion MayBeCheaper claims
     pub proved : last.bound ≡ last.plan.cost
@@ -212,8 +217,9 @@ pub record EndsProved (solve : SolveMeaning) (steps : ℕ) (said : Said) (task :
 pub record EndsNone (solve : SolveMeaning) (said : Said) (task : TaskParts) : Type 0 where
   pub printed : Says said none_report
   pub no_plan : HasNoPlan (space_of task)
-  pub certified : SavesOne solve.certificate 0 task (choice_asked solve) (weight_asked solve) None
-      said.outputs
+  pub choice : Choice
+  pub asked : IsChoiceAsked solve task choice
+  pub certified : SavesOne solve.certificate 0 task choice (weight_asked solve) None said.outputs
 
 -- Status 2: after the claims so far, if any, the budget is printed, which all runs together used
 -- up. There is a certificate of each claim and no other.
@@ -223,7 +229,7 @@ pub record EndsStopped (solve : SolveMeaning) (steps : ℕ) (said : Said) (task 
     pub report : List ℕ
     pub so_far : HaveClaimed solve task steps claims report said.outputs
     pub printed : Says said (report ++ stopped_report solve.settings.budget)
-    pub spent : SpendBudget solve task steps claims
+    pub spent : SpendBudget solve task so_far.searched.choice steps claims
 
 -- nothing is printed or saved
 abbrev pub IsSilent : Said → Type 0
@@ -250,7 +256,7 @@ pub record EndsUnsaved (solve : SolveMeaning) (steps : ℕ) (said : Said) (task 
     pub files : List Output
     pub so_far : HaveClaimed solve task steps claims said.report files
     pub part : AnswerPart
-    pub next : IsNext solve task steps claims part
+    pub next : IsNext solve task so_far.searched.choice steps claims part
     pub file : Output
     pub due : part.outputs ≡ file ∷ []
     pub begun : List Output
@@ -267,7 +273,7 @@ pub record EndsUnprinted (solve : SolveMeaning) (steps : ℕ) (said : Said) (tas
   pub files : List Output
   pub so_far : HaveClaimed solve task steps claims report files
   pub part : AnswerPart
-  pub next : IsNext solve task steps claims part
+  pub next : IsNext solve task so_far.searched.choice steps claims part
   pub outputs : Saves said (files ++ part.outputs)
   pub kept : List ℕ
   pub rest : List ℕ

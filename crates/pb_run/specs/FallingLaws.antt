@@ -11,7 +11,7 @@ use Rattle.pb_command.specs.declared.table.ValuedOption.TheVariants.{Row, Num, D
 use Rattle.pb_command.specs.declared.table.FlagOption.TheVariants.{Swamp, Reachable}
 use Rattle.pb_command.specs.Values.{InputNames}
 use Rattle.pb_command.specs.Meaning.{Reading, Read, Falling, FallingMeaning, CheckMeaning, reading_of_words}
-use Rattle.pb_command.specs.Options.{Argument, words_of, placed_words, value_given, number_given, flag_given, engine_given, AreDistinct, IsArgumentOf, is_of_check, is_flag_of_check, kind_word, file_words, AreOfSolve, HasNewName}
+use Rattle.pb_command.specs.Options.{Argument, words_of, placed_words, value_given, number_given, flag_given, engine_given, AreDistinct, IsArgumentOf, is_of_check, is_flag_of_check, kind_word, file_words, AreOfSolve, HaveOneEstimate, HasNewName}
 use Rattle.pb_answer.specs.Outputs.{Output}
 use Rattle.pb_answer.specs.Answer.{Said}
 use Rattle.pb_run.specs.Course.{Does}
@@ -73,6 +73,7 @@ pub record AreFallingMatching (input : InputNames) (steps file : List ℕ)
   pub weight : number_given Den arguments ≤ number_given Num arguments
   pub engine : engine_given arguments ≡ Leases
   pub journal : value_given JournalOption arguments ≡ None
+  pub estimate : HaveOneEstimate arguments
   pub each : AllByRecursion (IsArgumentOf is_of_check is_flag_of_check) others
   pub distinct : AreDistinct others
   pub placed : placed_words others ≡ kind_word input ∷ file ∷ file_words input

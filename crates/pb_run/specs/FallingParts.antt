@@ -82,10 +82,10 @@ pub record HandedOutBefore (search : FallingValue) (parts : List AnswerPart) : T
   pub before : List Claim
   pub machine : Machine
   pub run : IsFalling before machine search
-  pub falling : AreFalling search.solve search.parts search.graph.table.abstraction search.steps
-      before
-  pub say : SayClaims search.solve search.parts search.graph.table.abstraction search.steps 0
-      before parts
+  pub falling : AreFalling search.solve search.parts search.graph.table.abstraction
+      search.graph.choice search.steps before
+  pub say : SayClaims search.solve search.parts search.graph.table.abstraction
+      search.graph.choice search.steps 0 before parts
 
 -- the claim of the run in hand is among the parts too, and isn't the last one
 pub record HandedOutNow (search : FallingValue) (parts : List AnswerPart) : Type 0 where
@@ -94,10 +94,10 @@ pub record HandedOutNow (search : FallingValue) (parts : List AnswerPart) : Type
   pub run : IsFalling before machine search
   pub plan : Plan
   pub plan_is : search.plan ≡ Some plan
-  pub falling : AreFalling search.solve search.parts search.graph.table.abstraction search.steps
-      (before ++ claim_now search machine plan ∷ [])
-  pub say : SayClaims search.solve search.parts search.graph.table.abstraction search.steps 0
-      (before ++ claim_now search machine plan ∷ []) parts
+  pub falling : AreFalling search.solve search.parts search.graph.table.abstraction
+      search.graph.choice search.steps (before ++ claim_now search machine plan ∷ [])
+  pub say : SayClaims search.solve search.parts search.graph.table.abstraction
+      search.graph.choice search.steps 0 (before ++ claim_now search machine plan ∷ []) parts
   pub not_last : IsLast search → ⊥
   pub more : search.run ≡ search.steps → ⊥
 

@@ -1,6 +1,6 @@
 -- What one call of the program saves, another one accepts: by what the words of both ask for, and
 -- by the words themselves. A premise by the name of a clause is what that clause of `run` promises.
-use Rattle.std.specs.Prelude.{false, ◌≡◌, ◌⊎◌, ℕ, ◌≤◌, ◌==◌, Bool, Some, List, [], ◌∷◌, ◌++◌, Ok, length, codes, if◌then◌else◌}
+use Rattle.std.specs.Prelude.{false, ◌≡◌, ◌⊎◌, ℕ, ◌≤◌, ◌==◌, Bool, None, Some, List, [], ◌∷◌, ◌++◌, Ok, length, codes, if◌then◌else◌}
 use Rattle.std.specs.Fmt.{decimal}
 use Rattle.std.specs.List.{AllByRecursion}
 use Rattle.pb_model.specs.Texts.{lines, spaced}
@@ -9,18 +9,21 @@ use Rattle.pb_task.specs.declared.grounding.Grounding.{Grounding}
 use Rattle.pb_task.specs.declared.grounding.Grounding.TheVariants.{All, Reachable}
 use Rattle.pb_task.specs.Groundings.{grounding_name}
 use Rattle.pb_task.specs.Widths.{width_of}
+use Rattle.pb_estimate.specs.Choices.{Choice}
+use Rattle.pb_estimate.specs.Spelling.{spelling_of, head_of}
 use Rattle.pb_command.specs.declared.command.InputOptions.{InputOptions}
 use Rattle.pb_command.specs.Values.{InputNames}
 use Rattle.pb_command.specs.Meaning.{Read, Solve, SolveMeaning, CheckMeaning, JournalMeaning, reading_of_words}
 use Rattle.pb_command.specs.declared.command.Engine.TheVariants.{Leases}
 use Rattle.pb_command.specs.declared.table.ValuedOption.{ValuedOption}
-use Rattle.pb_command.specs.declared.table.ValuedOption.TheVariants.{Row, Num, Den, Pattern, Certificate, Journal as JournalOption}
+use Rattle.pb_command.specs.declared.table.ValuedOption.TheVariants.{Row, Num, Den, Pattern, Estimate, Certificate, Journal as JournalOption}
 use Rattle.pb_command.specs.declared.table.FlagOption.{FlagOption}
 use Rattle.pb_command.specs.declared.table.FlagOption.TheVariants.{Swamp, Reachable as ReachableFlag}
-use Rattle.pb_command.specs.Options.{Argument, words_of, placed_words, value_given, number_given, flag_given, AreDistinct, IsArgumentOf, is_of_check, is_of_journal, is_flag_of_check, is_flag_of_journal, kind_word, file_words, options_given, AreOfSolve, HaveTwoNames, HaveKeptJournal, HaveOneRun, HasNewName}
+use Rattle.pb_command.specs.Options.{Argument, words_of, placed_words, value_given, number_given, flag_given, AreDistinct, IsArgumentOf, is_of_check, is_of_journal, is_flag_of_check, is_flag_of_journal, kind_word, file_words, options_given, AreOfSolve, HaveTwoNames, HaveKeptJournal, HaveOneRun, HaveOneEstimate, HasNewName, effort_given}
 use Rattle.pb_journal.specs.Lengths.{most_bytes}
 use Rattle.pb_answer.specs.Outputs.{Output, output}
 use Rattle.pb_answer.specs.Loaded.{OfTexts, input_task, grounding_asked}
+use Rattle.pb_answer.specs.Searches.{IsChoiceFor}
 use Rattle.pb_answer.specs.Journals.{IsJournalOf}
 use Rattle.pb_answer.specs.Answer.{Said}
 use Rattle.pb_answer.specs.Stops.{StopsBehind, StopsTexts}
@@ -110,6 +113,7 @@ pub record AreMatching (input : InputNames) (has_option : ValuedOption → Bool)
   pub weight : number_given Den arguments ≤ number_given Num arguments
   pub names : HaveTwoNames arguments
   pub kept : HaveKeptJournal arguments
+  pub estimate : HaveOneEstimate arguments
   pub each : AllByRecursion (IsArgumentOf has_option has_flag) others
   pub distinct : AreDistinct others
   pub placed : placed_words others ≡ kind_word input ∷ file ∷ file_words input
@@ -191,13 +195,14 @@ first_lines kind digits Reachable pattern =
 -- input and the width of the task. For STRIPS with `--reachable` it is of version 4: its fourth line
 -- is `grounding reachable`, and its fifth says the estimate. Else it states the number of
 -- `--pattern`, if that is given and isn't 0: its fourth line is `pattern K`. Without that it is of
--- version 2, which has no such line.
+-- version 2, which has no such line. No tables are asked for.
 abbrev pub CertificatesStateTheirPattern : Type 0
 CertificatesStateTheirPattern =
     (input : InputNames) (name text : List ℕ) (arguments : List Argument) (solved : Outcome)
     → AreOfSolve input arguments → HaveOneRun arguments
     → number_given Den arguments ≤ number_given Num arguments
     → HaveTwoNames arguments → HaveKeptJournal arguments
+    → value_given Estimate arguments ≡ None
     → value_given Certificate arguments ≡ Some name
     → Keeps (codes "solve" ∷ words_of arguments) solved
     → (solved.said.status ≡ 0) ⊎ (solved.said.status ≡ 1)
@@ -205,3 +210,20 @@ CertificatesStateTheirPattern =
     → (parts : TaskParts) × (input_task input (options_given arguments) 0 solved.texts ≡ Ok parts)
     × BeginsWithLines (first_lines (kind_word input) (width_of parts)
     (grounding_asked input (options_given arguments)) (number_given Pattern arguments)) text
+
+-- The same with or without `--estimate tables`. Its first lines, up to the estimate, are those of a
+-- choice of an estimate that the words ask for.
+abbrev pub CertificatesStateTheirChoice : Type 0
+CertificatesStateTheirChoice =
+    (input : InputNames) (name text : List ℕ) (arguments : List Argument) (solved : Outcome)
+    → AreOfSolve input arguments → HaveOneRun arguments
+    → number_given Den arguments ≤ number_given Num arguments
+    → HaveTwoNames arguments → HaveKeptJournal arguments → HaveOneEstimate arguments
+    → value_given Certificate arguments ≡ Some name
+    → Keeps (codes "solve" ∷ words_of arguments) solved
+    → (solved.said.status ≡ 0) ⊎ (solved.said.status ≡ 1)
+    → IsSavedFirst solved.said name text
+    → (parts : TaskParts) × (input_task input (options_given arguments) 0 solved.texts ≡ Ok parts)
+    × (choice : Choice)
+    × IsChoiceFor (effort_given arguments) (number_given Pattern arguments) parts choice
+    × BeginsWithLines (head_of (spelling_of parts choice)) text

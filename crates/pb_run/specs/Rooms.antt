@@ -2,18 +2,24 @@
 -- a `journal` of a legal one, and a `make` need little room. A `solve` needs room for the rows and
 -- the events that its budget allows. Those of one search are far fewer, and `fits` of
 -- `AnswersIfServed` says what these need.
-use Rattle.std.specs.Prelude.{◌≡◌, ℕ, ◌+◌, ◌*◌, ◌^◌, ◌<◌, ◌≤◌, Some, IfSome, List, [], length, Ok}
+use Rattle.std.specs.Prelude.{◌≡◌, ◌≢◌, ℕ, ◌+◌, ◌*◌, ◌^◌, ◌<◌, ◌≤◌, None, Some, IfSome, List, [], length, Ok}
+use Rattle.pb_model.specs.Texts.{lines}
 use Rattle.pb_machine.specs.declared.settings.Settings.{Settings}
 use Rattle.pb_outside.specs.Memory.{ShelfView, SinkView, file_of, HasFile, HasRoom, CanTake}
 use Rattle.pb_task.specs.declared.parts.TaskParts.{TaskParts}
 use Rattle.pb_task.specs.Parts.{space_of, IsTask, action_name}
+use Rattle.pb_task.specs.declared.kind.Kind.TheVariants as kind
+use Rattle.pb_task.specs.Kinds.{kind_of}
 use Rattle.pb_task.specs.Widths.{width_of}
+use Rattle.pb_estimate.specs.Choices.{Choice}
+use Rattle.pb_estimate.specs.Spelling.{spelling_of, head_of}
 use Rattle.pb_yard.specs.Length.{most_events}
 use Rattle.pb_journal.specs.Lengths.{most_bytes}
 use Rattle.pb_check.specs.declared.fault.Verdict.{Verdict}
 use Rattle.pb_check.specs.Shown.{IsAccepted}
 use Rattle.pb_command.specs.Meaning.{Reading, Read, Solve, Check, Journal, Make, SolveMeaning, CheckMeaning, JournalMeaning, MakeMeaning, IsSolveInRange}
 use Rattle.pb_answer.specs.Loaded.{solve_task, check_task, journal_task}
+use Rattle.pb_answer.specs.Searches.{IsChoiceAsked}
 use Rattle.pb_answer.specs.Claims.{rewritten_outputs}
 use Rattle.pb_answer.specs.Journals.{IsJournalOf}
 use Rattle.pb_run.specs.Asked.{files_of}
@@ -70,10 +76,12 @@ MakesAreServed =
 abbrev pub most_rows : TaskParts → Settings → ℕ
 most_rows parts settings = 1 + (space_of parts).actions * settings.budget
 
--- How many bytes its certificate has at most. A row has a state, a g of at most 19 digits and what
--- became of it. A step of the plan has at most 5 digits, and there are no more steps than rows.
-abbrev pub most_of_certificate : TaskParts → Settings → ℕ
-most_of_certificate parts settings = 256 + (width_of parts + 34) * most_rows parts settings
+-- How many bytes its certificate has at most, if its first lines, up to the estimate, have so many.
+-- A row has a state, a g of at most 19 digits and what became of it. A step of the plan has at most
+-- 5 digits, and there are no more steps than rows.
+abbrev pub most_of_certificate : TaskParts → Settings → (head : ℕ) → ℕ
+most_of_certificate parts settings head =
+    142 + head + (width_of parts + 34) * most_rows parts settings
 
 -- how many bytes its journal has at most
 abbrev pub most_of_journal : TaskParts → Settings → ℕ
@@ -90,12 +98,31 @@ NamesAreWithin parts longest =
     (action : ℕ) → action < (space_of parts).actions
     → length (action_name parts action) ≤ longest
 
+-- By no choice of an estimate that the words ask for do the first lines of a certificate, up to the
+-- estimate, have more bytes than this.
+abbrev pub HeadsAreWithin : SolveMeaning → TaskParts → (head : ℕ) → Type 0
+HeadsAreWithin solve parts head =
+    (choice : Choice) → IsChoiceAsked solve parts choice
+    → length (lines (head_of (spelling_of parts choice))) ≤ head
+
+-- For these lines 114 bytes are enough if tables are not asked for, or not looked for: the task is a
+-- map or a board. Else 2^40 bytes are enough, whatever tables are found.
+pub record HeadsAreShort : Type 0 where
+  pub without : (solve : SolveMeaning) (parts : TaskParts) → solve.effort ≡ None
+      → IsSolveInRange solve → IsTask parts → HeadsAreWithin solve parts 114
+  pub other_kinds : (solve : SolveMeaning) (parts : TaskParts) → kind_of parts ≢ kind.Strips
+      → IsSolveInRange solve → IsTask parts → HeadsAreWithin solve parts 114
+  pub all : (solve : SolveMeaning) (parts : TaskParts) → IsSolveInRange solve → IsTask parts
+      → HeadsAreWithin solve parts (2 ^ 40)
+
 -- There is room for whatever a search of this task can leave: for its certificate and its journal,
--- each if it has a name, and for its report.
-pub record HasSearchRoom (solve : SolveMeaning) (parts : TaskParts) (longest : ℕ)
+-- each if it has a name, and for its report. The first lines of its certificate have at most so many
+-- bytes.
+pub record HasSearchRoom (solve : SolveMeaning) (parts : TaskParts) (longest head : ℕ)
     (shelf : ShelfView) (sink : SinkView) : Type 0 where
   pub certificate : IfSome solve.certificate
-      (λ name. HasRoomFor shelf name (most_of_certificate parts solve.settings))
+      (λ name. HeadsAreWithin solve parts head
+      × HasRoomFor shelf name (most_of_certificate parts solve.settings head))
   pub journal : IfSome solve.journal
       (λ name. HasRoomFor shelf name (most_of_journal parts solve.settings))
   pub report : HasRoomToPut sink (most_of_report parts solve.settings longest)
@@ -105,9 +132,9 @@ pub record HasSearchRoom (solve : SolveMeaning) (parts : TaskParts) (longest : �
 abbrev pub SolvesAreServed : Type 0
 SolvesAreServed =
     (solve : SolveMeaning) (shelf : ShelfView) (sink : SinkView) (texts : List (List ℕ))
-    (parts : TaskParts) (longest : ℕ)
+    (parts : TaskParts) (longest head : ℕ)
     → HasTextsAndLine (Read (Solve solve)) shelf sink texts
     → solve_task solve texts ≡ Ok parts → IsTask parts → IsSolveInRange solve
-    → NamesAreWithin parts longest → HasSearchRoom solve parts longest shelf sink
+    → NamesAreWithin parts longest → HasSearchRoom solve parts longest head shelf sink
     → CanServe (Read (Solve solve)) (Some (file_of shelf)) (HasFile shelf) (HasRoom shelf)
     (CanTake sink)

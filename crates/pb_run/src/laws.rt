@@ -3,10 +3,10 @@
 ghost use Rattle.pb_run.specs.Laws.{SavedCertificatesAreAccepted, SavedJournalsAreAccepted};
 ghost use Rattle.pb_run.specs.Laws.{SavedJournalsAreShort};
 ghost use Rattle.pb_run.specs.Laws.{CertificatesAreAcceptedByWords, JournalsAreAcceptedByWords};
-ghost use Rattle.pb_run.specs.Laws.{CertificatesStateTheirPattern};
+ghost use Rattle.pb_run.specs.Laws.{CertificatesStateTheirChoice, CertificatesStateTheirPattern};
 ghost use Rattle.pb_run.specs.AtOnce.{OnePartIsHandedOutAtOnce};
 ghost use Rattle.pb_run.specs.Rooms.{ChecksAreServed, JournalsAreServed};
-ghost use Rattle.pb_run.specs.Rooms.{MakesAreServed, SolvesAreServed};
+ghost use Rattle.pb_run.specs.Rooms.{HeadsAreShort, MakesAreServed, SolvesAreServed};
 
 use pb_abstract::blocks_ask_for_no_costs;
 use pb_check::{bounds_are_least, read_as_spelled};
@@ -65,9 +65,11 @@ pub fn journals_are_accepted_by_words()
 
 /// A saved certificate states the number of its search's pattern, by the words of the call:
 /// `solve ..` with `--pattern K` and `--cert NAME`. For STRIPS with `--reachable` it is of version 4,
-/// and states that too. Else, with 0 or without `--pattern`, it is of version 2.
+/// and states that too. Else, with 0 or without `--pattern`, it is of version 2. With
+/// `--estimate tables` it states the tables that were found, if any were.
 pub fn certificates_state_their_pattern()
-    ensures { CertificatesStateTheirPattern }
+    ensures pattern { CertificatesStateTheirPattern }
+    ensures choice { CertificatesStateTheirChoice }
 {
     solve_reads_options();
 }
@@ -96,9 +98,12 @@ pub fn makes_are_served()
 }
 
 /// A `solve` of texts that spell a task is served, so it answers 0, 1, 2 or memory ran out. This
-/// needs room for the rows and the events that the budget of the words allows.
+/// needs room for the rows and the events that the budget of the words allows. It also needs room
+/// for the first lines of a certificate, up to its estimate: 114 bytes, or if tables are looked for
+/// at most 2^40.
 pub fn solves_are_served()
-    ensures { SolvesAreServed }
+    ensures served { SolvesAreServed }
+    ensures heads { HeadsAreShort }
 {
     journal_texts_are_short();
 }

@@ -41,6 +41,7 @@ pub fn lend_solve<'l, 'w: 'l>(solve: &SolveCommand<'w>) -> SolveCommand<'l>
         options: solve.options,
         settings: solve.settings,
         engine: solve.engine,
+        effort: solve.effort,
         certificate: lend_name(solve.certificate),
         journal: lend_name(solve.journal),
     }

@@ -25,12 +25,13 @@ use Rattle.pb_lease.specs.GraphValue.{GraphValue, setup_in}
 use Rattle.pb_lease.specs.Moments.{IsMoment}
 use Rattle.pb_lease.specs.Begins.{FitsWord}
 use Rattle.pb_lease.proofs.Callers.{setup_is, all_rows}
+use Rattle.pb_estimate.specs.Choices.{Choice}
 use Rattle.pb_task.specs.Parts.{greatest_cost}
 use Rattle.pb_yard.specs.Marking.{MarksInTurn}
 use Rattle.pb_yard.specs.Order.{RunsInTime}
 use Rattle.pb_yard.proofs.Callers.{in_time_is_run, other_ends_have_no_report, runs_are_short}
 use Rattle.pb_workers.proofs.Callers.{store_is, best_end}
-use Rattle.pb_search.specs.Ends.{choice_of, search_of, HasSmallCosts, IsBestOf, HasEndedSo, RunEnds, EndsBy, StopsWith, EndsQuietly, IsLeftBy, IsLeftBySearch, MarksNothing}
+use Rattle.pb_search.specs.Ends.{search_of, HasSmallCosts, IsBestOf, HasEndedSo, RunEnds, EndsBy, StopsWith, EndsQuietly, IsLeftBy, IsLeftBySearch, MarksNothing}
 use Rattle.pb_search.specs.Searched.{Opens, HasRun, HasSearched}
 use Rattle.pb_search.proofs.Marks.{marks_nothing}
 use Rattle.pb_search.proofs.Ending.{searched}
@@ -108,10 +109,10 @@ module _ (setup : Setup) (is_setup : IsSetup setup greatest_cost) (range : AreIn
     moment = m;
   }
 
-module _ (parts : TaskParts) (abstraction : AbstractGraph) (settings : Settings) (range : AreInRange settings) (graph_of : IsGraphOf parts abstraction)
-    (finest : IsFinest parts settings.wish abstraction.projection) (few : (blocks_of abstraction).count ≤ 4096) (g : GraphValue) (h : HasSearched parts abstraction settings g) where
+module _ (parts : TaskParts) (abstraction : AbstractGraph) (choice : Choice) (settings : Settings) (range : AreInRange settings) (graph_of : IsGraphOf parts abstraction)
+    (finest : IsFinest parts settings.wish abstraction.projection) (few : (blocks_of abstraction).count ≤ 4096) (g : GraphValue) (h : HasSearched parts abstraction choice settings g) where
   abbrev setup : Setup
-  setup = search_of parts abstraction settings
+  setup = search_of parts abstraction choice settings
 
   setup_same : setup_in g ≡ setup
   setup_same = λ i. setup_of (h.task i) (h.graph_is i) (h.choice_is i) (h.settings_are i) (h.past i).reopenings
@@ -123,11 +124,11 @@ module _ (parts : TaskParts) (abstraction : AbstractGraph) (settings : Settings)
   small_costs block state row found =
       costs_fit (setup_in g) h.machine (setup_is g h.lawful) h.lawful.legal.range h.moment.at.lawful block state row (all_rows g h.lawful h.recorded h.machine h.moment.at h.home block state ∙ found)
 
-  pub is_best : g.table.end ≡ Some Quiet → IsBestOf parts settings g
+  pub is_best : g.table.end ≡ Some Quiet → IsBestOf parts choice settings g
   is_best quiet = record {
     task = h.task;
     weight = ap weight_of h.settings_are;
-    choice = h.choice_is;
+    choice_is = h.choice_is;
     home = h.home;
     best = best_end g h.lawful h.home h.recorded h.machine h.moment quiet;
     small = small_costs;
@@ -158,7 +159,7 @@ module _ (parts : TaskParts) (abstraction : AbstractGraph) (settings : Settings)
   run_ended : (end : End) → h.machine.counts.end ≡ Some end → RunEnds setup 0 (opening_machine setup) end h.moves
   run_ended = run_ends setup is_setup range 0 (omega arith) (opening_machine setup) refl (opening_is_lawful setup greatest_cost is_setup refl) h.moves h.machine h.ordered lawful h.finished within ended
 
-  ends_by : (end : End) → h.machine.counts.end ≡ Some end → EndsBy parts settings end h.moves
+  ends_by : (end : End) → h.machine.counts.end ≡ Some end → EndsBy parts choice settings end h.moves
   unfolding run_ends run_ended
   ends_by end is = record {
     abstraction = abstraction;
@@ -171,7 +172,7 @@ module _ (parts : TaskParts) (abstraction : AbstractGraph) (settings : Settings)
     marks = λ worker. subst (λ (j : List Event). MarksInTurn (events_of worker j)) h.journal (h.marks worker);
   }
 
-  pub quiet_run : g.table.end ≡ Some Quiet → EndsQuietly parts settings g.table.journal g
+  pub quiet_run : g.table.end ≡ Some Quiet → EndsQuietly parts choice settings g.table.journal g
   unfolding run_ends run_ended ends_by
   quiet_run quiet =
       let is = ended_here Quiet quiet in
@@ -183,7 +184,7 @@ module _ (parts : TaskParts) (abstraction : AbstractGraph) (settings : Settings)
         rows = sym (store_is g h.lawful h.home h.recorded h.machine h.moment);
       }
 
-  pub budget_stop : g.table.end ≡ Some Budget → StopsWith parts settings g.table.journal
+  pub budget_stop : g.table.end ≡ Some Budget → StopsWith parts choice settings g.table.journal
   budget_stop budget =
       let is = ended_here Budget budget in
       (h.moves, h.journal, ends_by Budget is)
@@ -197,15 +198,15 @@ module _ (parts : TaskParts) (abstraction : AbstractGraph) (settings : Settings)
       at : (end : End) → g.table.end ≡ Some end → IsLeftBy setup 0 (opening_machine setup) g
       at = left_at setup is_setup range 0 (omega arith) (opening_machine setup) refl (opening_is_lawful setup greatest_cost is_setup refl) h.moves h.machine h.ordered lawful h.finished within ended g h.recorded h.moment h.journal
 
-  pub left_by_search : IsLeftBySearch parts settings g
-  left_by_search = subst (λ (a : AbstractGraph). IsLeftBy (search_of parts a settings) 0 (opening_machine (search_of parts a settings)) g) (sym h.graph_is) left_by
+  pub left_by_search : IsLeftBySearch parts choice settings g
+  left_by_search = subst (λ (a : AbstractGraph). IsLeftBy (search_of parts a choice settings) 0 (opening_machine (search_of parts a choice settings)) g) (sym h.graph_is) left_by
 
 -- ---- what a call hands back
 
 -- The blocks were made for the task, by a reference of their own, and counted.
-module _ {E : Type 0} (parts made_for : TaskParts) (abstraction made counted : AbstractGraph) (settings : Settings) (range : AreInRange settings)
+module _ {E : Type 0} (parts made_for : TaskParts) (abstraction made counted : AbstractGraph) (choice : Choice) (settings : Settings) (range : AreInRange settings)
     (for_is : made_for ≡ parts) (made_is : abstraction ≡ made) (graph_of : IsGraphOf made_for made) (finest : IsFinest made_for settings.wish made.projection)
-    (counted_is : counted ≡ abstraction) (lawful : IsGraph counted) (opening : GraphValue) (opens : Opens parts abstraction settings opening)
+    (counted_is : counted ≡ abstraction) (lawful : IsGraph counted) (opening : GraphValue) (opens : Opens parts abstraction choice settings opening)
     (r : Result GraphValue E) (found : IfOk r (HasRun opening)) where
   its_graph : IsGraphOf parts abstraction
   its_graph = subst (λ (p : TaskParts). IsGraphOf p abstraction) for_is (subst (λ (a : AbstractGraph). IsGraphOf made_for a) (sym made_is) graph_of)
@@ -217,8 +218,8 @@ module _ {E : Type 0} (parts made_for : TaskParts) (abstraction made counted : A
   few_blocks : (blocks_of abstraction).count ≤ 4096
   few_blocks = (subst IsGraph counted_is lawful).few
 
-  from_opening : (g : GraphValue) → HasRun opening g → HasSearched parts abstraction settings g
-  from_opening = searched parts abstraction settings opening opens
+  from_opening : (g : GraphValue) → HasRun opening g → HasSearched parts abstraction choice settings g
+  from_opening = searched parts abstraction choice settings opening opens
 
   pub task_then : IfOk r (λ g. g.task ≡ parts)
   task_then = IfOk-weaker r (HasRun opening) (λ g. g.task ≡ parts) (λ g h. (from_opening g h).task) found
@@ -240,29 +241,29 @@ module _ {E : Type 0} (parts made_for : TaskParts) (abstraction made counted : A
   pub ended_then : IfOk r (λ g. (g.table.end ≡ Some Quiet) ⊎ (g.table.end ≡ Some Budget))
   ended_then = IfOk-weaker r (HasRun opening) (λ g. (g.table.end ≡ Some Quiet) ⊎ (g.table.end ≡ Some Budget)) (λ g h. h.ended) found
 
-  pub best_then : IfOk r (λ g. g.table.end ≡ Some Quiet → IsBestOf parts settings g)
-  best_then = IfOk-weaker r (HasRun opening) (λ g. g.table.end ≡ Some Quiet → IsBestOf parts settings g)
-      (λ g h. is_best parts abstraction settings range its_graph its_finest few_blocks g (from_opening g h)) found
+  pub best_then : IfOk r (λ g. g.table.end ≡ Some Quiet → IsBestOf parts choice settings g)
+  best_then = IfOk-weaker r (HasRun opening) (λ g. g.table.end ≡ Some Quiet → IsBestOf parts choice settings g)
+      (λ g h. is_best parts abstraction choice settings range its_graph its_finest few_blocks g (from_opening g h)) found
 
-  pub quiet_run_then : IfOk r (λ g. g.table.end ≡ Some Quiet → EndsQuietly parts settings g.table.journal g)
-  quiet_run_then = IfOk-weaker r (HasRun opening) (λ g. g.table.end ≡ Some Quiet → EndsQuietly parts settings g.table.journal g)
-      (λ g h. quiet_run parts abstraction settings range its_graph its_finest few_blocks g (from_opening g h)) found
+  pub quiet_run_then : IfOk r (λ g. g.table.end ≡ Some Quiet → EndsQuietly parts choice settings g.table.journal g)
+  quiet_run_then = IfOk-weaker r (HasRun opening) (λ g. g.table.end ≡ Some Quiet → EndsQuietly parts choice settings g.table.journal g)
+      (λ g h. quiet_run parts abstraction choice settings range its_graph its_finest few_blocks g (from_opening g h)) found
 
-  pub stop_then : IfOk r (λ g. g.table.end ≡ Some Budget → StopsWith parts settings g.table.journal)
-  stop_then = IfOk-weaker r (HasRun opening) (λ g. g.table.end ≡ Some Budget → StopsWith parts settings g.table.journal)
-      (λ g h. budget_stop parts abstraction settings range its_graph its_finest few_blocks g (from_opening g h)) found
+  pub stop_then : IfOk r (λ g. g.table.end ≡ Some Budget → StopsWith parts choice settings g.table.journal)
+  stop_then = IfOk-weaker r (HasRun opening) (λ g. g.table.end ≡ Some Budget → StopsWith parts choice settings g.table.journal)
+      (λ g h. budget_stop parts abstraction choice settings range its_graph its_finest few_blocks g (from_opening g h)) found
 
-  pub choice_then : IfOk r (λ g. g.choice ≡ choice_of settings)
-  choice_then = IfOk-weaker r (HasRun opening) (λ g. g.choice ≡ choice_of settings)
+  pub choice_then : IfOk r (λ g. g.choice ≡ choice)
+  choice_then = IfOk-weaker r (HasRun opening) (λ g. g.choice ≡ choice)
       (λ g h. (from_opening g h).choice_is) found
 
   pub plain_then : IfOk r (λ g. settings.plain ≡ true → MarksNothing g.table.journal)
   plain_then = IfOk-weaker r (HasRun opening) (λ g. settings.plain ≡ true → MarksNothing g.table.journal)
-      (λ g h. plain_marks_nothing parts abstraction settings range its_graph its_finest few_blocks g (from_opening g h)) found
+      (λ g h. plain_marks_nothing parts abstraction choice settings range its_graph its_finest few_blocks g (from_opening g h)) found
 
-  pub left_then : IfOk r (IsLeftBySearch parts settings)
-  left_then = IfOk-weaker r (HasRun opening) (IsLeftBySearch parts settings)
-      (λ g h. left_by_search parts abstraction settings range its_graph its_finest few_blocks g (from_opening g h)) found
+  pub left_then : IfOk r (IsLeftBySearch parts choice settings)
+  left_then = IfOk-weaker r (HasRun opening) (IsLeftBySearch parts choice settings)
+      (λ g h. left_by_search parts abstraction choice settings range its_graph its_finest few_blocks g (from_opening g h)) found
 
   pub fits_then : IfOk r (λ g. 1 < settings.workers → FitsWord g.incumbent)
   fits_then = IfOk-weaker r (HasRun opening) (λ g. 1 < settings.workers → FitsWord g.incumbent)

@@ -10,6 +10,7 @@ use Rattle.pb_machine.specs.Room.{no_room, room_after, KeepsWithinRoom}
 use Rattle.pb_machine.specs.Machine.{Setup, Machine, journal_of, opening_machine}
 use Rattle.pb_machine.proofs.Callers.{any_false}
 use Rattle.pb_task.specs.declared.parts.TaskParts.{TaskParts}
+use Rattle.pb_estimate.specs.Choices.{Choice}
 use Rattle.pb_abstract.specs.Graph.{AbstractGraph}
 use Rattle.pb_lease.specs.Leased.{setup_of}
 use Rattle.pb_lease.specs.Tables.{blocks}
@@ -131,9 +132,9 @@ module _ (old : GraphValue) (first : IsFirstMoment old) where
 
 -- ---- a run that began with the opening
 
-module _ (parts : TaskParts) (abstraction : AbstractGraph) (settings : Settings) (old : GraphValue) (opens : Opens parts abstraction settings old) where
+module _ (parts : TaskParts) (abstraction : AbstractGraph) (choice : Choice) (settings : Settings) (old : GraphValue) (opens : Opens parts abstraction choice settings old) where
   abbrev setup : Setup
-  setup = search_of parts abstraction settings
+  setup = search_of parts abstraction choice settings
 
   old_setup : setup_in old ≡ setup
   old_setup = λ i. setup_of (opens.task i) (opens.graph_is i) (opens.choice_is i) (opens.settings_are i) (opens.past i).reopenings
@@ -141,7 +142,7 @@ module _ (parts : TaskParts) (abstraction : AbstractGraph) (settings : Settings)
   begins : begin_machine old ≡ opening_machine setup
   begins = opens.opening ∙ ap (λ (s : Setup). opening_machine s) old_setup
 
-  pub searched : (new : GraphValue) → HasRun old new → HasSearched parts abstraction settings new
+  pub searched : (new : GraphValue) → HasRun old new → HasSearched parts abstraction choice settings new
   searched new h =
       let run : LeadsInTime setup h.moves h.machine =
       subst (λ (m : Machine). RunsInTime setup no_room m h.moves h.machine) begins (subst (λ (s : Setup). RunsInTime s no_room (begin_machine old) h.moves h.machine) old_setup h.ordered) in

@@ -18,7 +18,6 @@ use Rattle.pb_machine.specs.Lawful.{IsLawful}
 use Rattle.pb_task.specs.declared.parts.TaskParts.{TaskParts}
 use Rattle.pb_task.specs.Parts.{space_of}
 use Rattle.pb_estimate.specs.Choices.{Choice}
-use Rattle.pb_estimate.specs.Choices.{choice_with}
 use Rattle.pb_abstract.specs.Projection.{IsFinest}
 use Rattle.pb_abstract.specs.Graph.{AbstractGraph, blocks_of, IsGraphOf}
 use Rattle.pb_lease.specs.Leased.{guide_of, setup_of}
@@ -33,14 +32,10 @@ use Rattle.pb_workers.specs.Ends.{home_store, IsBestEnd}
 
 -- ---- the estimate
 
--- the choice of the estimate that a search with these settings goes by: the plain one, or a pattern
--- database; below this crate nothing looks at the settings for an estimate
-abbrev pub choice_of : Settings → Choice
-choice_of settings = choice_with settings.pattern
-
--- what a search with these settings is guided by: the estimate of each state, and its block
-abbrev pub searched_guide : TaskParts → AbstractGraph → Settings → Guide
-searched_guide parts abstraction settings = guide_of parts abstraction (choice_of settings)
+-- what a search by this choice of an estimate is guided by: the estimate of each state, and its
+-- block; no search looks at the settings for an estimate
+abbrev pub searched_guide : TaskParts → AbstractGraph → Choice → Guide
+searched_guide parts abstraction choice = guide_of parts abstraction choice
 
 -- ---- the rows at a quiet end
 
@@ -48,23 +43,25 @@ searched_guide parts abstraction settings = guide_of parts abstraction (choice_o
 abbrev pub HasSmallCosts : GraphValue → Type 0
 HasSmallCosts graph = CostsAtMost (home_store graph) (2 ^ 61 - 1)
 
--- A search of this task at the weight of these settings, by their estimate, came to a quiet end
--- with this graph. All rows are at home: they are a sound store without an Opened row. The incumbent is shown by a
+-- A search of this task at the weight of these settings, by this choice of an estimate, came to a
+-- quiet end with this graph. All rows are at home: they are a sound store without an Opened row. The incumbent is shown by a
 -- goal's row, some plan costs no more, and no plan costs less than the incumbent divided by the
 -- weight. Without an incumbent there is no plan.
-pub record IsBestOf (parts : TaskParts) (settings : Settings) (graph : GraphValue) : Type 0 where
+pub record IsBestOf (parts : TaskParts) (choice : Choice) (settings : Settings)
+    (graph : GraphValue) : Type 0 where
   pub task : graph.task ≡ parts
   pub weight : weight_of graph.table.settings ≡ weight_of settings
-  pub choice : graph.choice ≡ choice_of settings
+  pub choice_is : graph.choice ≡ choice
   pub home : IsFalse (is_out_in graph)
   pub best : IsBestEnd graph
   pub small : HasSmallCosts graph
 
 -- ---- the search that led there
 
--- what is searched, and with what: the task, by these blocks, with these settings, from its start
-abbrev pub search_of : TaskParts → AbstractGraph → Settings → Setup
-search_of parts abstraction settings = setup_of parts abstraction (choice_of settings) settings 0
+-- what is searched, and with what: the task, by these blocks and this estimate, with these
+-- settings, from its start
+abbrev pub search_of : TaskParts → AbstractGraph → Choice → Settings → Setup
+search_of parts abstraction choice settings = setup_of parts abstraction choice settings 0
 
 -- these moves lead from the machine that has the start's row alone to this one
 abbrev pub Leads : Setup → List Move → Machine → Type 0
@@ -78,10 +75,11 @@ abbrev pub LeadsInTime : Setup → List Move → Machine → Type 0
 LeadsInTime setup moves machine = RunsInTime setup no_room (opening_machine setup) moves machine
 
 -- this work leads from the start's row alone, at the weight of the settings, to this store
-abbrev pub ComesFromStart : TaskParts → AbstractGraph → Settings → List Work → Store → Type 0
-ComesFromStart parts abstraction settings works store =
+abbrev pub ComesFromStart : TaskParts → AbstractGraph → Choice → Settings → List Work → Store
+    → Type 0
+ComesFromStart parts abstraction choice settings works store =
     let space = space_of parts in
-    let guide = searched_guide parts abstraction settings in
+    let guide = searched_guide parts abstraction choice in
     Comes space guide works (opening_store space guide (weight_of settings)) store
 
 -- What an end says of the rows and of the number of expansions that led to them. A quiet end: no
@@ -131,38 +129,38 @@ abbrev pub EndsFrom : (begin : GraphValue) → End → List Move → Type 0
 EndsFrom begin end moves =
     RunEnds (setup_in begin) begin.table.past.spent (begin_machine begin) end moves
 
--- A search by leases of this task, with these settings, came to this end by these moves. They are
--- over the finest abstract graph of the task that has no more blocks than are wished for. The run is
+-- A search by leases of this task, by this estimate and with these settings, came to this end by
+-- these moves. They are over the finest abstract graph of the task that has no more blocks than are wished for. The run is
 -- a first one: it began with the machine that has the start's row alone, at the weight of the
 -- settings. There are no more events than the expansions can have brought about. Each worker marked
 -- at most once a turn, with its quota used up, and took no mark away.
-pub record EndsBy (parts : TaskParts) (settings : Settings) (end : End) (moves : List Move)
-    : Type 0 where
+pub record EndsBy (parts : TaskParts) (choice : Choice) (settings : Settings) (end : End)
+    (moves : List Move) : Type 0 where
   pub abstraction : AbstractGraph
   pub graph_of : IsGraphOf parts abstraction
   pub finest : IsFinest parts settings.wish abstraction.projection
   pub few : (blocks_of abstraction).count ≤ 4096
-  pub run : RunEnds (search_of parts abstraction settings) 0
-      (opening_machine (search_of parts abstraction settings)) end moves
-  pub comes : ComesFromStart parts abstraction settings run.works run.machine.store
+  pub run : RunEnds (search_of parts abstraction choice settings) 0
+      (opening_machine (search_of parts abstraction choice settings)) end moves
+  pub comes : ComesFromStart parts abstraction choice settings run.works run.machine.store
   pub short : length (journal_of moves)
       ≤ most_events (space_of parts).actions run.machine.counts.spent settings.workers
   pub marks : (worker : ℕ) → MarksInTurn (events_of worker (journal_of moves))
 
--- A search of this task with these settings came to the end of its budget by some moves. Their
--- events are those of the journal.
-abbrev pub StopsWith : TaskParts → Settings → (journal : List Event) → Type 0
-StopsWith parts settings journal =
-    (moves : List Move) × (journal ≡ journal_of moves) × EndsBy parts settings Budget moves
+-- A search of this task, by this estimate and with these settings, came to the end of its budget by
+-- some moves. Their events are those of the journal.
+abbrev pub StopsWith : TaskParts → Choice → Settings → (journal : List Event) → Type 0
+StopsWith parts choice settings journal =
+    (moves : List Move) × (journal ≡ journal_of moves) × EndsBy parts choice settings Budget moves
 
--- A search of this task with these settings came to a quiet end by some moves. Their events are
--- those of the journal. The search left this graph. The graph's blocks are those of the search, and
+-- A search of this task, by this estimate and with these settings, came to a quiet end by some
+-- moves. Their events are those of the journal. The search left this graph. The graph's blocks are those of the search, and
 -- the rows at home, with the incumbent, are all that the machine has.
-pub record EndsQuietly (parts : TaskParts) (settings : Settings) (journal : List Event)
-    (graph : GraphValue) : Type 0 where
+pub record EndsQuietly (parts : TaskParts) (choice : Choice) (settings : Settings)
+    (journal : List Event) (graph : GraphValue) : Type 0 where
   pub moves : List Move
   pub journal_is : journal ≡ journal_of moves
-  pub ends : EndsBy parts settings Quiet moves
+  pub ends : EndsBy parts choice settings Quiet moves
   pub blocks : graph.table.abstraction ≡ ends.abstraction
   pub rows : home_store graph ≡ ends.run.machine.store
 
@@ -185,10 +183,10 @@ abbrev pub IsLeftByRun : (begin graph : GraphValue) → Type 0
 IsLeftByRun begin graph =
     IsLeftBy (setup_in begin) begin.table.past.spent (begin_machine begin) graph
 
--- a search of this task with these settings, from its opening, left this graph
-abbrev pub IsLeftBySearch : TaskParts → Settings → (graph : GraphValue) → Type 0
-IsLeftBySearch parts settings graph =
-    let setup = search_of parts graph.table.abstraction settings in
+-- a search of this task, by this estimate and with these settings, from its opening, left this graph
+abbrev pub IsLeftBySearch : TaskParts → Choice → Settings → (graph : GraphValue) → Type 0
+IsLeftBySearch parts choice settings graph =
+    let setup = search_of parts graph.table.abstraction choice settings in
     IsLeftBy setup 0 (opening_machine setup) graph
 
 -- ---- marks

@@ -1,10 +1,10 @@
 //! The graph that a search begins with.
-ghost use Rattle.std.specs.Prelude.{◌≡◌, IfOk, option_map, option_copied};
+ghost use Rattle.std.specs.Prelude.{◌≡◌, IfOk, true, option_map, option_copied};
 ghost use Rattle.std.specs.Arc.{arc_value};
 ghost use Rattle.pb_machine.specs.Settings.{AreInRange};
+ghost use Rattle.pb_estimate.specs.Estimates.{suits};
 ghost use Rattle.pb_estimate.specs.Tables.{HasTable};
 ghost use Rattle.pb_abstract.specs.Graph.{IsGraphOf};
-ghost use Rattle.pb_search.specs.Ends.{choice_of};
 ghost use Rattle.pb_search.specs.Searched.{Opens};
 
 use pb_abstract::AbsGraph;
@@ -28,10 +28,11 @@ pub fn opening(
 ) -> Result<LeaseGraph, AllocError>
     requires of_task { IsGraphOf (arc_value task.now) (arc_value abstraction.now) }
     requires range { AreInRange settings }
-    requires choice { choice ≡ choice_of settings }
+    requires suits { suits (arc_value task.now) choice ≡ true }
     requires table { HasTable (arc_value task.now) choice
         (option_map arc_value (option_copied table)) }
-    ensures { IfOk result (Opens (arc_value task.now) (arc_value abstraction.now) settings) }
+    ensures { IfOk result (Opens (arc_value task.now) (arc_value abstraction.now) choice
+        settings) }
 {
     let start = task.initial();
     let mut estimator = Estimator::by(alloc, task, &choice, table)?;

@@ -37,8 +37,9 @@ fn solve_text(alloc: Global, command: &SolveCommand<'_>) -> Result<String, Alloc
     let (row, workers, num, den) = (options.row, settings.workers, settings.num, settings.den);
     let (budget, lot, blocks) = (settings.budget, settings.lot, settings.wish);
     let (pattern, engine) = (settings.pattern, engine_text(command.engine));
+    let effort = command.effort;
     let numbers = format!(in alloc;
-        "{row} {workers} {num}/{den} {budget} {lot} {blocks} {pattern} {engine}"
+        "{row} {workers} {num}/{den} {budget} {lot} {blocks} {pattern} {engine} {effort:?}"
     )?;
     let (plain, swamp, grounding) = (settings.plain, options.swamp, options.grounding.name());
     let (saved, noted) = (command.certificate, command.journal);
@@ -203,6 +204,20 @@ Form
 error: unexpected argument '--pattern' found
 
   tip: to pass '--pattern' as a value, use '-- --pattern'
+
+Usage: check <KIND> <CERTIFICATE> <FIRST_FILE> <SECOND_FILE>
+> check tiles c b --estimate tables
+Form
+error: unexpected argument '--estimate' found
+
+  tip: to pass '--estimate' as a value, use '-- --estimate'
+
+Usage: check <KIND> <CERTIFICATE> <FIRST_FILE> [SECOND_FILE]
+> check strips c d p --effort 5
+Form
+error: unexpected argument '--effort' found
+
+  tip: to pass '--effort' as a value, use '-- --effort'
 
 Usage: check <KIND> <CERTIFICATE> <FIRST_FILE> <SECOND_FILE>
 > check tiles c b --engine hda

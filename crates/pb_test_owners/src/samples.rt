@@ -2,6 +2,7 @@
 ghost use Rattle.std.specs.Prelude.{◌≤◌};
 ghost use Rattle.pb_machine.specs.Settings.{AreInRange};
 
+use pb_estimate::Choice;
 use pb_lists::Store;
 use pb_machine::{End, STANDARD, Settings};
 use pb_outside::Gate;
@@ -42,7 +43,7 @@ pub(crate) fn search_task<R: Threads + Wait + Sync, G: Gate>(
     requires { AreInRange settings }
 {
     let task = Arc::new(alloc, task)?;
-    let (end, owners) = search_by_owners(rt, alloc, &task, settings, gate)?;
+    let (end, owners) = search_by_owners(rt, alloc, &task, Choice::plain(), settings, gate)?;
     Ok(Seen {
         end,
         incumbent: owners.incumbent(),

@@ -4,6 +4,7 @@ ghost use Rattle.pb_check.specs.Spelling.{PlanFits, PlanFitsIfAny};
 
 use pb_answer::claimed_plan;
 use pb_cert::Plan;
+use pb_estimate::Choice;
 use pb_machine::{STANDARD, Settings};
 use pb_outside::OpenGate;
 use pb_search::search;
@@ -39,7 +40,7 @@ fn claimed<R: Threads + Wait + Sync>(
 {
     let task = Arc::new(alloc, shortcut(alloc)?)?;
     let settings = Settings { num: 3, ..STANDARD };
-    let graph = search(rt, alloc, &task, settings, &OpenGate)?;
+    let graph = search(rt, alloc, &task, Choice::plain(), settings, &OpenGate)?;
     claimed_plan(alloc, &task, &graph, before)
 }
 

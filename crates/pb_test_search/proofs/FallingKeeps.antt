@@ -5,26 +5,22 @@ use Rattle.pb_machine.specs.declared.settings.Settings.{Settings}
 use Rattle.pb_task.specs.declared.parts.TaskParts.{TaskParts}
 use Rattle.pb_estimate.specs.Choices.{Choice}
 use Rattle.pb_estimate.specs.Choices.{Plain}
-use Rattle.pb_estimate.specs.Choices.{choice_with}
 use Rattle.pb_estimate.specs.Tables.{HasTable}
 use Rattle.pb_lease.specs.declared.past.Past.{Past}
 use Rattle.pb_lease.specs.Tables.{no_past}
 use Rattle.pb_lease.specs.GraphValue.{GraphValue}
 use Rattle.pb_lease.specs.Begins.{IsOfRun, IsReopened, FitsWord, IsFirstMoment, BeginsAgain}
-use Rattle.pb_search.specs.Ends.{choice_of, IsLeftByRun, IsLeftBySearch}
+use Rattle.pb_search.specs.Ends.{IsLeftByRun, IsLeftBySearch}
 use Rattle.pb_test_search.specs.FallingWeights.{IsAfterRuns}
 
 -- ---- the first run
 
-module _ (task : TaskParts) (settings : Settings) (plain : settings.pattern ≡ 0) where
-  its_estimate : choice_of settings ≡ Plain
-  its_estimate = ap choice_with plain
-
-  pub first_run : {E : Type 0} (r : Result GraphValue E) → IfOk r (λ g. g.task ≡ task) → IfOk r (λ g. g.table.settings ≡ settings) → IfOk r (λ g. g.choice ≡ choice_of settings) → IfOk r (λ g. g.table.past ≡ no_past) → IfOk r (IsLeftBySearch task settings)
+module _ (task : TaskParts) (settings : Settings) (chosen : Choice) (plain : chosen ≡ Plain) where
+  pub first_run : {E : Type 0} (r : Result GraphValue E) → IfOk r (λ g. g.task ≡ task) → IfOk r (λ g. g.table.settings ≡ settings) → IfOk r (λ g. g.choice ≡ chosen) → IfOk r (λ g. g.table.past ≡ no_past) → IfOk r (IsLeftBySearch task chosen settings)
       → IfOk r (λ g. 1 < settings.workers → FitsWord g.incumbent) → IfOk r (IsAfterRuns task 0)
   first_run (Ok g) its are choice past left fits = record {
     task = its;
-    choice = choice ∙ its_estimate;
+    choice = choice ∙ plain;
     past = ap (λ (p : Past). p.reopenings) past;
     recorded = left.recorded;
     machine = left.run.machine;

@@ -4,6 +4,7 @@ ghost use Rattle.std.specs.Arc.{arc_value};
 ghost use Rattle.pb_machine.specs.Settings.{AreInRange};
 ghost use Rattle.pb_test_search.specs.FallingWeights.{IsAfterRuns};
 
+use pb_estimate::Choice;
 use pb_lease::LeaseGraph;
 use pb_machine::{End, STANDARD, Settings};
 use pb_outside::OpenGate;
@@ -38,10 +39,9 @@ fn run_first<R: Threads + Wait + Sync>(
     settings: Settings,
 ) -> Result<LeaseGraph, AllocError>
     requires range { AreInRange settings }
-    requires plain { settings.pattern ≡ 0 }
     ensures { IfOk result (IsAfterRuns (arc_value task.now) 0) }
 {
-    search(rt, alloc, task, settings, &OpenGate)
+    search(rt, alloc, task, Choice::plain(), settings, &OpenGate)
 }
 
 // The next run, at the weight num / 1. None if the end or the incumbent of the run before allows for
@@ -82,7 +82,6 @@ fn fall<R: Threads + Wait + Sync>(
     settings: Settings,
 ) -> Result<[Option<Seen>; 3], AllocError>
     requires range { AreInRange settings }
-    requires plain { settings.pattern ≡ 0 }
 {
     let task = Arc::new(alloc, shortcut(alloc)?)?;
     let first = run_first(rt, alloc, &task, settings)?;

@@ -1,5 +1,6 @@
 //! Whole searches of small tasks, and what the tests see of them.
 use crate::patterns::{spent_once, spent_twice};
+use pb_estimate::Choice;
 use pb_lease::LeaseGraph;
 use pb_machine::{End, Event, STANDARD, Settings};
 use pb_outside::{Gate, OpenGate};
@@ -74,7 +75,7 @@ fn searched<R: Threads + Wait + Sync + Abort, G: Gate>(
         panic!(rt; "the pattern number is out of range")
     }
     let task = Arc::new(alloc, task_of(alloc, sample)?)?;
-    search(rt, alloc, &task, settings, gate)
+    search(rt, alloc, &task, Choice::with(pattern), settings, gate)
 }
 
 // How a search ended, and what the events of its journal add up to.

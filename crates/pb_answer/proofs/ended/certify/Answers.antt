@@ -4,31 +4,32 @@ use Rattle.pb_estimate.specs.Estimates.{suits}
 use Rattle.pb_estimate.specs.Spelling.{IsSpelling, spelling_of}
 use Rattle.pb_command.specs.Causes.{solve_meant}
 use Rattle.pb_lists.specs.Store.{store_with}
-use Rattle.pb_answer.proofs.Certified.{choice_suits, is_certificate, no_certificate}
+use Rattle.pb_answer.proofs.Asked.{asked_suits}
+use Rattle.pb_answer.proofs.Certified.{is_certificate, no_certificate}
 use Rattle.pb_answer.proofs.ended.certify.Goals as goal
 
 pub of-requires-clause-spelling : goal.of-requires-clause-spelling
 of-requires-clause-spelling g c =
     c.of-spelling.ensures.known
-    (subst (λ (choice : Choice). suits c.args.task.now choice ≡ true) (sym c.with.ensures)
-    (choice_suits c.args.task.now c.args.solve.now.settings.pattern
-    c.requires.range.settings.pattern))
+    (subst (λ (choice : Choice). suits c.args.task.now choice ≡ true) (sym c.in_ok-stated-in-Some.ensures.cases)
+    (asked_suits (solve_meant c.args.solve.now) c.args.task.now c.args.choice.now c.requires.range
+    c.requires.asked))
 
 pub returns-in_ok-certificate-in-Some : goal.returns-in_ok-certificate-in-Some
 returns-in_ok-certificate-in-Some g c = λ stated.
     let spelled = c.of-spelling.ensures.spelling
-    ∙ ap (λ (choice : Choice). spelling_of c.args.task.now choice) c.with.ensures in
+    ∙ ap (λ (choice : Choice). spelling_of c.args.task.now choice) c.in_ok-stated-in-Some.ensures.cases in
     let known = c.of-spelling.ensures.known
-    (subst (λ (choice : Choice). suits c.args.task.now choice ≡ true) (sym c.with.ensures)
-    (choice_suits c.args.task.now c.args.solve.now.settings.pattern
-    c.requires.range.settings.pattern)) in
-    is_certificate (solve_meant c.args.solve.now) c.args.task.now
+    (subst (λ (choice : Choice). suits c.args.task.now choice ≡ true) (sym c.in_ok-stated-in-Some.ensures.cases)
+    (asked_suits (solve_meant c.args.solve.now) c.args.task.now c.args.choice.now c.requires.range
+    c.requires.asked)) in
+    is_certificate (solve_meant c.args.solve.now) c.args.task.now c.args.choice.now
     (g.S.Store.home c.args.store.now)
     (store_with (g.S.Store.rows c.args.store.now) (g.S.Store.weight c.args.store.now)
     (g.S.Store.incumbent c.args.store.now))
     c.requires.end c.requires.weight c.max_degree-lawful.ensures.lawful c.requires.range
-    (subst IsSpelling spelled known) c.in_ok-certificate-in-Some.certificate c.args.plan
-    c.in-Some.name.now
+    c.requires.asked (subst IsSpelling spelled known)
+    c.in_ok-certificate-in-Some.certificate c.args.plan c.in-Some.name.now
     (rw c.in-Some.is refl)
     (c.in_ok-certificate-in-Some.ensures.spelling ∙ spelled)
     c.in_ok-certificate-in-Some.ensures.weight c.in_ok-certificate-in-Some.ensures.plan
@@ -37,7 +38,7 @@ returns-in_ok-certificate-in-Some g c = λ stated.
 
 pub returns-in-None : goal.returns-in-None
 returns-in-None g c = λ stated.
-    no_certificate (solve_meant c.args.solve.now) c.args.task.now
+    no_certificate (solve_meant c.args.solve.now) c.args.task.now c.args.choice.now
     (g.S.Store.home c.args.store.now)
     (store_with (g.S.Store.rows c.args.store.now) (g.S.Store.weight c.args.store.now)
     (g.S.Store.incumbent c.args.store.now))

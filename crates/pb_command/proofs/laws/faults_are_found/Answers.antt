@@ -3,11 +3,11 @@ use Rattle.std.specs.Prelude.{if◌then◌else◌}
 use Rattle.std.specs.Str.{bytes_eq}
 use Rattle.pb_command.specs.Values.{kind_of_text}
 use Rattle.pb_command.specs.Meaning.{Reading, Refused, with_kind}
-use Rattle.pb_command.specs.declared.table.ValuedOption.TheVariants.{Num, Den}
+use Rattle.pb_command.specs.declared.table.ValuedOption.TheVariants.{Num, Den, Pattern, Estimate, Effort}
 use Rattle.pb_command.specs.Options.{Placed, Valued}
 use Rattle.pb_task.specs.declared.kind.Kind.{Kind}
 use Rattle.pb_command.specs.declared.refusal.CommandFault.TheVariants as fault
-use Rattle.pb_command.proofs.Examples.{grid_name, tiles_name, strips_name, one_name, two_name, zero_name}
+use Rattle.pb_command.proofs.Examples.{grid_name, tiles_name, strips_name, one_name, two_name, zero_name, tables_name}
 use Rattle.pb_command.proofs.SolveReading.{solve_is}
 use Rattle.pb_command.proofs.MakeReading.{make_is}
 use Rattle.pb_command.proofs.laws.faults_are_found.Goals as goal
@@ -41,6 +41,12 @@ returns-clause-kind c = λ kind map hk hm no_grid no_tiles no_strips.
 pub returns-clause-weight : goal.returns-clause-weight
 returns-clause-weight c = λ map scenario hm hs. solve_is (Placed (codes "grid") ∷ Placed map ∷ Placed scenario ∷ Valued Num (codes "1") ∷ Valued Den (codes "2") ∷ [])
     (grid_name, (hm, (hs, ((refl, one_name, refl), ((refl, two_name, refl), tt))))) (refl, (refl, tt)) (refl, (refl, (refl, tt))) (codes "grid") map refl refl
+
+pub returns-clause-estimate : goal.returns-clause-estimate
+returns-clause-estimate c = λ domain problem hd hp. solve_is
+    (Placed (codes "strips") ∷ Placed domain ∷ Placed problem ∷ Valued Estimate (codes "tables") ∷ Valued Effort (codes "1") ∷ Valued Pattern (codes "1") ∷ [])
+    (strips_name, (hd, (hp, ((refl, tables_name, refl), ((refl, one_name, refl), ((refl, one_name, refl), tt)))))) (refl, (refl, (refl, tt))) (refl, (refl, (refl, tt)))
+    (codes "strips") domain refl refl
 
 pub returns-clause-size : goal.returns-clause-size
 returns-clause-size c = make_is (Placed (codes "grid") ∷ Placed (codes "0") ∷ Placed (codes "0") ∷ []) (grid_name, (zero_name, (zero_name, tt))) tt _ _ _ refl refl refl

@@ -1,7 +1,7 @@
 use Rattle.std.proofs.Common.{◌∙◌}
 use Rattle.pb_command.specs.declared.table.ValuedOption.TheVariants.{Engine, Certificate, Journal}
 use Rattle.pb_command.specs.Options.{value_given, falling_given, solve_given}
-use Rattle.pb_command.proofs.SolveReading.{solve_is_tested, low_weight, one_name, same_names, other_engine, two_names, lost_journal}
+use Rattle.pb_command.proofs.SolveReading.{solve_is_tested, low_weight, one_name, same_names, other_engine, two_names, lost_journal, pattern_of_estimate_refused}
 use Rattle.pb_command.proofs.laws.solve_tests_options.Goals as goal
 
 pub returns-clause-weight : goal.returns-clause-weight
@@ -15,3 +15,6 @@ pub returns-clause-engine : goal.returns-clause-engine
 returns-clause-engine c = λ input name arguments are weight names e f. solve_is_tested input arguments are
     ∙ other_engine (solve_given input arguments) (falling_given arguments) weight (two_names (value_given Certificate arguments) (value_given Journal arguments) names)
     (lost_journal (value_given Engine arguments) (value_given Journal arguments) name e f)
+
+pub returns-clause-estimate : goal.returns-clause-estimate
+returns-clause-estimate c = pattern_of_estimate_refused

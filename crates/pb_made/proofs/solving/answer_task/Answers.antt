@@ -3,7 +3,8 @@ use Rattle.std.specs.Arc.{arc_value}
 use Rattle.pb_machine.specs.declared.event.End.TheVariants.{Quiet, Budget}
 use Rattle.pb_machine.specs.declared.settings.Settings.{Settings}
 use Rattle.pb_task.specs.declared.parts.TaskParts.{TaskParts}
-use Rattle.pb_search.specs.Searches.{LeavesQuiet}
+use Rattle.pb_estimate.specs.Choices.{Choice, Plain}
+use Rattle.pb_search.specs.Searches.{SearchEnds, LeavesQuiet}
 use Rattle.pb_made.specs.Answers.{made_settings, IsAnswered}
 use Rattle.pb_search.proofs.Callers.{leaves_quiet, search_stops}
 use Rattle.pb_made.proofs.solving.answer_task.Goals as goal
@@ -12,12 +13,15 @@ pub answer_end-requires : goal.answer_end-requires
 answer_end-requires g c =
     let ended : c.in_ok-graph.graph.table.end ≡ Some Quiet =
     cc (c.end.ensures, c.in-Some-Quiet.is, c.in-Some-Quiet.field-0-is) in
-    subst (λ (p : TaskParts). LeavesQuiet p (made_settings c.args.workers) c.in_ok-graph.graph)
+    subst (λ (p : TaskParts). LeavesQuiet p Plain (made_settings c.args.workers) c.in_ok-graph.graph)
     (sym c.deref.ensures)
-    (leaves_quiet (arc_value c.args.task.now) c.made_settings-settings.result
+    (subst (λ (choice : Choice).
+    LeavesQuiet (arc_value c.args.task.now) choice (made_settings c.args.workers) c.in_ok-graph.graph)
+    c.plain.ensures
+    (leaves_quiet (arc_value c.args.task.now) c.plain.result c.made_settings-settings.result
     (made_settings c.args.workers) c.in_ok-graph.graph c.made_settings-settings.ensures.settings
     c.in_ok-graph.ensures.settings (c.in_ok-graph.ensures.quiet ended)
-    (c.in_ok-graph.ensures.quiet_run ended) c.in_ok-graph.ensures.plain)
+    (c.in_ok-graph.ensures.quiet_run ended) c.in_ok-graph.ensures.plain))
 
 pub returns-in-Some-Quiet : goal.returns-in-Some-Quiet
 returns-in-Some-Quiet g c =
@@ -31,9 +35,12 @@ returns-in-Some-Budget g c =
       ap (λ (s : Settings). s.budget) c.made_settings-settings.ensures.settings,
       (
         c.in_ok-graph.graph.table.journal,
-        search_stops (arc_value c.args.task.now) c.made_settings-settings.result
+        subst (λ (choice : Choice). SearchEnds (arc_value c.args.task.now) choice
+            (made_settings c.args.workers) Budget c.in_ok-graph.graph.table.journal)
+            c.plain.ensures
+            (search_stops (arc_value c.args.task.now) c.plain.result c.made_settings-settings.result
             (made_settings c.args.workers) c.in_ok-graph.graph
             c.made_settings-settings.ensures.settings (c.in_ok-graph.ensures.budget ended)
-            c.in_ok-graph.ensures.plain,
+            c.in_ok-graph.ensures.plain),
       ),
     )

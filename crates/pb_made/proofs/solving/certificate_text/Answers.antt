@@ -12,18 +12,16 @@ use Rattle.pb_made.proofs.solving.certificate_text.Goals as goal
 pub returns : goal.returns
 returns c =
     let plain : c.in_ok-clone.field-0 ≡ Plain =
-    c.in_ok-clone.ensures.cases ∙ c.choice.ensures.choice ∙ c.requires.quiet.best.choice
-    ∙ c.requires.choice in
+    c.in_ok-clone.ensures.cases ∙ c.choice.ensures.choice ∙ c.requires.quiet.best.choice_is in
     let spelled = c.of-spelling.ensures.spelling
     ∙ ap (λ (choice : Choice). spelling_of c.args.task.now choice) plain in
     let known = c.of-spelling.ensures.known
     (ap (λ (choice : Choice). suits c.args.task.now choice) plain) in
-    is_certificate c.args.task.now (searched_guide c.args.task.now c.args.graph.now.table.abstraction
-    c.args.graph.now.table.settings)
+    is_certificate c.args.task.now (searched_guide c.args.task.now c.args.graph.now.table.abstraction Plain)
     (home_store c.args.graph.now)
-    (quiet_end c.args.task.now c.args.graph.now.table.settings c.args.graph.now c.requires.quiet)
+    (quiet_end c.args.task.now Plain c.args.graph.now.table.settings c.args.graph.now c.requires.quiet)
     c.max_degree-lawful.ensures.lawful
-    Plain (ap (λ (choice : Choice). estimate_by c.args.task.now choice) c.requires.choice) refl
+    Plain refl refl
     (subst IsSpelling spelled known)
     unweighted c.requires.weight (omega arith)
     (omega arith) c.in_ok-certificate.certificate c.args.plan _ c.in_ok-text.ensures

@@ -3,6 +3,7 @@ use Rattle.pb_task.specs.declared.parts.TaskParts.{TaskParts}
 use Rattle.pb_task.specs.Parts.{space_of}
 use Rattle.pb_lists.specs.Store.{guide_to, store_with, IsSoundAt}
 use Rattle.pb_abstract.specs.Graph.{home_of}
+use Rattle.pb_estimate.specs.Choices.{Plain}
 use Rattle.pb_search.specs.Ends.{searched_guide}
 use Rattle.pb_workers.specs.Ends.{home_store}
 use Rattle.pb_search.proofs.Callers.{quiet_end}
@@ -16,26 +17,23 @@ trace-requires-clause-sound c =
     IsSoundAt (space_of c.args.task.now) (home_of t c.args.graph.now.table.abstraction)
     (home_store c.args.graph.now).rows (home_store c.args.graph.now).weight)
     (sym c.requires.quiet.best.task)
-    (can_be_traced c.args.task.now (searched_guide c.args.task.now c.args.graph.now.table.abstraction
-    c.args.graph.now.table.settings)
+    (can_be_traced c.args.task.now (searched_guide c.args.task.now c.args.graph.now.table.abstraction Plain)
     (home_store c.args.graph.now)
-    (quiet_end c.args.task.now c.args.graph.now.table.settings c.args.graph.now c.requires.quiet)
+    (quiet_end c.args.task.now Plain c.args.graph.now.table.settings c.args.graph.now c.requires.quiet)
     c.requires.known.0 c.requires.known.1).0
 
 pub trace-requires-clause-goal : goal.trace-requires-clause-goal
 trace-requires-clause-goal c =
-    (can_be_traced c.args.task.now (searched_guide c.args.task.now c.args.graph.now.table.abstraction
-    c.args.graph.now.table.settings)
+    (can_be_traced c.args.task.now (searched_guide c.args.task.now c.args.graph.now.table.abstraction Plain)
     (home_store c.args.graph.now)
-    (quiet_end c.args.task.now c.args.graph.now.table.settings c.args.graph.now c.requires.quiet)
+    (quiet_end c.args.task.now Plain c.args.graph.now.table.settings c.args.graph.now c.requires.quiet)
     c.requires.known.0 c.requires.known.1).1
 
 pub returns : goal.returns
 returns c =
-    traced_plan c.args.task.now (searched_guide c.args.task.now c.args.graph.now.table.abstraction
-    c.args.graph.now.table.settings)
+    traced_plan c.args.task.now (searched_guide c.args.task.now c.args.graph.now.table.abstraction Plain)
     (home_store c.args.graph.now)
-    (quiet_end c.args.task.now c.args.graph.now.table.settings c.args.graph.now c.requires.quiet)
+    (quiet_end c.args.task.now Plain c.args.graph.now.table.settings c.args.graph.now c.requires.quiet)
     c.max_degree-lawful.ensures.lawful c.requires.known.0 c.requires.known.1 c.in_ok-plan.plan
     c.in_ok-plan.ensures.plan c.in_ok-plan.ensures.cheapest
     (subst (λ (t : TaskParts).

@@ -80,7 +80,7 @@ runs-preserved g c =
       steps = c.in-Ok.ensures.steps ∙ inv.steps;
       claimed = (
         inv.claimed.0 ++ part_of after.0 ∷ [],
-        next_claimed c.runs.search c.in-Ok.next (inv.claimed.0 ++ part_of after.0 ∷ []) after.2 goes c.in-Ok.ensures.solve c.in-Ok.ensures.task c.in-Ok.ensures.steps goes.blocks,
+        next_claimed c.runs.search c.in-Ok.next (inv.claimed.0 ++ part_of after.0 ∷ []) after.2 goes c.in-Ok.ensures.solve c.in-Ok.ensures.task c.in-Ok.ensures.steps,
         after.1,
         still_fits (g.H.Shelf.can_hold c.args.shelf.now) (g.H.Shelf.can_hold c.runs.shelf) (g.H.Shelf.can_hold c.hand_out_claim.new.shelf)
             (g.K.Sink.can_take c.args.out.now) (g.K.Sink.can_take c.runs.out) (g.K.Sink.can_take c.hand_out_claim.new.out)

@@ -1,4 +1,4 @@
-use Rattle.std.proofs.Common.{refl, ap}
+use Rattle.std.proofs.Common.{refl}
 use Rattle.pb_command.specs.Causes.{make_meant}
 use Rattle.pb_run.proofs.MadeTasks.{made_at, said_is}
 use Rattle.pb_run.proofs.make.make_task.Goals as goal

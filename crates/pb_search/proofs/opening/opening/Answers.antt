@@ -27,7 +27,7 @@ returns c =
     record {
       task = c.in_ok-graph.ensures.task ∙ task;
       graph_is = c.in_ok-graph.ensures.abstraction ∙ abstraction;
-      choice_is = c.in_ok-graph.ensures.choice ∙ c.requires.choice;
+      choice_is = c.in_ok-graph.ensures.choice;
       settings_are = c.in_ok-graph.ensures.settings;
       counts = c.in_ok-graph.ensures.counts;
       past = c.in_ok-graph.ensures.past;

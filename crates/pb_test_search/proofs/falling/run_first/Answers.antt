@@ -4,4 +4,4 @@ use Rattle.pb_test_search.proofs.falling.run_first.Goals as goal
 
 pub returns : goal.returns
 returns g c =
-    first_run (arc_value c.args.task.now) c.args.settings c.requires.plain c.search.result c.search.ensures.task c.search.ensures.settings c.search.ensures.choice c.search.ensures.past c.search.ensures.left c.search.ensures.fits
+    first_run (arc_value c.args.task.now) c.args.settings c.plain.result c.plain.ensures c.search.result c.search.ensures.task c.search.ensures.settings c.search.ensures.choice c.search.ensures.past c.search.ensures.left c.search.ensures.fits

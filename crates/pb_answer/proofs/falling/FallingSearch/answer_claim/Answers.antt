@@ -3,18 +3,19 @@ use Rattle.std.specs.Arc.{arc_value}
 use Rattle.pb_model.specs.Plan.{Plan, IsBound}
 use Rattle.pb_task.specs.declared.parts.TaskParts.{TaskParts}
 use Rattle.pb_task.specs.Parts.{space_of}
+use Rattle.pb_estimate.specs.Choices.{Choice}
 use Rattle.pb_lists.specs.Store.{IsQuietEnd}
 use Rattle.pb_abstract.specs.Graph.{home_of}
 use Rattle.pb_lease.specs.Begins.{home_store}
 use Rattle.pb_report.specs.Texts.{AreActions, claim_text}
 use Rattle.pb_command.specs.Causes.{solve_meant}
-use Rattle.pb_answer.specs.Searches.{weight_asked}
-use Rattle.pb_answer.specs.Ended.{guide_asked}
+use Rattle.pb_answer.specs.Searches.{weight_asked, IsChoiceAsked}
+use Rattle.pb_answer.specs.Ended.{guide_by}
 use Rattle.pb_answer.specs.Answer.{Said, certificates_of}
 use Rattle.pb_answer.specs.Falling.{asked_of_run}
 use Rattle.pb_answer.specs.FallingRuns.{FallingValue, weight_now, IsFalling, SaysClaimNow}
 use Rattle.pb_answer.proofs.FallingLast.{claim_is_quiet}
-use Rattle.pb_answer.proofs.FallingSaid.{certified, end_here, plan_actions, claim_said}
+use Rattle.pb_answer.proofs.FallingSaid.{asked_here, certified, end_here, plan_actions, claim_said}
 use Rattle.pb_answer.proofs.falling.FallingSearch.answer_claim.Goals as goal
 
 pub of_claim-requires : goal.of_claim-requires
@@ -29,15 +30,27 @@ pub certify-requires-clause-end : goal.certify-requires-clause-end
 certify-requires-clause-end c =
     let f = subst (λ (v : FallingValue). IsFalling c.requires.after.0 c.requires.after.1 v)
     (sym c.self.view_is) c.requires.after.2 in
+    let plan_is = ap (λ (v : FallingValue). v.plan) c.self.view_is ∙ c.requires.plan in
+    let quiet = (claim_is_quiet c.requires.after.0 c.requires.after.1 _ f c.args.plan.now plan_is).0 in
+    subst (λ (p : TaskParts). IsQuietEnd (space_of p) (guide_by p c.choice.result.now
+    (home_of c.self.inside.graph.task c.self.inside.graph.table.abstraction))
+    (home_store c.self.inside.graph)) (sym c.deref-2.ensures)
+    (subst (λ (choice : Choice). IsQuietEnd (space_of (arc_value c.self.inside.task))
+    (guide_by (arc_value c.self.inside.task) choice
+    (home_of c.self.inside.graph.task c.self.inside.graph.table.abstraction))
+    (home_store c.self.inside.graph)) (sym c.choice.ensures.choice)
+    (end_here c.requires.after.0 c.requires.after.1 _ f quiet))
+
+pub certify-requires-clause-asked : goal.certify-requires-clause-asked
+certify-requires-clause-asked c =
+    let f = subst (λ (v : FallingValue). IsFalling c.requires.after.0 c.requires.after.1 v)
+    (sym c.self.view_is) c.requires.after.2 in
     let solve = solve_meant c.words-words.result in
     let words = subst (λ (v : FallingValue). solve ≡ asked_of_run v.solve v.steps v.run)
     (sym c.self.view_is) c.words-words.ensures in
-    let plan_is = ap (λ (v : FallingValue). v.plan) c.self.view_is ∙ c.requires.plan in
-    let quiet = (claim_is_quiet c.requires.after.0 c.requires.after.1 _ f c.args.plan.now plan_is).0 in
-    subst (λ (p : TaskParts). IsQuietEnd (space_of p) (guide_asked solve p
-    (home_of c.self.inside.graph.task c.self.inside.graph.table.abstraction))
-    (home_store c.self.inside.graph)) (sym c.deref-2.ensures)
-    (end_here c.requires.after.0 c.requires.after.1 _ f solve words quiet)
+    subst (λ (p : TaskParts). IsChoiceAsked solve p c.choice.result.now) (sym c.deref-2.ensures)
+    (subst (λ (choice : Choice). IsChoiceAsked solve (arc_value c.self.inside.task) choice)
+    (sym c.choice.ensures.choice) (asked_here c.requires.after.0 c.requires.after.1 _ f solve words))
 
 pub returns : goal.returns
 returns c before machine falling =
@@ -57,6 +70,7 @@ returns c before machine falling =
     (c.in_ok-report.ensures ∙ ap (λ (p : TaskParts). claim_text p (weight_asked solve)
     c.args.plan.now c.bound-bound.result) c.deref.ensures) outputs refl
     (certified solve c.deref-2.result.now (arc_value c.self.inside.task) c.deref-2.ensures
+    c.choice.result.now c.self.inside.graph.choice c.choice.ensures.choice
     (Some c.in_ok-stated.stated) (Some c.args.plan.now)
     (ap (λ (p : Plan). Some p) c.in_ok-stated.ensures)
     (home_of c.self.inside.graph.task c.self.inside.graph.table.abstraction)

@@ -1,13 +1,17 @@
-use Rattle.std.proofs.Common.{◌≡◌, None, [], sym, ◌∙◌, subst}
+use Rattle.std.proofs.Common.{◌≡◌, true, None, [], sym, ◌∙◌, subst}
 use Rattle.std.proofs.lemmas.Result.{IfOk-weaker}
 use Rattle.std.specs.Arc.{arc_value}
 use Rattle.pb_machine.specs.Machine.{Machine}
 use Rattle.pb_task.specs.declared.parts.TaskParts.{TaskParts}
+use Rattle.pb_estimate.specs.Choices.{Choice}
+use Rattle.pb_estimate.specs.Estimates.{suits}
 use Rattle.pb_abstract.specs.Projection.{IsFinest}
 use Rattle.pb_abstract.specs.Graph.{IsGraphOf}
 use Rattle.pb_search.specs.Ends.{IsLeftBySearch}
 use Rattle.pb_command.specs.Causes.{solve_meant}
+use Rattle.pb_answer.specs.Searches.{IsChoiceAsked}
 use Rattle.pb_answer.specs.FallingRuns.{FallingValue, IsFalling}
+use Rattle.pb_answer.proofs.Asked.{asked_suits}
 use Rattle.pb_answer.proofs.FallingBegins.{IsMade, quiet_rows_of, all_made, first_falls}
 use Rattle.pb_answer.proofs.falling.FallingSearch.start.Goals as goal
 
@@ -16,6 +20,12 @@ after_run-requires-clause-quiet g c = λ quiet.
     let best = c.in_ok-graph.ensures.quiet quiet in
     quiet_rows_of (arc_value c.in_ok-task.task) c.in_ok-graph.graph
     (c.in_ok-graph.ensures.task ∙ sym c.in_ok-task.ensures.cases) best.best best.small
+
+pub search-requires-clause-suits : goal.search-requires-clause-suits
+search-requires-clause-suits g c κs within =
+    subst (λ (p : TaskParts). suits p c.in_ok-choice.choice ≡ true) c.deref.ensures
+    (asked_suits (solve_meant c.args.falling.solve) c.deref.result.now c.in_ok-choice.choice
+    c.requires.solve c.in_ok-choice.ensures)
 
 pub returns-clause-falling : goal.returns-clause-falling
 returns-clause-falling g c =
@@ -31,11 +41,17 @@ returns-clause-falling g c =
     (subst (λ (p : TaskParts). IsGraphOf p graph.table.abstraction) its c.in_ok-graph.ensures.blocks)
     (subst (λ (p : TaskParts). IsFinest p solve.settings.wish graph.table.abstraction.projection) its
     c.in_ok-graph.ensures.finest)
-    c.in_ok-graph.ensures.settings c.in_ok-graph.ensures.choice c.in_ok-graph.ensures.past
+    c.in_ok-graph.ensures.settings
+    (subst (λ (choice : Choice). IsChoiceAsked solve parts choice) (sym c.in_ok-graph.ensures.choice)
+    (subst (λ (p : TaskParts). IsChoiceAsked solve p c.in_ok-choice.choice)
+    (c.deref.ensures ∙ its) c.in_ok-choice.ensures))
+    c.in_ok-graph.ensures.past
     c.in_ok-graph.ensures.ended
     (λ quiet. let best = c.in_ok-graph.ensures.quiet quiet in
     quiet_rows_of parts graph task best.best best.small)
-    (subst (λ (p : TaskParts). IsLeftBySearch p solve.settings graph) its c.in_ok-graph.ensures.left)
+    (subst (λ (p : TaskParts). IsLeftBySearch p graph.choice solve.settings graph) its
+    (subst (λ (choice : Choice). IsLeftBySearch (arc_value c.args.task.now) choice solve.settings graph)
+    (sym c.in_ok-graph.ensures.choice) c.in_ok-graph.ensures.left))
     c.in_ok-graph.ensures.fits)
     (all_made solve parts steps 0 graph None c.after_run.result c.after_run.ensures.solve
     c.after_run.ensures.task c.after_run.ensures.steps c.after_run.ensures.run
