@@ -97,6 +97,7 @@ explain_words() {
       ;;
     'words engine') explain_engine ;;
     'words falling') say "no journal is kept with --falling, and --trace is given" ;;
+    'words estimate') say "no pattern database is used with --estimate, and --pattern is over 0" ;;
     'words size') say "the size isn't in the range of its kind" ;;
     *)
       text=${text#error: }

@@ -38,6 +38,8 @@ show_word() {
   case $3 in *"$1 "*) printf '  %-19s %s\n  %-19s   %s\n' "$2" "${4%%;*}" '' "$5" ;; esac
 }
 show_example() { [ "$1" != "$2" ] || printf '  ./pbnf %s %s\n' "$1" "$3"; }
+note_hint() { [ "$1" != "$2" ] || hints+=1; }
+show_hint() { [ "$1" != "$2" ] || printf '  %s\n' "$3"; }
 show_command() { printf '  %-9s %s\n' "$1" "$2"; }
 note_command() { commands+=" $1 "; }
 
@@ -52,6 +54,11 @@ usage_of_command() {
   for_each option show_option "$1"
   printf '\nexamples, at the root of the repository:\n'
   for_each example show_example "$1"
+  local -i hints=0
+  for_each hint note_hint "$1"
+  [ $hints -gt 0 ] || return 0
+  printf '\nwhat saves time (docs/SEARCH.md has the figures):\n'
+  for_each hint show_hint "$1"
 }
 
 usage_of_all() {

@@ -41,7 +41,7 @@ def first_build(place):
     words = ["solve", "grid", *place.grid(), "--cert", "first.cert", "--trace=first.journal"]
     run = place.run(*words, env=slow(place, 0.06, 0.3))
     run.wants(0, "plan 4 4\nright\nright\ndown\ndown\nbound 4\n", [LOOK, "with status 0"])
-    run.wants(0, None, ["0 of 46 crates are proved", "the program is proved and built"])
+    run.wants(0, None, ["0 of 47 crates are proved", "the program is proved and built"])
     for name in ("first.cert", "first.journal"):
         if not (place.work / name).exists():
             raise Failed(f"{name} wasn't saved by the program")
@@ -59,7 +59,7 @@ def chain_is_proved_in_turn(place):
     begun = [it for it in calls(place) if it.startswith("run begins with ")]
     if len(all_check) != 1 or len(run) != 1 or len(begun) != 1:
         raise Failed(f"one call of each was wanted: {calls(place)}")
-    if begun[0] != "run begins with 43 crates":
+    if begun[0] != "run begins with 44 crates":
         raise Failed(f"rt run was to prove pb_made and pb_run: {begun[0]}")
     nothing_runs(place)
 
@@ -104,7 +104,7 @@ def second_run_waits(place):
         out, err = first.communicate(timeout=40)
     Run(first.returncode, out.decode(), err.decode()).wants(0, None, LOOK)
     run.wants(1, "none\n", ["waiting for it", "pbnf:   | none\n", "with status 1"])
-    if not re.search(r"is proved and built \(\d+ of 46 crates", run.err):
+    if not re.search(r"is proved and built \(\d+ of 47 crates", run.err):
         raise Failed(f"the other run's progress was wanted:\n{run}")
     if len(called(place, "run -- ")) != 1:
         raise Failed(f"one building was wanted: {calls(place)}")
@@ -146,7 +146,7 @@ def building_on_terminal(place):
     """On a terminal one line shows how far it is; an interrupt there leaves nothing running."""
     unbuild(place)
     run = place.on_terminal("solve", "grid", *place.grid(), env=slow(place, 0.1, 0.1))
-    for text in ("of 46 crates, 0 min", "NOT PROVED", "plan 4 4\r\nright"):
+    for text in ("of 47 crates, 0 min", "NOT PROVED", "plan 4 4\r\nright"):
         if text not in run.out:
             raise Failed(f"{text!r} was wanted:\n{run}")
     if "is proved and built (" in run.out.replace("the program is proved and built (", ""):

@@ -153,6 +153,8 @@ def faults_with_claims(place):
         place.run(*words, "no/c").wants(73, "", "the certificate no/c.0 (its folder isn't there)")
     for text, more, reason in (
         ("words falling", ["--trace", "j"], "no journal is kept with --falling"),
+        ("words estimate", ["--estimate", "tables", "--pattern", "1"],
+         "no pattern database is used with --estimate"),
         ("words engine", ["--engine", "hda"], "--engine hda has no falling weights"),
         ("words engine", ["--engine", "hda", "--trace", "j"], "--engine hda keeps no journal"),
     ):

@@ -17,7 +17,7 @@ def help_of_all(place):
 
 
 def help_of_each(place):
-    """After a command they print its forms, and each option with its range and default."""
+    """After a command they print its forms, each option with its range and default, and hints."""
     for command, _ in lines_of("command"):
         for words in ([command, "--help"], [command, "-h"], ["help", command],
                       [command, "grid", "a", "--help", "b"]):
@@ -27,6 +27,7 @@ def help_of_each(place):
                 if command in commands.split():
                     wanted += [f"{name} ", what.split(";")[0], f"{takes}; without it: {default}"]
             wanted += [f"./pbnf {it[0]} {it[1]}" for it in lines_of("example") if it[0] == command]
+            wanted += [it[1] for it in lines_of("hint") if it[0] == command]
             for text in wanted:
                 if text not in run.out or run.err:
                     raise Failed(f"{text!r} was wanted in the usage:\n{run}")

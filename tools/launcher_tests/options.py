@@ -53,8 +53,8 @@ def form_lines():
 
 def proved_table(root=ROOT):
     """The table of the command line's definitions: for each option the commands that have it, and
-    its least and greatest number with the default if it has one, or its words with "or" between
-    them, or "a file" or "no value"."""
+    its least and greatest number with the default if it has one, or its word or words with "or"
+    between them, or "a file" or "no value"."""
     text = (root / "crates/pb_command/specs/Table.antt").read_text()
     text = re.sub(r"--.*", "", text)
     kinds, names = {}, {}
@@ -63,7 +63,7 @@ def proved_table(root=ROOT):
             text, re.M):
         names[case] = name
         kinds[case] = "a file" if form == "file_name" else tuple(map(int, numbers.split()))
-    words = dict(re.findall(r"^(\w+_word \w+) = codes \"(\w+)\"$", text, re.M))
+    words = dict(re.findall(r"^(\w+_word(?: \w+)?) = codes \"(\w+)\"$", text, re.M))
     for case, name, takes in re.findall(
             r"^entry_of (\w+) = word \(codes \"(\w+)\"\) \(([\w ∷]+) ∷ \[\]\)$", text, re.M):
         names[case] = name

@@ -28,7 +28,13 @@ def words_refused(place):
          "keeps no journal"),
         ([*grid, "--falling", "0"], None, "pbnf: invalid value '0' for '--falling"),
         ([*grid, "--falling", "21"], None, "pbnf: invalid value '21' for '--falling"),
+        ([*grid, "--estimate", "tables", "--pattern", "1"], "words estimate\n",
+         "no pattern database is used with --estimate"),
+        ([*grid, "--estimate", "tables", "--pattern", "1", "--falling", "2", "--trace", "x"],
+         "words falling\n", "no journal is kept with"),
         ([*grid, "--engine", "x"], None, "pbnf: invalid value 'x' for '--engine"),
+        ([*grid, "--estimate", "x"], None, "pbnf: invalid value 'x' for '--estimate"),
+        ([*grid, "--effort", "21"], None, "pbnf: invalid value '21' for '--effort"),
         ([*grid, "--budget", "0"], None, "pbnf: invalid value '0' for '--budget"),
     ):
         run = place.run("solve", "grid", *words).wants(64, out, ["usage: pbnf solve grid MAP", err])
@@ -181,7 +187,8 @@ def other_grounding(place):
 
 
 def refused_tables(place):
-    """The line of a table that is at fault is shown, and which sum an action doesn't pay for."""
+    """The line of a table that is at fault is shown, and which sum an action doesn't pay for. A
+    certificate of a search by tables is accepted."""
     files = [
         place.file("step.pddl", "(define (domain d) (:predicates (p) (q)) "
                    "(:functions (total-cost)) (:action a :precondition (p) :effect (and (not (p)) (q) "
@@ -192,6 +199,10 @@ def refused_tables(place):
             "table 3 2\n1 3\n2 0\nweight 1 1\nplan 1\n0\ncost 3\nrows 1\n1 0 cut\nend\n")
     cert = place.file("tables.cert", text)
     place.run("check", "strips", cert, *files).wants(0, "accepted cost 3 bound 3\n")
+    found = str(place.work / "found.cert")
+    place.run("solve", "strips", *files, "--estimate", "tables", "--cert", found).wants(
+        0, "plan 3 1\n(a)\nbound 3\n")
+    place.run("check", "strips", found, *files).wants(0, "accepted cost 3 bound 3\n")
     for change, out, err in (
         (("1 3\n", "1 4\n"), "refused Unpaid 0 0\n", [":5: ", "the drops of action 0"]),
         (("1 3\n", "1 2\n"), "refused Low 14\n", [":14: ", "1 0 cut"]),
