@@ -104,6 +104,21 @@ def drawn_pattern(random):
     return str(random.choice([0] * 8 + [1, 2, 3, 3, 4, 6, 9, 12]))
 
 
+def drawn_estimate(random, task):
+    """Words of `solve` for the estimate: a pattern number, in half of the cases none, or tables.
+    For maps and boards tables change nothing."""
+    if random.random() < 0.7:
+        return ["--pattern", drawn_pattern(random)]
+    return ["--estimate", "tables", *drawn_effort(random, task)]
+
+
+def drawn_effort(random, task):
+    """Words for how much is looked at to find tables, mostly little. A wide task has many actions
+    to look at."""
+    effort = random.choice([1, 1, 2] if task.is_wide else [1, 1, 1, 1, 2, 2, 3, 5, 10, 20, None])
+    return ["--effort", str(effort)] if effort else []
+
+
 def drawn_owners(random, most=64):
     """Words of a search by owners (hash-distributed A*): so many workers at most, lots to 4,096."""
     lot = random.choice([1, 2, 3, random.randint(1, 64), random.randint(1, 4096), 4096])

@@ -1,7 +1,8 @@
 #!/usr/bin/env python3
 """A stand-in for the built program in the tests of tools/suite: `solve` by a plain A* over the tasks
 of the second checker, with certificate and journal, and `check` by that checker. It knows
-`--pattern` and `--reachable`, and with `--falling` it claims the same plan at each weight.
+`--pattern` and `--reachable`. With `--estimate tables` its certificate states no table, and with
+`--falling` it claims the same plan at each weight.
 
 Some lots make it behave badly on purpose: 2001 never ends, 2002 takes memory without end, 2003 ends
 by a signal, 2004 saves a certificate with another cost, 2005 never ends after a claim, 2006 stops
@@ -38,6 +39,8 @@ def options_of(words):
     parser.add_argument("--reachable", action="store_true")
     parser.add_argument("--plain", action="store_true")
     parser.add_argument("--engine")
+    parser.add_argument("--estimate", choices=("tables",))
+    parser.add_argument("--effort", type=int, default=10)
     parser.add_argument("--cert")
     parser.add_argument("--trace")
     try:
@@ -80,9 +83,17 @@ def plan_to(state, parents):
     return actions[::-1]
 
 
+def has_tables(task, options):
+    """Whether the estimate is that of tables: there are none, so it is 0."""
+    return task.kind == "strips" and options.estimate == "tables"
+
+
 def certificate_of(task, options, weight, plan, cost, rows, closed):
     pattern, lines = options.pattern, [f"kind {task.kind}", f"width {task.digits}"]
-    if task.grounding == "all":
+    if has_tables(task, options):
+        lines.insert(0, "pbnf-certificate 4")
+        lines += [f"grounding {task.grounding}", "estimate tables 1 0 0"]
+    elif task.grounding == "all":
         lines.insert(0, f"pbnf-certificate {3 if pattern else 2}")
         lines += [f"pattern {pattern}"] * (pattern > 0)
     else:
@@ -109,7 +120,9 @@ def solve(options):
     if options.lot == UNGROUNDED:
         print("stopped grounding")
         return 2
-    found = search(task, options.budget, pbnf_check.estimate_by(task, options.pattern))
+    estimate = (lambda _: 0) if has_tables(task, options) else pbnf_check.estimate_by(
+        task, options.pattern)
+    found = search(task, options.budget, estimate)
     if found is None:
         print(f"stopped budget {options.budget}")
         return 2

@@ -75,7 +75,8 @@ class Folders(Case):
     def test_a_column_by_reachability(self) -> None:
         folder = EXAMPLES / "pddl" / "keys"
         self.assertEqual(self.run_suite(folder, "--column", "all=", "--column",
-                                        "some=--reachable --pattern 2").returncode, 0)
+                                        "some=--reachable --pattern 2", "--column",
+                                        "sums=--estimate tables --effort 1").returncode, 0)
         heads = {}
         for place in (self.out / "runs").glob("*.json"):
             record = json.loads(place.read_text())
@@ -85,7 +86,9 @@ class Folders(Case):
         self.assertEqual(heads, {
             ("all", False): b"pbnf-certificate 2\nkind strips\nwidth 3\n",
             ("some", True): b"pbnf-certificate 4\nkind strips\nwidth 2\ngrounding reachable\n"
-                            b"estimate pattern 2\n"})
+                            b"estimate pattern 2\n",
+            ("sums", False): b"pbnf-certificate 4\nkind strips\nwidth 3\ngrounding all\n"
+                             b"estimate tables 1 0 0\n"})
         self.assertEqual(self.call("verify", self.out).returncode, 0)
 
     def test_places_must_be_enough(self) -> None:
