@@ -92,13 +92,21 @@ def shell(name):
     return "'" + str(name).replace("'", "'\\''") + "'"
 
 
+def refuse_changed(place, text, words, changes):
+    """Each change of a certificate's text is refused, with these words about it."""
+    kind, *files = words
+    for change, out, err in changes:
+        other = place.file("other.cert", text.replace(*change))
+        place.run("check", kind, other, *files).wants(3, out, err)
+
+
 def refused_certificate(place):
     """At 3 the fault stands in words, with the line's text."""
     grid = place.grid()
     cert = place.file("first.cert", "")
     place.run("solve", "grid", *grid, "--cert", cert).wants(0)
     text = open(cert).read()
-    for change, out, err in (
+    refuse_changed(place, text, ["grid", *grid], (
         (("weight 1 1", "weight 0 1"), "refused Weight\n", [":4: the weight", "weight 0 1"]),
         (("cost 4", "cost 5"), "refused Cost 5 4\n", [":10: ", "costs 5, and it costs 4", "cost 5"]),
         (("kind grid", "kind tiles"), "refused Kind\n", [":2: ", "kind tiles"]),
@@ -106,9 +114,7 @@ def refused_certificate(place):
         (("width 6", "width 7"), "refused Syntax 12\n", [":12: "]),
         (("plan 4\n3", "plan 4\n0"), "refused PlanStep 0\n", [":6: this step", "\n0\n"]),
         (("end\n", "End\n"), None, ["isn't spelled as one of a certificate", "End"]),
-    ):
-        other = place.file("other.cert", text.replace(*change))
-        place.run("check", "grid", other, *grid).wants(3, out, err)
+    ))
     wide = text.replace("width 6", "width 7").replace("\n00", "\n000")
     place.run("check", "grid", place.file("wide.cert", wide), *grid).wants(
         3, "refused Width 7 6\n", [":3: ", "of 7 digits, and those of the task take 6", "width 7"])
@@ -163,16 +169,14 @@ def other_grounding(place):
     place.run("check", "strips", cert, *files).wants(
         3, "refused Grounding\n", [":4: ", "grounding reachable", "made with --reachable"])
     text = open(cert).read()
-    for change, out, err in (
+    refuse_changed(place, text, ["strips", *files, "--reachable"], (
         (("kind strips", "kind grid"), "refused Syntax 2\n", [":2: ", "for STRIPS alone"]),
         (("grounding reachable", "grounding x"), "refused Syntax 4\n", [":4: ", "`grounding all`"]),
         (("estimate plain", "estimate"), "refused Syntax 5\n", [":5: ", "the fifth line is"]),
         (("estimate plain", "estimate pattern 13"), "refused Pattern\n", [":5: ", "is 1 to 12"]),
         (("weight 1 1", "weight 0 1"), "refused Weight\n", [":6: ", "weight 0 1"]),
         (("cost 2", "cost 3"), "refused Cost 3 2\n", [":10: ", "cost 3"]),
-    ):
-        other = place.file("other.cert", text.replace(*change))
-        place.run("check", "strips", other, *files, "--reachable").wants(3, out, err)
+    ))
     place.run("solve", "strips", *files, "--cert", cert).wants(0)
     place.run("check", "strips", cert, *files, "--reachable").wants(
         3, "refused Grounding\n", [":1: ", "made without --reachable"])
@@ -203,7 +207,7 @@ def refused_tables(place):
     place.run("solve", "strips", *files, "--estimate", "tables", "--cert", found).wants(
         0, "plan 3 1\n(a)\nbound 3\n")
     place.run("check", "strips", found, *files).wants(0, "accepted cost 3 bound 3\n")
-    for change, out, err in (
+    refuse_changed(place, text, ["strips", *files], (
         (("1 3\n", "1 4\n"), "refused Unpaid 0 0\n", [":5: ", "the drops of action 0"]),
         (("1 3\n", "1 2\n"), "refused Low 14\n", [":14: ", "1 0 cut"]),
         (("2 0\n", "2 1\n"), "refused Table 8\n", [":8: ", "a value other than 0"]),
@@ -214,9 +218,7 @@ def refused_tables(place):
         (("table 3 2", "tables 3 2"), "refused Syntax 6\n", [":6: ", "`table TRACKED N`"]),
         (("tables 1 1 0", "tables 65 1 0"), "refused Syntax 5\n", [":5: ", "the fifth line is"]),
         (("cost 3", "cost 4"), "refused Cost 4 3\n", [":12: ", "cost 4"]),
-    ):
-        other = place.file("other.cert", text.replace(*change))
-        place.run("check", "strips", other, *files).wants(3, out, err)
+    ))
 
 
 def refused_journal(place):
