@@ -1,5 +1,5 @@
 //! The estimator of a task: a state's estimate by the choice, and a state's successors.
-ghost use Rattle.std.specs.Prelude.{◌≡◌, ◌≤◌, true, IsTrue, IfOk, None, vec_capacity};
+ghost use Rattle.std.specs.Prelude.{◌≡◌, ◌≤◌, true, IsTrue, IfOk, None, is_some, vec_capacity};
 ghost use Rattle.std.specs.Option.{option_map, option_copied};
 ghost use Rattle.std.specs.Arc.{arc_value};
 ghost use Rattle.pb_model.specs.Space.{steps};
@@ -209,6 +209,13 @@ impl Estimator {
             None => 0,
             Some(table) => table.pattern(),
         }
+    }
+
+    /// Whether the estimates look up tables of the choice.
+    pub fn has_tables(&self) -> bool
+        ensures { result ≡ is_some self.now.tables }
+    {
+        self.tables.is_some()
     }
 
     // The estimate of a state by the plain choice or a pattern.
