@@ -1,5 +1,5 @@
 //! Judging the text of a journal, line by line.
-ghost use Rattle.std.specs.Prelude.{◌≡◌, ◌+◌, ◌<◌, ◌^◌, ℕ, Ok, Err, length, OnOk, IfOk};
+ghost use Rattle.std.specs.Prelude.{◌≡◌, ◌+◌, ◌<◌, ◌^◌, ℕ, true, Ok, Err, length, OnOk, IfOk};
 ghost use Rattle.pb_machine.specs.Settings.{AreInRange};
 ghost use Rattle.pb_machine.specs.Counts.{opening_counts};
 ghost use Rattle.pb_abstract.specs.Graph.{blocks_of, IsGraph};
@@ -43,14 +43,15 @@ fn read_event(
 }
 
 // The text may end in this line, which has these bytes and no end.
-fn read_end(replay: &Replay, settings: &Settings, line: u64, tail: &[u8]) -> Result<bool, Fault>
+fn read_end(replay: &Replay, settings: &Settings, line: u64, tail: &[u8]) -> Result<(), Fault>
     requires { length replay.now.signed_off.items ≡ settings.now.workers }
-    ensures { Reads (λ x. x) result (end_fault settings.now (counts_of replay.now) line tail.now) }
+    ensures { Reads (λ x. true) result
+        (end_fault settings.now (counts_of replay.now) line tail.now) }
 {
     let why = if tail.len() > 0 {
         Why::Spelling
     } else if replay.is_finished(settings) {
-        return Ok(true);
+        return Ok(());
     } else {
         Why::Short
     };

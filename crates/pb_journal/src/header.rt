@@ -39,10 +39,8 @@ pub(crate) fn header(bytes: &[u8]) -> Result<(Settings, &[u8]), Fault>
 fn settings_in(bytes: &[u8]) -> Result<Settings, JournalError>
     ensures { Answers (λ settings. settings) result (settings_of bytes.now) }
 {
-    match header(bytes) {
-        Ok((settings, _)) => Ok(settings),
-        Err(fault) => Err(fault.into()),
-    }
+    let (settings, _) = header(bytes)?;
+    Ok(settings)
 }
 
 /// The settings that a journal's header states, or the first line of the header that is refused.

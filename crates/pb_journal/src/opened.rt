@@ -42,14 +42,12 @@ pub fn open_journal(bytes: &[u8]) -> Result<OpenedJournal<'_>, JournalError>
     ensures exact { Answers (λ journal. journal.settings) result (settings_of bytes.now) }
     ensures bytes { IfOk result (λ journal. journal.bytes ≡ bytes.now) }
 {
-    match header(bytes) {
-        Ok((settings, events)) => Ok(OpenedJournal {
-            bytes,
-            settings,
-            events,
-        }),
-        Err(fault) => Err(fault.into()),
-    }
+    let (settings, events) = header(bytes)?;
+    Ok(OpenedJournal {
+        bytes,
+        settings,
+        events,
+    })
 }
 
 impl<'a> OpenedJournal<'a> {
