@@ -1,6 +1,6 @@
 -- What a verdict on a valid certificate says of the space.
-use Rattle.std.proofs.Common.{mul_comm, cond, ap, ◌≡◌, ℕ, ◌+◌, ◌-◌, ◌*◌, ◌/◌, ◌<◌, ◌≤◌, true, Option, None, Some, List, Result, Ok, Err, refl, sym, subst, arith}
-use Rattle.std.specs.Prelude.{IfOk}
+use Rattle.std.proofs.Common.{mul_comm, cond, ap, ◌≡◌, ◌∙◌, ℕ, ◌+◌, ◌-◌, ◌*◌, ◌/◌, ◌<◌, ◌≤◌, Bool, true, false, Option, None, Some, List, Result, Ok, Err, refl, sym, subst, arith}
+use Rattle.std.specs.Prelude.{IfOk, is_some}
 use Rattle.std.proofs.Math.Nat.{div-lt_iff_lt-mul, lt-div-mul-add}
 use Rattle.pb_model.specs.Space.{Space}
 use Rattle.pb_model.specs.Weight.{Weight, IsWeight}
@@ -9,8 +9,9 @@ use Rattle.pb_model.specs.Certificate.{ClaimHolds}
 use Rattle.pb_model.proofs.Callers.{valid_certificates_hold}
 use Rattle.pb_task.specs.declared.parts.TaskParts.{TaskParts}
 use Rattle.pb_task.specs.Parts.{space_of, IsTask}
-use Rattle.pb_estimate.specs.Choices.{Choice, Plain}
+use Rattle.pb_estimate.specs.Choices.{Choice, Plain, tables_of}
 use Rattle.pb_estimate.specs.Estimates.{estimate_by, suits}
+use Rattle.pb_estimate.specs.Tables.{EstimatorValue, IsOfTask}
 use Rattle.pb_estimate.proofs.Callers.{estimates_are_admissible}
 use Rattle.pb_check.specs.declared.fault.Verdict.{Verdict}
 use Rattle.pb_check.specs.declared.fault.CheckError.{CheckError}
@@ -35,6 +36,15 @@ holds space weight (Some plan) is claim = ((plan, claim.0, refl), λ other also.
 -- an estimator is made by a choice that suits the task
 pub suiting_is : (parts : TaskParts) (choice : Choice) → suits parts choice ≡ true → suiting parts choice ≡ choice
 suiting_is parts choice fine = ap (λ b. cond b choice Plain) fine
+
+-- an estimator by what suits has tables only if the choice suits
+pub with_tables : (estimator : EstimatorValue) (parts : TaskParts) (choice : Choice) → IsOfTask estimator parts (suiting parts choice) → is_some estimator.tables ≡ true → suits parts choice ≡ true
+unfolding IsOfTask
+with_tables estimator parts choice is some = go (suits parts choice) (ap is_some (sym is.2) ∙ some)
+  where
+    go : (fine : Bool) → is_some (tables_of (cond fine choice Plain)) ≡ true → fine ≡ true
+    go true e = refl
+    go false e = absurd cc
 
 -- what is stated is no fault if and only if it suits the task
 pub stated_choices_suit : StatedChoicesSuit

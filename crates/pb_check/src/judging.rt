@@ -98,14 +98,18 @@ fn tables_fault_for(task: &Task, tables: &Tables) -> Option<CertificateFault>
     }
 }
 
-// The fault of the choice of an estimate that a text states.
-fn stated_fault(task: &Task, stated: &Stated) -> Option<CertificateFault>
+// The fault of the choice of an estimate that a text states. The estimator is by that choice only if
+// it suits the task. So if the estimator has tables, the stated ones suit, and they aren't looked at
+// again.
+fn stated_fault(task: &Task, estimator: &Estimator, stated: &Stated) -> Option<CertificateFault>
+    requires task { IsOfTask estimator.now task.now (suiting task.now stated.now.choice) }
     ensures fault { result ≡ stated_fault task.now stated.now }
     ensures suits { result ≡ None → suits task.now stated.now.choice ≡ true }
 {
     match stated.choice.case() {
         ChoiceCase::Plain => None,
         ChoiceCase::Pattern(_) => unless(stated.choice.suits(task), CertificateFault::Pattern),
+        ChoiceCase::Tables(_) if estimator.has_tables() => None,
         ChoiceCase::Tables(tables) => tables_fault_for(task, tables),
     }
 }
@@ -157,14 +161,14 @@ fn need_rows(
     plan: &Option<StatedPlan<'_>>,
     rows: &StatedRows,
     line: u64,
-) -> Result<bool, CheckError>
+) -> Result<(), CheckError>
     requires suits { suits task.now choice.now ≡ true }
     requires task { IsOfTask estimator.old task.now (suiting task.now choice.now) }
     requires weight { is_weight (record { num = weight.now.num; den = weight.now.den }) ≡ true }
     requires rise { Rise rows.now }
     requires states { first_fault_by (state_fault (space_of task.now)) line rows.now ≡ None }
     requires lines { line + length rows.now < 2 ^ 64 }
-    ensures gives { Gives (λ x. x) result
+    ensures gives { Gives (λ _. true) result
         (passes (first_fault_by (row_fault (space_of task.now) (estimate_by task.now choice.now)
         (record { num = weight.now.num; den = weight.now.den }) (cost_of plan.now) rows.now)
         line rows.now)) }
@@ -185,10 +189,17 @@ fn need_rows(
     pass(fault)
 }
 
-/// All that is judged before any row is looked at, in one order.
+/// All that is judged before any row is looked at, in one order. The estimator is by the choice that
+/// the text states, or by the plain one if that choice doesn't suit this task.
 #[tactic(auto, unfolding(crate::specs::Judging::judged_head))]
-pub fn judge_head(task: &Task, text: &StatedText<'_>) -> Result<bool, CheckError>
-    ensures gives { Gives (λ x. x) result (judged_head task.now text.now) }
+pub fn judge_head(
+    task: &Task,
+    estimator: &Estimator,
+    text: &StatedText<'_>,
+) -> Result<(), CheckError>
+    requires task { IsOfTask estimator.now task.now
+        (suiting task.now text.now.spelling.stated.choice) }
+    ensures gives { Gives (λ _. true) result (judged_head task.now text.now) }
     ensures lawful { IsTask task.now }
     ensures suits { IfOk result (λ x. suits task.now text.now.spelling.stated.choice ≡ true) }
     ensures weight { IfOk result (λ x. is_weight text.now.certificate.weight ≡ true) }
@@ -204,15 +215,15 @@ pub fn judge_head(task: &Task, text: &StatedText<'_>) -> Result<bool, CheckError
     pass(width_fault(task, text.spelling.version, text.spelling.width))?;
     // The grounding decides which atoms and actions all later numbers name, so it comes first.
     pass(grounding_fault(task, stated))?;
-    pass(stated_fault(task, stated))?;
+    pass(stated_fault(task, estimator, stated))?;
     need(is_weight(weight), CertificateFault::Weight)?;
     judge_plan_if_any(task, &text.plan)
 }
 
 /// Goes on only if the start has a row whose g is 0.
-pub fn need_start(task: &Task, rows: &StatedRows) -> Result<bool, CheckError>
+pub fn need_start(task: &Task, rows: &StatedRows) -> Result<(), CheckError>
     requires { Rise rows.now }
-    ensures { Gives (λ x. x) result (start_judged task.now rows.now) }
+    ensures { Gives (λ _. true) result (start_judged task.now rows.now) }
 {
     need(
         is_zero(rows.g_of(&task.initial(), &mut 0)),
@@ -222,9 +233,11 @@ pub fn need_start(task: &Task, rows: &StatedRows) -> Result<bool, CheckError>
 
 // All that is judged before the rows themselves, in one order.
 #[tactic(auto, unfolding(crate::specs::Judging::judged_before))]
-fn judge_before(task: &Task, text: &StatedText<'_>) -> Result<bool, CheckError>
+fn judge_before(task: &Task, estimator: &Estimator, text: &StatedText<'_>) -> Result<(), CheckError>
+    requires task { IsOfTask estimator.now task.now
+        (suiting task.now text.now.spelling.stated.choice) }
     requires lines { text.now.first + length text.now.certificate.lines < 2 ^ 64 }
-    ensures gives { Gives (λ x. x) result (judged_before task.now text.now) }
+    ensures gives { Gives (λ _. true) result (judged_before task.now text.now) }
     ensures lawful { IsTask task.now }
     ensures suits { IfOk result (λ x. suits task.now text.now.spelling.stated.choice ≡ true) }
     ensures weight { IfOk result (λ x. is_weight text.now.certificate.weight ≡ true) }
@@ -234,7 +247,7 @@ fn judge_before(task: &Task, text: &StatedText<'_>) -> Result<bool, CheckError>
 {
     let rows = &text.rows;
     let first = text.first;
-    judge_head(task, text)?;
+    judge_head(task, estimator, text)?;
     // Rows are looked up by halving, so their order is judged before any look-up.
     pass(rows_order_fault(first, rows))?;
     pass(states_fault(task, first, rows))?;
@@ -259,7 +272,7 @@ pub fn judge(
 {
     let stated = &text.spelling.stated;
     let weight = &text.weight;
-    judge_before(task, text)?;
+    judge_before(task, estimator, text)?;
     need_rows(
         alloc,
         task,

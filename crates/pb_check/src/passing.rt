@@ -5,12 +5,12 @@ ghost use Rattle.pb_check.specs.Judging.{passes, unless};
 
 use crate::fault::{CertificateFault, CheckError};
 
-pub(crate) fn pass(fault: Option<CertificateFault>) -> Result<bool, CheckError>
-    ensures gives { Gives (λ x. x) result (passes fault) }
+pub(crate) fn pass(fault: Option<CertificateFault>) -> Result<(), CheckError>
+    ensures gives { Gives (λ _. true) result (passes fault) }
     ensures none { IfOk result (λ x. fault ≡ None) }
 {
     match fault {
-        None => Ok(true),
+        None => Ok(()),
         Some(fault) => Err(CheckError::Fault(fault)),
     }
 }
@@ -22,12 +22,12 @@ pub(crate) fn unless(holds: bool, fault: CertificateFault) -> Option<Certificate
 }
 
 // Goes on only if this holds.
-pub(crate) fn need(holds: bool, fault: CertificateFault) -> Result<bool, CheckError>
-    ensures gives { Gives (λ x. x) result (passes (unless holds fault)) }
+pub(crate) fn need(holds: bool, fault: CertificateFault) -> Result<(), CheckError>
+    ensures gives { Gives (λ _. true) result (passes (unless holds fault)) }
     ensures holds { IfOk result (λ x. holds ≡ true) }
 {
     if holds {
-        Ok(true)
+        Ok(())
     } else {
         Err(CheckError::Fault(fault))
     }

@@ -314,7 +314,7 @@ fn need_rows<R: Threads + Sync, G: Gate>(
     rows: &StatedRows,
     line: u64,
     piece: u64,
-) -> Result<bool, CheckError>
+) -> Result<(), CheckError>
     requires some { 1 ≤ length estimators.old }
     requires suits { suits task.now choice.now ≡ true }
     requires task { All (λ e. IsOfTask e task.now (suiting task.now choice.now)) estimators.old }
@@ -323,7 +323,7 @@ fn need_rows<R: Threads + Sync, G: Gate>(
     requires states { first_fault_by (state_fault (space_of task.now)) line rows.now ≡ None }
     requires lines { line + length rows.now < 2 ^ 63 }
     requires piece { 1 ≤ piece }
-    ensures gives { Gives (λ x. x) result
+    ensures gives { Gives (λ _. true) result
         (passes (first_fault_by (row_fault (space_of task.now) (estimate_by task.now choice.now)
         (record { num = weight.now.num; den = weight.now.den }) (cost_of plan.now) rows.now)
         line rows.now)) }
@@ -342,11 +342,14 @@ fn need_rows<R: Threads + Sync, G: Gate>(
 fn judge_before<R: Threads + Sync>(
     rt: &R,
     task: &Task,
+    estimator: &Estimator,
     text: &StatedText<'_>,
     workers: u64,
-) -> Result<bool, CheckError>
+) -> Result<(), CheckError>
+    requires task { IsOfTask estimator.now task.now
+        (suiting task.now text.now.spelling.stated.choice) }
     requires lines { text.now.first + length text.now.certificate.lines < 2 ^ 64 }
-    ensures gives { Gives (λ x. x) result (judged_before task.now text.now) }
+    ensures gives { Gives (λ _. true) result (judged_before task.now text.now) }
     ensures lawful { IsTask task.now }
     ensures suits { IfOk result (λ x. suits task.now text.now.spelling.stated.choice ≡ true) }
     ensures weight { IfOk result (λ x. is_weight text.now.certificate.weight ≡ true) }
@@ -356,7 +359,7 @@ fn judge_before<R: Threads + Sync>(
 {
     let rows = &text.rows;
     let first = text.first;
-    judge_head(task, text)?;
+    judge_head(task, estimator, text)?;
     // Rows are looked up by halving, so their order is judged before any look-up.
     pass(order_fault_by_shares(rt, task, first, rows, workers))?;
     pass(states_fault_by_shares(rt, task, first, rows, workers))?;
@@ -383,7 +386,9 @@ fn judge<R: Threads + Sync, G: Gate>(
     ensures task { All (λ e. IsOfTask e task.now
         (suiting task.now text.now.spelling.stated.choice)) estimators.new }
 {
-    judge_before(rt, task, text, estimators.len() as u64)?;
+    let workers = estimators.len() as u64;
+    // Each estimator is by the stated choice, so the first serves as well as any.
+    judge_before(rt, task, &estimators[0], text, workers)?;
     need_rows(
         rt,
         alloc,

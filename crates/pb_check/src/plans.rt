@@ -67,9 +67,9 @@ fn walk(task: &Task, actions: &StatedActions<'_>) -> Result<(Packed, u128), Chec
 }
 
 #[tactic(auto, unfolding(crate::specs::Judging::plan_fault))]
-fn judge_plan(task: &Task, plan: &StatedPlan<'_>) -> Result<bool, CheckError>
+fn judge_plan(task: &Task, plan: &StatedPlan<'_>) -> Result<(), CheckError>
     requires lawful { IsTask task.now }
-    ensures { Gives (λ x. x) result (plan_fault (space_of task.now) plan.now) }
+    ensures { Gives (λ _. true) result (plan_fault (space_of task.now) plan.now) }
 {
     let (goal, cost) = walk(task, &plan.actions)?;
     need(task.is_goal(&goal), CertificateFault::NotGoal)?;
@@ -85,12 +85,12 @@ fn judge_plan(task: &Task, plan: &StatedPlan<'_>) -> Result<bool, CheckError>
 pub(crate) fn judge_plan_if_any(
     task: &Task,
     plan: &Option<StatedPlan<'_>>,
-) -> Result<bool, CheckError>
+) -> Result<(), CheckError>
     requires lawful { IsTask task.now }
-    ensures { Gives (λ x. x) result (plan_fault_if_any (space_of task.now) plan.now) }
+    ensures { Gives (λ _. true) result (plan_fault_if_any (space_of task.now) plan.now) }
 {
     match plan {
-        None => Ok(true),
+        None => Ok(()),
         Some(plan) => judge_plan(task, plan),
     }
 }

@@ -58,14 +58,14 @@ fn plan_at(line: u64, text: &[u8]) -> Result<(Option<StatedPlan<'_>>, &[u8]), Ch
 }
 
 #[tactic(auto, unfolding(crate::specs::Reading::end_at))]
-fn end_at(line: u64, text: &[u8]) -> Result<bool, CheckError>
+fn end_at(line: u64, text: &[u8]) -> Result<(), CheckError>
     requires { line + length text.now < 2 ^ 64 }
-    ensures gives { Gives (λ x. x) result (end_at line text.now) }
+    ensures gives { Gives (λ _. true) result (end_at line text.now) }
     ensures some { IfOk result (λ x. 1 ≤ length text.now) }
 {
     let rest = fixed_at(line, text, b"end")?;
     if rest.len() == 0 {
-        Ok(true)
+        Ok(())
     } else {
         Err(CheckError::Fault(CertificateFault::Syntax { line: line + 1 }))
     }
@@ -119,9 +119,9 @@ fn rest_of(width: u32, text: &[u8], left: usize) -> &[u8]
 }
 
 // Goes on only if there are as many rows as stated, and then the end.
-fn need_end(count: u64, line: u64, found: u64, rest: &[u8]) -> Result<bool, CheckError>
+fn need_end(count: u64, line: u64, found: u64, rest: &[u8]) -> Result<(), CheckError>
     requires { line + found + length rest.now < 2 ^ 64 }
-    ensures gives { Gives (λ x. x) result (ending count line found rest.now) }
+    ensures gives { Gives (λ _. true) result (ending count line found rest.now) }
     ensures some { IfOk result (λ x. (found ≡ count) × (1 ≤ length rest.now)) }
 {
     if found < count {

@@ -13,18 +13,18 @@ use crate::words::read_state;
 use pb_lines::is_text;
 
 // Reads a state of this many digits into its words.
-fn state_in(width: u32, line: u64, text: &[u8], words: &mut [u64]) -> Result<bool, CheckError>
+fn state_in(width: u32, line: u64, text: &[u8], words: &mut [u64]) -> Result<(), CheckError>
     requires some { 1 ≤ width }
     requires most { width ≤ most_digits }
     requires long { length words.old ≡ words_for width }
     requires words { AreWords (length words.old) words.old }
-    ensures gives { Gives (λ x. number_in words.new) result
+    ensures gives { Gives (λ _. number_in words.new) result
         (wanted line (state_of width text.now)) }
     ensures words { AreWords (length words.old) words.new }
     ensures fault { IfErr result IsFault }
 {
     if read_state(width, text, words) {
-        Ok(true)
+        Ok(())
     } else {
         Err(CheckError::Fault(CertificateFault::Syntax { line }))
     }

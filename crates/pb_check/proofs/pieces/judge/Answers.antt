@@ -1,4 +1,4 @@
-use Rattle.std.proofs.Common.{◌≡◌, Ok, ap, ◌∙◌, subst}
+use Rattle.std.proofs.Common.{◌≡◌, true, Ok, ap, ◌∙◌, subst}
 use Rattle.std.proofs.lemmas.Result.{err_from_is_err_and}
 use Rattle.pb_check.specs.Faults.{Fails}
 use Rattle.pb_check.specs.Reading.{Text}
@@ -14,11 +14,11 @@ returns-in_err-judge_before-clause-verdict g c =
 pub returns-in_err-need_rows-clause-verdict : goal.returns-in_err-need_rows-clause-verdict
 returns-in_err-need_rows-clause-verdict g c =
     let p = err_from_is_err_and c.from_residual-in_err-need_rows.result c.from_residual-in_err-need_rows.ensures.1 in
-    rw (p.1, p.2) (rows_fail c.in_err-need_rows.field-0.0 c.args.task.now c.args.text.now c.in_ok-judge_before.field-0 c.in_ok-judge_before.ensures.gives
+    rw (p.1, p.2) (rows_fail c.in_err-need_rows.field-0.0 c.args.task.now c.args.text.now true c.in_ok-judge_before.ensures.gives
     (subst (λ (text : Text). Fails c.in_err-need_rows.field-0.0 (rows_judged c.args.task.now text)) c.text.view_is c.in_err-need_rows.ensures.gives))
 
 pub returns-clause-verdict : goal.returns-clause-verdict
 returns-clause-verdict g c =
-    rows_pass c.args.task.now c.args.text.now c.in_ok-judge_before.field-0 c.in_ok-need_rows.field-0 c.on.result c.in_ok-judge_before.ensures.gives
-    (subst (λ (text : Text). rows_judged c.args.task.now text ≡ Ok c.in_ok-need_rows.field-0) c.text.view_is c.in_ok-need_rows.ensures.gives)
+    rows_pass c.args.task.now c.args.text.now true true c.on.result c.in_ok-judge_before.ensures.gives
+    (subst (λ (text : Text). rows_judged c.args.task.now text ≡ Ok true) c.text.view_is c.in_ok-need_rows.ensures.gives)
     (c.on.ensures ∙ c.verdict_of.ensures ∙ ap (λ (text : Text). verdict_of text.certificate.weight text.certificate.plan) c.text.view_is)

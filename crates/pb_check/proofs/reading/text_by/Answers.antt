@@ -1,4 +1,4 @@
-use Rattle.std.proofs.Common.{◌≡◌, ◌≤◌, length, Ok, refl, ap, ◌∙◌, subst, arith}
+use Rattle.std.proofs.Common.{◌≡◌, ◌≤◌, length, true, Ok, refl, ap, ◌∙◌, subst, arith}
 use Rattle.pb_check.specs.Rows.{rows_of}
 use Rattle.pb_check.specs.Fronts.{Front, rows_while, ending, text_with}
 use Rattle.pb_check.proofs.Keeping.{few_kept}
@@ -20,10 +20,10 @@ returns-clause-kept c =
     let text = c.args.text.now in
     let found = rows_while c.args.front.spelling.width text in
     let rest : c.rest_of-rest.result.now ≡ found.1 = c.rest_of-rest.ensures ∙ ap (λ (f : Front). (rows_while f.spelling.width text).1) c.front.view_is in
-    let ends : ending c.args.front.count c.args.front.first c.args.spelled.count c.rest_of-rest.result.now ≡ Ok c.in_ok-need_end.field-0 =
-    subst (λ (f : Front). ending f.count f.first c.args.spelled.count c.rest_of-rest.result.now ≡ Ok c.in_ok-need_end.field-0) c.front.view_is c.in_ok-need_end.ensures.gives in (
+    let ends : ending c.args.front.count c.args.front.first c.args.spelled.count c.rest_of-rest.result.now ≡ Ok true =
+    subst (λ (f : Front). ending f.count f.first c.args.spelled.count c.rest_of-rest.result.now ≡ Ok true) c.front.view_is c.in_ok-need_end.ensures.gives in (
       text_with c.args.front found.0,
-      text_passes c.args.front found c.args.spelled.count c.rest_of-rest.result.now c.in_ok-need_end.field-0 c.requires.spelled.count_is rest ends,
+      text_passes c.args.front found c.args.spelled.count c.rest_of-rest.result.now true c.requires.spelled.count_is rest ends,
       record {
         spelling = ap (λ (f : Front). f.spelling) c.front.view_is;
         weight = ap (λ (f : Front). f.weight) c.front.view_is;
