@@ -1,5 +1,5 @@
 //! The search for tables.
-ghost use Rattle.std.specs.Prelude.{All, IfOk, IfSome, IsTrue, length};
+ghost use Rattle.std.specs.Prelude.{All, IfOk, IfSome, IsTrue};
 ghost use Rattle.pb_task.specs.Strips.{IsStrips};
 ghost use Rattle.pb_tables.specs.Suits.{suit};
 ghost use Rattle.pb_tables.specs.Tables.{AreTables, IsTable};
@@ -10,14 +10,25 @@ use crate::fitted::{MOST_TABLES, tables_of, traps_of};
 use crate::images::{Allowance, Images};
 use crate::lists::Lists;
 use crate::partitioning::{Alone, Sum, sums_of};
-use crate::patterns::{MOST_PATTERNS, grown_patterns, small_patterns};
+use crate::patterns::{MOST_PATTERNS, Tracked, grown_patterns, small_patterns};
 use crate::rules::Rules;
 use crate::variables::Variables;
 use pb_tables::{Table, Tables, Trap};
 use pb_task::StripsParts;
 use std::alloc::{AllocError, Global};
 
-// Adds the images of a pattern, if they are within the limits.
+// Whether the images of a pattern that tracks the same are there.
+fn is_listed(images: &[Images], tracked: &Tracked) -> bool {
+    for other in images {
+        if other.tracked == *tracked {
+            return true;
+        }
+    }
+    false
+}
+
+// Adds the images of a pattern, if they are within the limits and those of no pattern that tracks
+// the same are there.
 fn push_images(
     alloc: Global,
     rules: &Rules,
@@ -27,7 +38,8 @@ fn push_images(
     left: &mut Allowance,
     images: &mut Vec<Images>,
 ) -> Result<(), AllocError> {
-    if images.len() >= MOST_PATTERNS {
+    let tracked = Tracked::of(rules, variables, pattern);
+    if images.len() >= MOST_PATTERNS || is_listed(images, &tracked) {
         return Ok(());
     }
     let found = Images::of(alloc, rules, variables, pattern, &left.for_one(most))?;
@@ -134,7 +146,20 @@ fn tables_if_lawful(sums: usize, tables: Vec<Table>, traps: Vec<Trap>) -> Option
     }
 }
 
-// The tables and traps of sums.
+// Traps alone, if there are some and they are few enough: they stand beside one sum of no tables.
+fn traps_if_lawful(alloc: Global, traps: Vec<Trap>) -> Option<Tables>
+    requires traps_few { All TrapListsFew traps.items }
+    ensures lawful { IfSome result AreTables }
+    ensures few { IfSome result ListFewImages }
+{
+    if 1 <= traps.len() && traps.len() <= MOST_TABLES {
+        Some(Tables::of(1, Vec::new(alloc), traps))
+    } else {
+        None
+    }
+}
+
+// The tables and traps of sums, or the traps alone if there is no sum.
 fn fitted(
     alloc: Global,
     variables: &Variables,
@@ -146,6 +171,9 @@ fn fitted(
     ensures few { IfOk result (λ found. IfSome found ListFewImages) }
 {
     let traps = traps_of(alloc, variables, patterns, alone)?;
+    if sums.is_empty() {
+        return Ok(traps_if_lawful(alloc, traps));
+    }
     let tables = tables_of(alloc, variables, patterns, sums)?;
     Ok(tables_if_lawful(sums.len(), tables, traps))
 }

@@ -5,9 +5,9 @@ ghost use Rattle.pb_finder.specs.Sizes.{TableListsFew, TrapListsFew};
 
 use crate::costs::UNKNOWN;
 use crate::images::Images;
-use crate::numbers::{at, narrow, with};
+use crate::numbers::{at, narrow};
 use crate::partitioning::{Alone, Sum};
-use crate::variables::Variables;
+use crate::variables::{Variables, with_value};
 use pb_packed::Packed;
 use pb_tables::{ImageList, Table, Trap};
 use std::alloc::{AllocError, Global};
@@ -26,37 +26,6 @@ pub const MOST_TABLES: usize = 4096;
 struct Listed {
     set: Packed,
     image: u32,
-}
-
-// The atoms of a pattern.
-fn tracked_of(variables: &Variables, images: &Images) -> Packed {
-    let mut tracked = Packed::zero();
-    for field in images.operators.fields.as_slice() {
-        tracked = with_all(tracked, variables.atoms.at(field.variable as usize));
-    }
-    tracked
-}
-
-// A set with some atoms more.
-fn with_all(set: Packed, atoms: &[u32]) -> Packed {
-    let mut set = set;
-    for atom in atoms {
-        set = with(&set, *atom);
-    }
-    set
-}
-
-// A set with the atom of a value, which counts from 1.
-fn with_value(set: Packed, atoms: &[u32], value: u64) -> Packed {
-    if value == 0 {
-        return set;
-    }
-    let place = (value - 1) as usize;
-    if place < atoms.len() {
-        with(&set, atoms[place])
-    } else {
-        set
-    }
 }
 
 // The atoms that hold in an image.
@@ -167,7 +136,7 @@ pub fn table_of(
     let listed = listed_of(alloc, variables, images)?;
     let values = values_of(alloc, sums, number, &listed)?;
     let sets = sets_of(alloc, &listed)?;
-    Ok(table_if_lawful(sums.len(), tracked_of(variables, images), sets, values))
+    Ok(table_if_lawful(sums.len(), images.tracked.atoms, sets, values))
 }
 
 // The images from which no goal is reached.
@@ -203,7 +172,7 @@ pub fn trap_of(
 {
     let listed = listed_of(alloc, variables, images)?;
     let trapped = trapped_of(alloc, &listed, alone)?;
-    Ok(trap_if_lawful(tracked_of(variables, images), trapped))
+    Ok(trap_if_lawful(images.tracked.atoms, trapped))
 }
 
 // ---- all of them

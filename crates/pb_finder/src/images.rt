@@ -3,6 +3,7 @@ use crate::effort::Limits;
 use crate::lists::Lists;
 use crate::numbers::{narrow, small_at};
 use crate::operators::{Operator, Operators};
+use crate::patterns::Tracked;
 use crate::rules::Rules;
 use crate::steps::{FoundStep, Steps};
 use crate::variables::Variables;
@@ -25,6 +26,8 @@ pub struct Allowance {
 /// first.
 #[derive(Drop)]
 pub struct Images {
+    /// What the pattern tracks.
+    pub tracked: Tracked,
     /// The operators.
     pub operators: Operators,
     /// The actions of each operator.
@@ -198,6 +201,7 @@ impl Images {
         left: &Allowance,
     ) -> Result<Option<Images>, AllocError> {
         let mut images = Images {
+            tracked: Tracked::of(rules, variables, pattern),
             operators: Operators::new(alloc),
             actions: Lists::new(alloc),
             steps: Steps::new(alloc),

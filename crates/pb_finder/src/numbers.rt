@@ -51,6 +51,15 @@ pub fn with(set: &Packed, atom: u32) -> Packed {
     }
 }
 
+/// A set with some atoms more.
+pub fn with_all(set: Packed, atoms: &[u32]) -> Packed {
+    let mut set = set;
+    for atom in atoms {
+        set = with(&set, *atom);
+    }
+    set
+}
+
 /// A set without an atom, if it is the number of a bit.
 pub fn without(set: &Packed, atom: u32) -> Packed {
     if atom < BITS {

@@ -2,9 +2,9 @@
 //!
 //! An image is kept as the values of the pattern's variables, one field of bits each.
 use crate::lists::Lists;
-use crate::numbers::{has, narrow, small_at};
+use crate::numbers::{narrow, small_at};
 use crate::rules::Rules;
-use crate::variables::{Variables, value_of};
+use crate::variables::{Variables, value_in, value_of};
 use indexmap::IndexSet;
 use pb_packed::Packed;
 use std::alloc::{AllocError, Global};
@@ -424,14 +424,4 @@ impl Operators {
         }
         goal
     }
-}
-
-// The place of the first atom of a variable that is in a set, from 1 on, and 0 if none is.
-fn value_in(variable: &[u32], set: &Packed) -> u64 {
-    for (place, atom) in variable.iter().enumerate() {
-        if has(set, *atom) {
-            return (place as u64).saturating_add(1);
-        }
-    }
-    0
 }

@@ -24,10 +24,7 @@ pub struct Chance {
 impl Chance {
     // A worth, divided by chance.
     fn lower(&mut self, worth: u64) -> u64 {
-        worth
-            / (self.random.below(self.spread) as u64)
-                .saturating_add(1)
-                .max(1)
+        worth / (self.random.below(self.spread) as u64).saturating_add(1)
     }
 }
 

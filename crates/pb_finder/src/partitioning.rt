@@ -248,11 +248,11 @@ impl Parts<'_> {
 
     // How many sums may be kept.
     fn most_sums(&self, values: usize) -> usize {
-        let mut images = 1usize;
+        let mut images = 0usize;
         for pattern in self.patterns {
             images = images.saturating_add(pattern.len());
         }
-        (values / images.max(1)).clamp(1, MOST_SUMS)
+        (values / images.saturating_add(1)).clamp(1, MOST_SUMS)
     }
 
     // Tries orders: the one that suits the start best, and then those for states of the sample,

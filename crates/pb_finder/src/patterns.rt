@@ -1,8 +1,9 @@
 //! Patterns: which variables are tracked together.
 use crate::lists::Lists;
-use crate::numbers::{at, narrow, raise};
+use crate::numbers::{at, narrow, raise, with_all};
 use crate::rules::Rules;
-use crate::variables::Variables;
+use crate::variables::{Variables, value_in, with_value};
+use pb_packed::Packed;
 use std::alloc::{AllocError, Global};
 
 // How many variables a grown pattern has at most.
@@ -10,6 +11,36 @@ const MOST_VARIABLES: usize = 32;
 
 /// How many patterns there are at most.
 pub const MOST_PATTERNS: usize = 4096;
+
+/// What a pattern tracks. Patterns that track the same have the same images and the same goals.
+#[derive(Clone, Copy, PartialEq, Eq)]
+pub struct Tracked {
+    /// The atoms of its variables.
+    pub atoms: Packed,
+    // those that a goal needs of them: the first one of each variable that the goal has
+    goal: Packed,
+}
+
+impl Tracked {
+    // Adds a variable with these atoms.
+    fn add(&mut self, rules: &Rules, variable: &[u32]) {
+        let wanted = value_in(variable, &rules.goal);
+        self.atoms = with_all(self.atoms, variable);
+        self.goal = with_value(self.goal, variable, wanted);
+    }
+
+    /// What a pattern tracks.
+    pub fn of(rules: &Rules, variables: &Variables, pattern: &[u32]) -> Tracked {
+        let mut tracked = Tracked {
+            atoms: Packed::zero(),
+            goal: Packed::zero(),
+        };
+        for variable in pattern {
+            tracked.add(rules, variables.atoms.at(*variable as usize));
+        }
+        tracked
+    }
+}
 
 // Counts the variables of some atoms.
 fn count_atoms(variables: &Variables, atoms: &[u32], counts: &mut [u64]) {

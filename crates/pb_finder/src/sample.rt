@@ -1,5 +1,5 @@
 //! A sample of states: ends of random walks from the start.
-use crate::numbers::{has, with, without};
+use crate::numbers::{has, with_all, without};
 use crate::rules::Rules;
 use pb_packed::Packed;
 use std::alloc::{AllocError, Global};
@@ -52,15 +52,6 @@ fn without_all(state: Packed, atoms: &[u32]) -> Packed {
     let mut state = state;
     for atom in atoms {
         state = without(&state, *atom);
-    }
-    state
-}
-
-// A state with some atoms.
-fn with_all(state: Packed, atoms: &[u32]) -> Packed {
-    let mut state = state;
-    for atom in atoms {
-        state = with(&state, *atom);
     }
     state
 }

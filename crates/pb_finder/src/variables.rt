@@ -1,8 +1,9 @@
 //! Variables: groups of atoms, and each other atom by itself.
 use crate::groups::groups_of;
 use crate::lists::Lists;
-use crate::numbers::{has, narrow};
+use crate::numbers::{has, narrow, with};
 use crate::rules::Rules;
+use pb_packed::Packed;
 use std::alloc::{AllocError, Global};
 
 /// The variables of a task. The value of a variable is 0 if none of its atoms holds, and else the
@@ -72,6 +73,29 @@ pub fn value_of(variable: &[u32], atom: u32) -> u64 {
     match variable.binary_search(&atom) {
         Ok(place) => (place as u64).saturating_add(1),
         Err(_) => 0,
+    }
+}
+
+/// The place of the first atom of a variable that is in a set, from 1 on, and 0 if none is.
+pub fn value_in(variable: &[u32], set: &Packed) -> u64 {
+    for (place, atom) in variable.iter().enumerate() {
+        if has(set, *atom) {
+            return (place as u64).saturating_add(1);
+        }
+    }
+    0
+}
+
+/// A set with the atom of a variable's value, if it has one.
+pub fn with_value(set: Packed, variable: &[u32], value: u64) -> Packed {
+    if value == 0 {
+        return set;
+    }
+    let place = (value - 1) as usize;
+    if place < variable.len() {
+        with(&set, variable[place])
+    } else {
+        set
     }
 }
 
