@@ -256,7 +256,9 @@ say_what_is_built() {
 # A file that can't be read is named before the building, and not only after it.
 warn_of_inputs() {
   local name
-  for name in ${judged:+"$judged"} ${inputs[@]+"${inputs[@]}"}; do
+  local -a read_files
+  list_read
+  for name in ${read_files[@]+"${read_files[@]}"}; do
     [ -r "$name" ] && [ ! -d "$name" ] || say "note: $(show "$name") can't be read now"
   done
 }

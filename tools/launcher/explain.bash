@@ -97,7 +97,7 @@ explain_words() {
       ;;
     'words engine') explain_engine ;;
     'words falling') say "no journal is kept with --falling, and --trace is given" ;;
-    'words estimate') say "no pattern database is used with --estimate, and --pattern is over 0" ;;
+    'words estimate') explain_estimate ;;
     'words size') say "the size isn't in the range of its kind" ;;
     *)
       text=${text#error: }
@@ -110,6 +110,15 @@ explain_engine() {
   if [ -n "${value_of[--trace]+is}" ]; then
     say "--engine hda keeps no journal, and --trace is given"
   else say "--engine hda has no falling weights, and --falling is given"; fi
+}
+explain_estimate() {
+  if [ -n "${value_of[--estimate]+is}" ] && [ -n "${value_of[--tables]+is}" ]; then
+    say "--estimate tables looks for tables, and --tables names a file of tables: give one of them"
+  else
+    local option=--tables
+    [ -z "${value_of[--estimate]+is}" ] || option=--estimate
+    say "no pattern database is used with $option, and --pattern is over 0"
+  fi
 }
 explain_form() {
   case "$1 $kind" in
@@ -124,11 +133,13 @@ explain_form() {
 # be read twice.
 explain_refusal() {
   local name refusal flag
-  local -a options=()
-  for name in ${judged:+"$judged"} ${inputs[@]+"${inputs[@]}"}; do [ -f "$name" ] || return; done
+  local -a options=() read_files
+  list_read
+  for name in ${read_files[@]+"${read_files[@]}"}; do [ -f "$name" ] || return; done
   refusal=$(${with_launcher[@]+"${with_launcher[@]}"} "$program" "$@" 2>/dev/null) && return
   for flag in --swamp --reachable; do [ -z "${value_of[$flag]-}" ] || options+=("$flag"); done
   [ -z "$judged" ] || options+=(--judged "$judged")
+  [ "$kind" = strips ] && [ -n "$tables" ] && options+=(--tables "$tables")
   python3 "$root/tools/launcher/explain-refusal" ${options[@]+"${options[@]}"} \
     "${refusal%%$'\n'*}" "$kind" "${value_of[--row]:-0}" "${inputs[@]}" >&2 2>/dev/null
 }
@@ -174,7 +185,9 @@ find_saved() {
 # there and can be read hasn't, if a file was to be saved.
 explain_file() {
   local name option fault failed='' read='' saved='' is_pipe=''
-  for name in ${judged:+"$judged"} ${inputs[@]+"${inputs[@]}"}; do
+  local -a read_files
+  list_read
+  for name in ${read_files[@]+"${read_files[@]}"}; do
     look_at_input "$name"
     [ -z "$fault" ] || failed+=", $(show "$name") ($fault)"
     [ -f "$name" ] || is_pipe=1

@@ -1,7 +1,8 @@
 # What the words of a command line name, by options.txt. The launcher sources this file.
 
 # An option that names a file which is saved has a word for it in `saves`: certificate or journal.
-declare -gA has_no_value=() saves=() default_of=()
+# One that names a file which is read is in `reads`.
+declare -gA has_no_value=() saves=() reads=() default_of=()
 read_options() {
   local line name what range default
   while IFS='|' read -r name line what range default; do
@@ -15,14 +16,16 @@ read_options() {
         line=${line% }
         saves[$name]=${line,,}
         ;;
+      ' a file that is read ') reads[$name]=1 ;;
       *) default_of[$name]=${default# } ;;
     esac
   done <"$root/tools/launcher/options.txt"
 }
 
 # The command, the kind of task, the files of the task, a certificate or a journal that is judged
-# apart from them, values of options, and the options that name files which are saved, in order.
-command_word='' kind='' judged='' are_read=''
+# apart from them, the file of tables, values of options, and the options that name files which are
+# saved, in order.
+command_word='' kind='' judged='' tables='' are_read=''
 inputs=() saving=()
 declare -gA value_of=()
 read_words() {
@@ -53,6 +56,13 @@ note_name() {
 note_option() {
   value_of[$1]=$2
   [ -z "${saves[$1]-}" ] || saving+=("$1")
+  [ -z "${reads[$1]-}" ] || tables=$2
+}
+
+# The files that a run reads, into `read_files`: a file of tables for STRIPS problems alone.
+list_read() {
+  read_files=(${judged:+"$judged"} ${inputs[@]+"${inputs[@]}"})
+  [ "$kind" != strips ] || [ -z "${value_of[--tables]+is}" ] || read_files+=("$tables")
 }
 
 # In how many steps the weight falls, into `steps`: nothing if the option isn't given, or if its
@@ -101,7 +111,7 @@ find_harm() {
   for option in ${saving[@]+"${saving[@]}"}; do
     list_names "$option"
     for name in "${names[@]}"; do
-      for input in ${judged:+"$judged"} ${inputs[@]+"${inputs[@]}"}; do
+      for input in ${judged:+"$judged"} ${inputs[@]+"${inputs[@]}"} ${tables:+"$tables"}; do
         is_one_file "$name" "$input" || continue
         harm="the ${saves[$option]} $(show "$name") would be written over the input "
         harm+=$(show "$input")

@@ -155,6 +155,7 @@ def faults_with_claims(place):
         ("words falling", ["--trace", "j"], "no journal is kept with --falling"),
         ("words estimate", ["--estimate", "tables", "--pattern", "1"],
          "no pattern database is used with --estimate"),
+        ("words estimate", ["--tables", "t", "--estimate", "tables"], "give one of them"),
         ("words engine", ["--engine", "hda"], "--engine hda has no falling weights"),
         ("words engine", ["--engine", "hda", "--trace", "j"], "--engine hda keeps no journal"),
     ):

@@ -34,6 +34,15 @@ def input_as_output(place):
     run.wants(0, "accepted cost 4 bound 4\n")
     if open(place.work / "room.copy", "rb").read() != kept:
         raise Failed("the copy isn't the certificate of version 2")
+    tables = place.file("kept.tables", "estimate tables 1 0 0\n")
+    pddl = [place.example("blocks.pddl"), place.example("two-blocks.pddl")]
+    for kind, files in (("strips", pddl), ("grid", [place.grid()[0], scen])):
+        for words in (["--tables", tables, "--cert", "./kept.tables"],
+                      ["--trace=kept.tables", f"--tables={tables}"]):
+            place.run("solve", kind, *files, *words).wants(
+                64, "", f"written over the input {tables}")
+    if open(tables, "rb").read() != b"estimate tables 1 0 0\n":
+        raise Failed("the file of tables was written over")
     words = ["--cert", "x.cert", "--", "grid", "./room.map", scen, "--trace"]
     place.run("solve", *words).wants(64).lacks("written over")  # (after `--` all are names)
 

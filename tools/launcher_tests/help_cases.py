@@ -139,7 +139,7 @@ def ranges_of_options(place):
             if takes == "no value":
                 expect_taken(place, [*words, option], True)
                 expect_taken(place, [*words, f"{option}=1"], False)
-            elif takes == "a file that is saved":
+            elif takes in ("a file that is saved", "a file that is read"):
                 expect_taken(place, [*words, option, "saved"], True)
                 expect_taken(place, [*words, option], False)
             elif range_of(takes):

@@ -54,7 +54,7 @@ def form_lines():
 def proved_table(root=ROOT):
     """The table of the command line's definitions: for each option the commands that have it, and
     its least and greatest number with the default if it has one, or its word or words with "or"
-    between them, or "a file" or "no value"."""
+    between them, or "a file" or "no value". Whether a file is saved or read isn't in the table."""
     text = (root / "crates/pb_command/specs/Table.antt").read_text()
     text = re.sub(r"--.*", "", text)
     kinds, names = {}, {}
@@ -82,7 +82,8 @@ def stated_table():
     """The same as tools/launcher/options.txt states it."""
     rows = {}
     for name, commands, _, takes, default in lines_of("option"):
-        kind = {"no value": "no value", "a file that is saved": "a file"}.get(takes)
+        kind = {"no value": "no value", "a file that is saved": "a file",
+                "a file that is read": "a file"}.get(takes)
         if kind is None and range_of(takes):
             number = default.replace(",", "")
             kind = range_of(takes) + ((int(number),) if number.isdigit() else ())

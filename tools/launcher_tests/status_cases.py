@@ -2,6 +2,7 @@
 
 import gzip
 import os
+import pathlib
 import resource
 import shutil
 import signal
@@ -32,6 +33,13 @@ def words_refused(place):
          "no pattern database is used with --estimate"),
         ([*grid, "--estimate", "tables", "--pattern", "1", "--falling", "2", "--trace", "x"],
          "words falling\n", "no journal is kept with"),
+        ([*grid, "--tables", "x", "--pattern", "1"], "words estimate\n",
+         "no pattern database is used with --tables"),
+        ([*grid, "--tables=x", "--estimate", "tables"], "words estimate\n",
+         "--tables names a file of tables: give one of them"),
+        ([*grid, "--tables", "x", "--tables", "y"], None,
+         "pbnf: the argument '--tables <tables>' cannot be used multiple times"),
+        ([*grid, "--tables"], None, "pbnf: a value is required for '--tables <tables>'"),
         ([*grid, "--engine", "x"], None, "pbnf: invalid value 'x' for '--engine"),
         ([*grid, "--estimate", "x"], None, "pbnf: invalid value 'x' for '--estimate"),
         ([*grid, "--effort", "21"], None, "pbnf: invalid value '21' for '--effort"),
@@ -190,15 +198,20 @@ def other_grounding(place):
     place.run("solve", "strips", domain, problem, "--reachable").wants(1, "none\n")
 
 
-def refused_tables(place):
-    """The line of a table that is at fault is shown, and which sum an action doesn't pay for. A
-    certificate of a search by tables is accepted."""
-    files = [
+def one_step(place):
+    """A problem that one action solves at cost 3."""
+    return [
         place.file("step.pddl", "(define (domain d) (:predicates (p) (q)) "
                    "(:functions (total-cost)) (:action a :precondition (p) :effect (and (not (p)) (q) "
                    "(increase (total-cost) 3))))"),
         place.file("one-step.pddl", "(define (problem e) (:domain d) (:init (p)) (:goal (q)) "
                    "(:metric minimize (total-cost)))")]
+
+
+def refused_tables(place):
+    """The line of a table that is at fault is shown, and which sum an action doesn't pay for. A
+    certificate of a search by tables is accepted."""
+    files = one_step(place)
     text = ("pbnf-certificate 4\nkind strips\nwidth 1\ngrounding all\nestimate tables 1 1 0\n"
             "table 3 2\n1 3\n2 0\nweight 1 1\nplan 1\n0\ncost 3\nrows 1\n1 0 cut\nend\n")
     cert = place.file("tables.cert", text)
@@ -219,6 +232,53 @@ def refused_tables(place):
         (("tables 1 1 0", "tables 65 1 0"), "refused Syntax 5\n", [":5: ", "the fifth line is"]),
         (("cost 3", "cost 4"), "refused Cost 4 3\n", [":12: ", "cost 4"]),
     ))
+
+
+def file_of_tables(place):
+    """A search by a file of tables, and each of its refusals with the line that is at fault."""
+    files = one_step(place)
+    text = "estimate tables 1 1 0\ntable 3 2\n1 3\n2 0\n"
+    name = place.file("one step.tables", text)
+    cert = str(place.work / "of-tables.cert")
+    place.run("solve", "strips", *files, "--tables", name, "--cert", cert).wants(
+        0, "plan 3 1\n(a)\nbound 3\n")
+    place.run("check", "strips", cert, *files).wants(0, "accepted cost 3 bound 3\n")
+    kept = pathlib.Path(cert).read_text()
+    for old, new, out, err in (
+            ("1 3\n", "1 4\n", "input Unpaid 0 0\n", [":1: ", "the drops of action 0"]),
+            ("2 0\n", "2 1\n", "input Unsuited 4\n", [":4: ", "a value other than 0"]),
+            ("table 3 2\n1 3\n2 0\n", "table 3 1\n1 3\n", "input Unsuited 3\n",
+             [":3: ", "an action leads from this image"]),
+            ("1 3\n2 0\n", "2 0\n1 3\n", "input Unsuited 4\n", [":4: ", "isn't above"]),
+            ("table 3 2", "table 7 2", "input Unsuited 2\n", [":2: ", "tracked atoms"]),
+            ("table 3 2", "table 2 2", "input Unsuited 3\n", [":3: ", "doesn't track"]),
+            ("2 0\n", "2\n", "input Tables 4\n", [":4: ", "`IMAGE V1 .. VM`"]),
+            ("2 0\n", "2 0", "input Tables 4\n", [":4: ", "lacks the line feed"]),
+            ("2 0\n", "", "input Tables 4\n", [":4: the file ends", "`IMAGE V1 .. VM`"]),
+            ("2 0\n", "2 0\nend\n", "input Tables 5\n", [":5: nothing stands behind", "end"]),
+            ("1 3\n", "1 3\r\n", "input Tables 3\n", [":3: ", "a carriage return"]),
+            ("table 3 2", "tables 3 2", "input Tables 2\n", [":2: ", "`table TRACKED N`"]),
+            ("tables 1 1 0", "tables 65 1 0", "input Tables 1\n", [":1: ", "the first line is"]),
+            (text, "", "input Tables 1\n", [":1: ", "the first line is"]),
+            (text, kept, "input Tables 1\n", [":1: this is a certificate", "tools/tables-of"])):
+        other = place.file("other.tables", text.replace(old, new))
+        place.run("solve", "strips", *files, "--tables", other).wants(65, out, err)
+    place.run("solve", "strips", *files, f"--tables={other}", "--reachable").wants(
+        65, "input Tables 1\n", ":1: this is a certificate")
+    other = place.file("other.tables", text.replace("1 3\n", "1 4\n"))
+    place.run("solve", "strips", *files, "--tables", other, "--reachable").wants(
+        65, "input Unpaid 0 0\n", "were they made without --reachable?")
+    packed = place.file("tables.gz", gzip.compress(text.encode()))
+    place.run("solve", "strips", *files, "--tables", packed).wants(
+        65, "input Tables 1\n", "is gzipped")
+    with open(other, "wb") as long:
+        long.truncate((1 << 30) + 1)
+    place.run("solve", "strips", *files, "--tables", other).wants(
+        65, "input TooLong\n", f"{other}: the file has more than 1 GiB")
+    os.remove(other)
+    place.run("solve", "strips", *files, "--tables", other).wants(
+        73, "", f"{other} (isn't there)").lacks("step.pddl")
+    place.run("solve", "grid", *place.grid(), "--tables", other).wants(0)
 
 
 def refused_journal(place):
@@ -316,6 +376,6 @@ def ended_by_a_signal(place):
 
 
 CASES = [words_refused, input_refused, order_of_files, packed_input, refused_certificate,
-         other_row, other_costs, other_grounding, refused_tables, refused_journal, stopped,
-         stopped_in_grounding, no_memory, files_failed, dash_is_a_name, output_failed,
+         other_row, other_costs, other_grounding, refused_tables, file_of_tables, refused_journal,
+         stopped, stopped_in_grounding, no_memory, files_failed, dash_is_a_name, output_failed,
          ended_by_a_signal]

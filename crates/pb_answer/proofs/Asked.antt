@@ -1,9 +1,10 @@
 -- The engine and the choice of an estimate that the words ask for.
-use Rattle.std.proofs.Common.{◌≡◌, inl, inr, ℕ, zero, suc, ◌≤◌, true, Option, None, Some, refl, sym, ◌∙◌, ap, subst, arith}
+use Rattle.std.proofs.Common.{◌≡◌, inl, inr, ℕ, zero, suc, ◌≤◌, true, Option, None, Some, IfSome, refl, sym, ◌∙◌, ap, subst, arith}
 use Rattle.pb_machine.specs.declared.event.End.{End}
 use Rattle.pb_task.specs.declared.parts.TaskParts.{TaskParts}
 use Rattle.pb_task.specs.declared.parts.TaskParts.TheVariants.{Grid, Tiles, Strips}
-use Rattle.pb_estimate.specs.Choices.{Choice, choice_with}
+use Rattle.pb_tables.specs.Tables.{TablesValue}
+use Rattle.pb_estimate.specs.Choices.{Choice, Tables as ByTables, choice_with}
 use Rattle.pb_estimate.specs.Estimates.{suits}
 use Rattle.pb_command.specs.declared.command.Engine.{Engine}
 use Rattle.pb_command.specs.Meaning.{SolveMeaning, IsSolveInRange}
@@ -50,8 +51,15 @@ for_suits (Some effort) pattern small (Strips strips) choice (inl plain) =
 for_suits (Some effort) pattern small (Strips strips) choice (inr (tables, is, are, suit, few)) =
     ap (λ (c : Choice). suits (Strips strips) c) is ∙ suit
 
--- a choice that the words ask for suits the task
-pub asked_suits : (solve : SolveMeaning) (task : TaskParts) (choice : Choice)
-    → IsSolveInRange solve → IsChoiceAsked solve task choice → suits task choice ≡ true
-asked_suits solve task choice range is =
+-- tables of a file, if there are any, suit the task
+abbrev pub Suit : TaskParts → (given : Option TablesValue) → Type 0
+Suit task given = IfSome given (λ tables. suits task (ByTables tables) ≡ true)
+
+-- a choice that the words ask for suits the task, if tables of a file do
+pub asked_suits : (solve : SolveMeaning) (given : Option TablesValue) (task : TaskParts)
+    (choice : Choice) → IsSolveInRange solve → Suit task given
+    → IsChoiceAsked solve given task choice → suits task choice ≡ true
+asked_suits solve None task choice range suit is =
     for_suits solve.effort solve.settings.pattern range.settings.pattern task choice is
+asked_suits solve (Some tables) task choice range suit is =
+    ap (λ (c : Choice). suits task c) is ∙ suit

@@ -11,7 +11,7 @@ use Rattle.pb_search.specs.Searches.{SearchEnds, LeavesQuiet, LeavesStopped}
 use Rattle.pb_search.proofs.Callers.{quiet_end, search_ends}
 use Rattle.pb_command.specs.Meaning.{SolveMeaning}
 use Rattle.pb_answer.specs.Outputs.{Output}
-use Rattle.pb_answer.specs.Searches.{settings_of, IsChoiceAsked}
+use Rattle.pb_answer.specs.Searches.{settings_of}
 use Rattle.pb_command.specs.declared.command.Engine.TheVariants.{Leases}
 use Rattle.pb_answer.specs.Engines.{engine_asked, left_by_leases}
 use Rattle.pb_answer.specs.Claims.{journal_outputs, Stops}
@@ -19,8 +19,7 @@ use Rattle.pb_answer.specs.Ended.{left_with, LeavesQuietRows}
 use Rattle.pb_answer.proofs.Asked.{asked}
 
 module _ (solve : SolveMeaning) (engine : engine_asked solve ≡ Leases) (parts : TaskParts)
-    (choice : Choice) (by : IsChoiceAsked solve parts choice)
-    (graph : GraphValue) (saved : List Output)
+    (choice : Choice) (graph : GraphValue) (saved : List Output)
     (saved_is : saved ≡ journal_outputs solve.journal (settings_of solve) graph.table.journal) where
   pub quiet_rows : LeavesQuiet parts choice (settings_of solve) graph
       → LeavesQuietRows solve parts choice (home_of graph.task graph.table.abstraction) (home_store graph) saved
@@ -29,7 +28,6 @@ module _ (solve : SolveMeaning) (engine : engine_asked solve ≡ Leases) (parts 
       LeavesQuietRows solve parts choice (home_of p graph.table.abstraction) (home_store graph) saved)
       (sym left.best.task)
       (record {
-        asked = by;
         end = quiet_end parts choice (settings_of solve) graph left;
         weight = left.best.weight;
         journal = Some graph.table.journal;
@@ -43,13 +41,11 @@ module _ (solve : SolveMeaning) (engine : engine_asked solve ≡ Leases) (parts 
       })
 
   pub stops : LeavesStopped parts choice (settings_of solve) graph
-      → Stops (λ outputs. ◌≡◌ {A = List Output} saved outputs) solve parts
+      → Stops (λ outputs. ◌≡◌ {A = List Output} saved outputs) solve choice parts
   stops left =
       let stop = left.run in
       let run : SearchEnds parts choice (settings_of solve) Budget graph.table.journal =
       record { moves = stop.0; events = stop.1; ends = stop.2; plain = left.plain } in (
-        choice,
-        by,
         left_by_leases run,
         asked solve Leases engine parts choice Budget _ (graph.table.journal, run, refl),
         saved_is,

@@ -7,6 +7,7 @@ use Rattle.pb_task.specs.declared.grounding.Grounding.{Grounding}
 use Rattle.pb_task.specs.declared.parts.TaskParts.{TaskParts}
 use Rattle.pb_task.specs.declared.parts.TaskParts.TheVariants as parts
 use Rattle.pb_task.specs.Parts.{space_of}
+use Rattle.pb_estimate.specs.Choices.{Choice}
 use Rattle.pb_pddl.specs.declared.error.SyntaxError.{SyntaxError}
 use Rattle.pb_pddl.specs.declared.tree.Domain.{Domain}
 use Rattle.pb_pddl.specs.declared.tree.Problem.{Problem}
@@ -33,6 +34,7 @@ use Rattle.pb_answer.specs.Outputs.{Output}
 use Rattle.pb_answer.specs.Loaded.{refused_with, strips_told, problem_told, domain_told, strips_task, input_task, with_text, OfTexts, OfCheckedTexts}
 use Rattle.pb_answer.specs.Claims.{Solves, Accepts}
 use Rattle.pb_answer.specs.Named.{SpellTrees, OfTrees, NoneBelow, NoneCheaperByNames, HasNoNamedPlan, PrintsNamedPlan, NamedVerdict, AcceptsNamed}
+use Rattle.pb_answer.proofs.SolveTask.{task_read}
 
 -- ---- the trees of a task
 
@@ -159,9 +161,9 @@ module _ (grounding : Grounding) (domain : Domain) (problem : Problem) (are : Ar
       )
 
   pub prints_named_plan : (says : List ℕ → Type 0) (saves : List Output → Type 0)
-      (solve : SolveMeaning) → Solves says saves solve task
+      (solve : SolveMeaning) (choice : Choice) → Solves says saves solve choice task
       → PrintsNamedPlan says (weight_asked solve) domain problem
-  prints_named_plan says saves solve (plan, bound, text, is, bounded, least, saved, fits) =
+  prints_named_plan says saves solve choice (plan, bound, text, is, bounded, least, saved, fits) =
       let named = plan_by_names (weight_asked solve) plan bound is bounded least in
       (named.0, bound, subst says named.1 text, named.3, named.4, named.5)
 
@@ -176,22 +178,24 @@ module _ (grounding : Grounding) (domain : Domain) (problem : Problem) (are : Ar
 -- ---- of what is answered
 
 module _ (texts : List (List ℕ)) where
-  -- what follows by names from what holds of a task that the texts spell
-  pub texts_by_names : (P : TaskParts → Type 0) (Q : Domain → Problem → Type 0)
-      → ((grounding : Grounding) (domain : Domain) (problem : Problem) → AreTask grounding domain problem → P (parts.Strips (strips_with grounding domain problem)) → Q domain problem)
+  -- what follows by names from what holds of a task that the texts spell and of a choice of an
+  -- estimate
+  pub texts_by_names : (P : Choice → TaskParts → Type 0) (Q : Domain → Problem → Type 0)
+      → ((choice : Choice) (grounding : Grounding) (domain : Domain) (problem : Problem) → AreTask grounding domain problem → P choice (parts.Strips (strips_with grounding domain problem)) → Q domain problem)
       → (solve : SolveMeaning) → OfTexts solve texts P → OfTrees solve.input 0 texts Q
-  texts_by_names P Q f solve (task, is, holds) = by_trees P Q f solve.input solve.options 0 texts task is holds
+  texts_by_names P Q f solve (read, is, (choice, asked, holds)) =
+      by_trees (P choice) Q (f choice) solve.input solve.options 0 texts read.0 (task_read solve texts read is) holds
 
   pub solved_by_names : (says : List ℕ → Type 0) (saves : List Output → Type 0)
-      (solve : SolveMeaning) → OfTexts solve texts (λ parts. Solves says saves solve parts)
+      (solve : SolveMeaning) → OfTexts solve texts (λ choice parts. Solves says saves solve choice parts)
       → OfTrees solve.input 0 texts (PrintsNamedPlan says (weight_asked solve))
   solved_by_names says saves solve =
-      texts_by_names (λ parts. Solves says saves solve parts)
+      texts_by_names (λ choice parts. Solves says saves solve choice parts)
       (PrintsNamedPlan says (weight_asked solve))
-      (λ grounding domain problem are solves. prints_named_plan grounding domain problem are says saves solve solves) solve
+      (λ choice grounding domain problem are solves. prints_named_plan grounding domain problem are says saves solve choice solves) solve
 
-  pub none_by_names : (solve : SolveMeaning) → OfTexts solve texts (λ task. HasNoPlan (space_of task)) → OfTrees solve.input 0 texts HasNoNamedPlan
-  none_by_names = texts_by_names (λ t. HasNoPlan (space_of t)) HasNoNamedPlan no_named_plan
+  pub none_by_names : (solve : SolveMeaning) → OfTexts solve texts (λ choice task. HasNoPlan (space_of task)) → OfTrees solve.input 0 texts HasNoNamedPlan
+  none_by_names = texts_by_names (λ choice task. HasNoPlan (space_of task)) HasNoNamedPlan (λ choice. no_named_plan)
 
   pub accepted_by_names : (says : List ℕ → Type 0) (check : CheckMeaning) → OfCheckedTexts check texts (Accepts says) → OfTrees check.input 1 texts (AcceptsNamed says)
   accepted_by_names says check (task, certificate, is, holds) =

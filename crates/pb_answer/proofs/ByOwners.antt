@@ -13,21 +13,20 @@ use Rattle.pb_owners.specs.Leaves.{LeavesOwners}
 use Rattle.pb_command.specs.declared.command.Engine.TheVariants.{Owners}
 use Rattle.pb_command.specs.Meaning.{SolveMeaning}
 use Rattle.pb_answer.specs.Outputs.{Output}
-use Rattle.pb_answer.specs.Searches.{settings_of, IsChoiceAsked}
+use Rattle.pb_answer.specs.Searches.{settings_of}
 use Rattle.pb_answer.specs.Engines.{engine_asked, left_by_owners}
 use Rattle.pb_answer.specs.Claims.{Stops}
 use Rattle.pb_answer.specs.Ended.{guide_by, left_with, LeavesQuietRows}
 use Rattle.pb_answer.proofs.Asked.{asked}
 
 module _ (solve : SolveMeaning) (engine : engine_asked solve ≡ Owners) (parts : TaskParts)
-    (choice : Choice) (by : IsChoiceAsked solve parts choice) (owners : OwnersValue) where
+    (choice : Choice) (owners : OwnersValue) where
   pub quiet_rows : LeavesOwners parts choice (settings_of solve) Quiet owners
       → LeavesQuietRows solve parts choice (guide_in owners).home (owners_store owners) []
   quiet_rows left =
       let same : guide_in owners ≡ guide_by parts choice (guide_in owners).home =
       λ i. guide_with (estimate_by (left.task i) (left.choice_is i)) (guide_in owners).home in
       record {
-        asked = by;
         end = subst (λ (g : Guide). IsQuietEnd (space_of parts) g (owners_store owners)) same
             (left.quiet refl);
         weight = ap weight_of left.settings_are;
@@ -41,10 +40,8 @@ module _ (solve : SolveMeaning) (engine : engine_asked solve ≡ Owners) (parts 
       }
 
   pub stops : LeavesOwners parts choice (settings_of solve) Budget owners
-      → Stops (λ outputs. ◌≡◌ {A = List Output} [] outputs) solve parts
+      → Stops (λ outputs. ◌≡◌ {A = List Output} [] outputs) solve choice parts
   stops left = (
-    choice,
-    by,
     left_by_owners owners,
     asked solve Owners engine parts choice Budget _ (owners, left, refl),
     refl,

@@ -11,3 +11,4 @@ pub use Rattle.pb_answer.proofs.SameBlocks.{without_swamp}
 pub use Rattle.pb_answer.proofs.SavedJournals.{SavesJournal, of_quiet, of_stopped}
 pub use Rattle.pb_answer.proofs.Spelled.{never_refused, of_grid, of_tiles}
 pub use Rattle.pb_answer.proofs.Reports.{IsFree, AreFree, split, decimal_free, lines_tell}
+pub use Rattle.pb_answer.proofs.SolveTask.{no_file, task_read, none_given}

@@ -12,7 +12,6 @@ use Rattle.pb_machine.proofs.Callers.{all_off_none_out}
 use Rattle.pb_machine.specs.Lawful.{reopened_machine, reopened_setup}
 use Rattle.pb_task.specs.declared.parts.TaskParts.{TaskParts}
 use Rattle.pb_task.specs.Parts.{space_of}
-use Rattle.pb_estimate.specs.Choices.{Choice}
 use Rattle.pb_lists.specs.Store.{IsQuietEnd}
 use Rattle.pb_abstract.specs.Projection.{IsFinest}
 use Rattle.pb_abstract.specs.Graph.{AbstractGraph, IsGraphOf}
@@ -29,7 +28,7 @@ use Rattle.pb_check.specs.Spelling.{PlanFits, PlanFitsIfAny}
 use Rattle.pb_falling.specs.Falling.{weight_at, Claim, IsClaim, AfterClaims}
 use Rattle.pb_falling.proofs.Callers.{kept_is_plan, run_after, runs_go_on, weights_fall}
 use Rattle.pb_command.specs.Meaning.{SolveMeaning, IsFallingInRange}
-use Rattle.pb_answer.specs.Searches.{settings_of, weight_asked, IsChoiceAsked}
+use Rattle.pb_answer.specs.Searches.{settings_of, weight_asked}
 use Rattle.pb_answer.specs.Falling.{asked_of_run, first_setup, AreOfQuietRuns, MayBeImproved}
 use Rattle.pb_answer.specs.FallingRuns.{FallingValue, weight_now, guide_in, setup_asked, claim_now, KeepsPlan, IsRunOf, IsFalling, IsLastAt, IsLast, GoesOn}
 use Rattle.pb_answer.proofs.FallingRuns.{is_claim, keeps, quiet_runs_are, run_here, weights_are}
@@ -71,7 +70,7 @@ all_made solve parts steps run graph before (Err e) solve_is parts_is steps_is r
 
 module _ (solve : SolveMeaning) (steps : ℕ) (range : IsFallingInRange (record { solve = solve; steps = steps })) (parts : TaskParts) (g : GraphValue) (lawful : IsLeaseGraph g)
     (task : g.task ≡ parts) (graph_of : IsGraphOf parts g.table.abstraction) (finest : IsFinest parts solve.settings.wish g.table.abstraction.projection)
-    (settings : g.table.settings ≡ solve.settings) (by : IsChoiceAsked solve parts g.choice) (past : g.table.past ≡ no_past)
+    (settings : g.table.settings ≡ solve.settings) (past : g.table.past ≡ no_past)
     (ended : (g.table.end ≡ Some Quiet) ⊎ (g.table.end ≡ Some Budget))
     (quiet : g.table.end ≡ Some Quiet → IsQuietEnd (space_of parts) (guide_in g) (home_store g))
     (left : IsLeftBySearch parts g.choice solve.settings g) (fits : 1 < solve.settings.workers → FitsWord g.incumbent) where
@@ -114,7 +113,6 @@ module _ (solve : SolveMeaning) (steps : ℕ) (range : IsFallingInRange (record 
       task = task;
       graph_of = graph_of;
       finest = finest;
-      asked = by;
       settings = settings ∙ first_settings;
       reopenings = ap (λ (p : Past). p.reopenings) past;
       first = λ zero. spent_none;
@@ -258,7 +256,6 @@ module _ (before : List Claim) (machine : Machine) (search : FallingValue) (f : 
     task = its_task;
     graph_of = subst (λ (a : AbstractGraph). IsGraphOf search.parts a) (sym same_blocks) f.graph_of;
     finest = subst (λ (a : AbstractGraph). IsFinest search.parts search.solve.settings.wish a.projection) (sym same_blocks) f.finest;
-    asked = subst (λ (c : Choice). IsChoiceAsked search.solve search.parts c) (sym same_choice) f.asked;
     settings = its_settings;
     reopenings = ap (λ (p : Past). p.reopenings) of.past ∙ reopened.reopenings ∙ ap (λ n. n + 1) f.reopenings;
     first = λ zero. absurd (omega (arith, zero));

@@ -50,15 +50,13 @@ module _ (before : List Claim) (machine : Machine) (search : FallingValue) (f : 
   -- what is handed out last makes all of it
   pub all_found : (said : Said) → SaysNow before machine search said → IsLast search → (all : Said) → all.status ≡ said.status
       → all.report ≡ report_of (handed_out ++ part_of said ∷ []) → all.outputs ≡ outputs_of (handed_out ++ part_of said ∷ [])
-      → IsFallingFound search.solve search.parts search.steps all (handed_out ++ part_of said ∷ [])
+      → IsFallingFound search.solve search.graph.choice search.parts search.steps all (handed_out ++ part_of said ∷ [])
   all_found said now last all status report outputs = record {
     report = report;
     outputs = outputs;
     abstraction = search.graph.table.abstraction;
     graph_of = f.graph_of;
     finest = f.finest;
-    choice = search.graph.choice;
-    asked = f.asked;
     found = go now;
   }
     where

@@ -109,44 +109,44 @@ without_last (part ∷ said) last none = ap (λ (o : List Output). part.outputs 
 abbrev pub AreOfFirstRuns : SolveMeaning → (steps : ℕ) → List Output → Type 0
 AreOfFirstRuns solve steps outputs = (runs : ℕ) × (runs ≤ steps + 1) × (names_of outputs ≡ run_names solve.certificate 0 runs)
 
-module _ (solve : SolveMeaning) (parts : TaskParts) (steps : ℕ) where
-  pub names_of_first : (handed_out : List AnswerPart) → AreClaimParts solve parts steps handed_out → AreOfFirstRuns solve steps (outputs_of handed_out)
-  names_of_first handed_out first = (length first.claims, first.falling.few, claims_names solve parts first.abstraction first.choice steps 0 first.claims handed_out first.say)
+module _ (solve : SolveMeaning) (choice : Choice) (parts : TaskParts) (steps : ℕ) where
+  pub names_of_first : (handed_out : List AnswerPart) → AreClaimParts solve choice parts steps handed_out → AreOfFirstRuns solve steps (outputs_of handed_out)
+  names_of_first handed_out first = (length first.claims, first.falling.few, claims_names solve parts first.abstraction choice steps 0 first.claims handed_out first.say)
 
-  names_of_cheapest : (abstraction : AbstractGraph) (choice : Choice) (handed_out : List AnswerPart) → IsProvedCheapest solve parts abstraction choice steps handed_out → AreOfFirstRuns solve steps (outputs_of handed_out)
-  names_of_cheapest abstraction choice handed_out (claims, last, falling, say, improvable, bound, cheapest) =
+  names_of_cheapest : (abstraction : AbstractGraph) (handed_out : List AnswerPart) → IsProvedCheapest solve parts abstraction choice steps handed_out → AreOfFirstRuns solve steps (outputs_of handed_out)
+  names_of_cheapest abstraction handed_out (claims, last, falling, say, improvable, bound, cheapest) =
       (length (claims ++ last ∷ []), falling.few, claims_names solve parts abstraction choice steps 0 (claims ++ last ∷ []) handed_out say)
 
-  names_of_none : (abstraction : AbstractGraph) (choice : Choice) (handed_out : List AnswerPart) → IsFallingNone solve parts abstraction choice steps handed_out → AreOfFirstRuns solve steps (outputs_of handed_out)
-  names_of_none abstraction choice handed_out (part, says, is) =
+  names_of_none : (abstraction : AbstractGraph) (handed_out : List AnswerPart) → IsFallingNone solve parts abstraction choice steps handed_out → AreOfFirstRuns solve steps (outputs_of handed_out)
+  names_of_none abstraction handed_out (part, says, is) =
       subst (λ (h : List AnswerPart). AreOfFirstRuns solve steps (outputs_of h)) (sym is)
       (1, omega arith, one_more_run solve.certificate 0 0 part.outputs [] (none_file solve parts abstraction choice steps part says) (sym (no_runs solve.certificate 1)))
 
-  names_of_stop : (abstraction : AbstractGraph) (choice : Choice) (handed_out : List AnswerPart) → IsFallingStop solve parts abstraction choice steps handed_out → AreOfFirstRuns solve steps (outputs_of handed_out)
-  names_of_stop abstraction choice handed_out (claims, said, last, falling, say, improvable, stops, is) =
+  names_of_stop : (abstraction : AbstractGraph) (handed_out : List AnswerPart) → IsFallingStop solve parts abstraction choice steps handed_out → AreOfFirstRuns solve steps (outputs_of handed_out)
+  names_of_stop abstraction handed_out (claims, said, last, falling, say, improvable, stops, is) =
       subst (λ (h : List AnswerPart). AreOfFirstRuns solve steps (outputs_of h)) (sym is) (
         length claims,
         falling.few,
         ap names_of (without_last said last stops.2) ∙ claims_names solve parts abstraction choice steps 0 claims said say,
       )
 
-  pub names_of_found : (said : Said) (handed_out : List AnswerPart) → IsFallingFound solve parts steps said handed_out → AreOfFirstRuns solve steps (outputs_of handed_out)
+  pub names_of_found : (said : Said) (handed_out : List AnswerPart) → IsFallingFound solve choice parts steps said handed_out → AreOfFirstRuns solve steps (outputs_of handed_out)
   names_of_found said handed_out all = go all.found
     where
-      go : ((said.status ≡ 0) × IsProvedCheapest solve parts all.abstraction all.choice steps handed_out)
-          ⊎ (((said.status ≡ 1) × IsFallingNone solve parts all.abstraction all.choice steps handed_out)
-          ⊎ ((said.status ≡ 2) × IsFallingStop solve parts all.abstraction all.choice steps handed_out)) → AreOfFirstRuns solve steps (outputs_of handed_out)
-      go (inl (status, found)) = names_of_cheapest all.abstraction all.choice handed_out found
-      go (inr (inl (status, found))) = names_of_none all.abstraction all.choice handed_out found
-      go (inr (inr (status, found))) = names_of_stop all.abstraction all.choice handed_out found
+      go : ((said.status ≡ 0) × IsProvedCheapest solve parts all.abstraction choice steps handed_out)
+          ⊎ (((said.status ≡ 1) × IsFallingNone solve parts all.abstraction choice steps handed_out)
+          ⊎ ((said.status ≡ 2) × IsFallingStop solve parts all.abstraction choice steps handed_out)) → AreOfFirstRuns solve steps (outputs_of handed_out)
+      go (inl (status, found)) = names_of_cheapest all.abstraction handed_out found
+      go (inr (inl (status, found))) = names_of_none all.abstraction handed_out found
+      go (inr (inr (status, found))) = names_of_stop all.abstraction handed_out found
 
   -- the status of all that is handed out
-  pub found_status : (said : Said) (handed_out : List AnswerPart) → IsFallingFound solve parts steps said handed_out → (said.status ≡ 0) ⊎ ((said.status ≡ 1) ⊎ (said.status ≡ 2))
+  pub found_status : (said : Said) (handed_out : List AnswerPart) → IsFallingFound solve choice parts steps said handed_out → (said.status ≡ 0) ⊎ ((said.status ≡ 1) ⊎ (said.status ≡ 2))
   found_status said handed_out all = go all.found
     where
-      go : ((said.status ≡ 0) × IsProvedCheapest solve parts all.abstraction all.choice steps handed_out)
-          ⊎ (((said.status ≡ 1) × IsFallingNone solve parts all.abstraction all.choice steps handed_out)
-          ⊎ ((said.status ≡ 2) × IsFallingStop solve parts all.abstraction all.choice steps handed_out)) → (said.status ≡ 0) ⊎ ((said.status ≡ 1) ⊎ (said.status ≡ 2))
+      go : ((said.status ≡ 0) × IsProvedCheapest solve parts all.abstraction choice steps handed_out)
+          ⊎ (((said.status ≡ 1) × IsFallingNone solve parts all.abstraction choice steps handed_out)
+          ⊎ ((said.status ≡ 2) × IsFallingStop solve parts all.abstraction choice steps handed_out)) → (said.status ≡ 0) ⊎ ((said.status ≡ 1) ⊎ (said.status ≡ 2))
       go (inl found) = inl found.0
       go (inr (inl found)) = inr (inl found.0)
       go (inr (inr found)) = inr (inr found.0)

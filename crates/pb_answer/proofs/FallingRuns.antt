@@ -1,5 +1,5 @@
 -- What a search with falling weights claims after its runs.
-use Rattle.std.proofs.Common.{◌≡◌, ◌≤◌, ◌+◌, ℕ, Option, None, Some, List, [], ◌∷◌, ◌++◌, length, refl, sym, ap, ◌∙◌, subst, arith}
+use Rattle.std.proofs.Common.{◌≡◌, ◌≤◌, ◌+◌, ℕ, true, Option, None, Some, List, [], ◌∷◌, ◌++◌, length, refl, sym, ap, ◌∙◌, subst, arith}
 use Rattle.pb_model.specs.Weight.{IsWeight}
 use Rattle.pb_model.specs.Space.{IsProper}
 use Rattle.pb_model.specs.Store.{Store}
@@ -15,7 +15,7 @@ use Rattle.pb_machine.specs.Lawful.{reopened_machine, reopened_setup}
 use Rattle.pb_machine.proofs.Callers.{opening_is_lawful}
 use Rattle.pb_task.specs.declared.parts.TaskParts.{TaskParts}
 use Rattle.pb_task.specs.Parts.{space_of, greatest_cost, IsTask}
-use Rattle.pb_estimate.specs.Estimates.{estimate_by}
+use Rattle.pb_estimate.specs.Estimates.{estimate_by, suits}
 use Rattle.pb_estimate.proofs.Callers.{estimates_are_admissible}
 use Rattle.pb_abstract.specs.Graph.{blocks_of}
 use Rattle.pb_lease.specs.Leased.{guide_of}
@@ -28,7 +28,6 @@ use Rattle.pb_falling.proofs.Callers.{all_weights, claims_before, claims_grow, o
 use Rattle.pb_answer.specs.Searches.{weight_asked}
 use Rattle.pb_answer.specs.Falling.{IsOfQuietRun, AreOfQuietRuns, AreFalling}
 use Rattle.pb_answer.specs.FallingRuns.{FallingValue, weight_now, guide_in, setup_asked, claim_now, KeepsPlan, IsRunOf, IsFalling}
-use Rattle.pb_answer.proofs.Asked.{asked_suits}
 
 -- one more claim, that of a quiet run after the others
 quiet_runs_grow : (setup : Setup) (begin : Machine) (before : Option Plan) (claims : List Claim) (claim : Claim) → AreOfQuietRuns setup begin claims
@@ -44,6 +43,10 @@ module _ (before : List Claim) (machine : Machine) (search : FallingValue) (f : 
 
   pub its_task : IsTask search.parts
   its_task = subst IsTask f.task f.lawful.is_task
+
+  -- the choice by which all runs go suits the task
+  pub suits_here : suits search.parts search.graph.choice ≡ true
+  suits_here = subst (λ (p : TaskParts). suits p search.graph.choice ≡ true) f.task f.lawful.suits
 
   pub its_weight : IsWeight (weight_asked search.solve)
   its_weight = f.range.solve.settings.weight
@@ -67,7 +70,7 @@ module _ (before : List Claim) (machine : Machine) (search : FallingValue) (f : 
       }
 
   admissible : IsAdmissible (space_of search.parts) (estimate_by search.parts search.graph.choice)
-  admissible = estimates_are_admissible search.parts search.graph.choice its_task (asked_suits search.solve search.parts search.graph.choice f.range.solve f.asked)
+  admissible = estimates_are_admissible search.parts search.graph.choice its_task suits_here
 
   falling_by : (claims : List Claim) → AreClaims setup (opening_machine setup) None claims → AreOfQuietRuns setup (opening_machine setup) claims → HaveWeights (weight_asked search.solve) search.steps 0 claims → length claims ≤ search.steps + 1 → ClaimsHold
       → AreFalling search.solve search.parts search.graph.table.abstraction search.graph.choice search.steps claims

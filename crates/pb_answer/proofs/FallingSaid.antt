@@ -26,7 +26,7 @@ use Rattle.pb_report.specs.Texts.{AreActions, claim_text}
 use Rattle.pb_command.specs.Meaning.{SolveMeaning, IsSolveInRange}
 use Rattle.pb_command.specs.Values.{are_one_name}
 use Rattle.pb_answer.specs.Outputs.{Output}
-use Rattle.pb_answer.specs.Searches.{settings_of, weight_asked, IsChoiceAsked}
+use Rattle.pb_answer.specs.Searches.{settings_of, weight_asked}
 use Rattle.pb_answer.specs.Claims.{IsCertificate}
 use Rattle.pb_answer.specs.Ended.{guide_by, CanBeCertified}
 use Rattle.pb_answer.specs.Answer.{Said}
@@ -70,6 +70,7 @@ module _ (before : List Claim) (machine : Machine) (search : FallingValue) (f : 
         engine = λ owners. refl;
         effort = f.range.solve.effort;
         estimate = f.range.solve.estimate;
+        tables = f.range.solve.tables;
       }
 
   -- the words of the run: the settings are the graph's, and the name is the search's
@@ -87,9 +88,6 @@ module _ (before : List Claim) (machine : Machine) (search : FallingValue) (f : 
   module _ (solve : SolveMeaning) (words : solve ≡ asked_now search) where
     pub in_range : IsSolveInRange solve
     in_range = subst IsSolveInRange (sym words) asked_in_range
-
-    pub asked_here : IsChoiceAsked solve search.parts search.graph.choice
-    asked_here = subst (λ (s : SolveMeaning). IsChoiceAsked s search.parts search.graph.choice) (sym words) f.asked
 
     pub weight_here : (home_store search.graph).weight ≡ weight_asked solve
     weight_here = ap (λ (s : Settings). record { num = s.num; den = s.den }) f.settings ∙ ap weight_asked (sym words)

@@ -17,6 +17,7 @@ use Rattle.pb_tiles.specs.declared.error.TilesError.{TilesError}
 use Rattle.pb_tiles.specs.Reading.{tiles_reading}
 use Rattle.pb_task.specs.Parts.{space_of, action_name, IsTask, greatest_cost}
 use Rattle.pb_model.proofs.Callers.{not_both, by_cases, equal}
+use Rattle.pb_estimate.specs.Choices.{Choice}
 use Rattle.pb_strips.specs.Naming.{AreTellingNames}
 use Rattle.pb_task.proofs.Callers.{tasks_are_proper}
 use Rattle.pb_report.specs.Texts.{plan_text, input_text, tiles_text}
@@ -128,8 +129,8 @@ same_actions parts names (x ∷ xs) (y ∷ ys) h k e =
 -- ---- the plan that a report tells
 
 module _ (parts : TaskParts) (lawful : IsTask parts) (names : NamesTell parts) (report : List ℕ)
-    (saves : List Output → Type 0) (solve : SolveMeaning)
-    (solves : Solves (λ text. report ≡ text) saves solve parts) where
+    (saves : List Output → Type 0) (solve : SolveMeaning) (choice : Choice)
+    (solves : Solves (λ text. report ≡ text) saves solve choice parts) where
   proper : IsProper (space_of parts) greatest_cost
   proper = (tasks_are_proper parts lawful).0
 
@@ -154,9 +155,9 @@ module _ (parts : TaskParts) (lawful : IsTask parts) (names : NamesTell parts) (
       (walk_actions (space_of parts) greatest_cost proper plan.actions (space_of parts).start plan.cost is.0 is.1) steps in
       λ i. record { actions = actions i; cost = cost i }
 
-  pub saves_plan : SavesPlan (λ text. report ≡ text) saves solve parts
+  pub saves_plan : SavesPlan (λ text. report ≡ text) saves solve choice parts
   saves_plan plan bound is small says =
-      subst (λ (p : Plan). Certifies saves solve parts (Some p)) (same_plan plan bound is small says)
+      subst (λ (p : Plan). Certifies saves solve choice parts (Some p)) (same_plan plan bound is small says)
       solves.6
 
 -- where a task is given only with telling names, what is returned has them

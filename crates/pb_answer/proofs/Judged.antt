@@ -13,12 +13,7 @@ use Rattle.pb_journal.specs.Judging.{settings_of, judged}
 use Rattle.pb_journal.specs.Shown.{IsFinishedJournal, IsFirstFault}
 use Rattle.pb_journal.proofs.Callers.{refused_lines_are_first}
 use Rattle.pb_answer.specs.Journals.{IsJournalGraph, IsEventFault, IsNoJournalOf, GivesJournal}
-
-not_fault : {A B C : Type 0} (x : A) (fault : C) → ◌≡◌ {A = Result A C} (Ok x) (Err fault) → B
-not_fault x fault e = cc
-
-same_value : {A C : Type 0} (one other : A) → ◌≡◌ {A = Result A C} (Ok one) (Ok other) → one ≡ other
-same_value one other e = cc
+use Rattle.pb_answer.proofs.Results.{not_fault, same_value}
 
 -- what the judge of a text over these blocks says
 pub record AnswersRightly (blocks : Blocks) (text : List ℕ) (result : Result ℕ JournalError)

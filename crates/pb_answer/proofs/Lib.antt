@@ -2,7 +2,9 @@ pub mod Callers
 mod Reports
 mod Groups
 mod Certified
+mod Results
 mod Asked
+mod SolveTask
 mod ByLeases
 mod ByOwners
 mod Judged

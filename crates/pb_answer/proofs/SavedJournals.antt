@@ -34,11 +34,12 @@ pub record SavesJournal (saves : List Output → Type 0) (solve : SolveMeaning) 
   pub short : length (journal_text (settings_of solve) events) ≤ most_bytes (length events)
 
 module _ (written : WrittenJournalsAreAccepted) (lengths : JournalTextsAreShort)
-    (solve : SolveMeaning) (engine : solve.engine ≡ Leases) (parts : TaskParts) where
-  is_journal : (choice : Choice) (end : End) (events : List Event)
+    (solve : SolveMeaning) (engine : solve.engine ≡ Leases) (choice : Choice)
+    (parts : TaskParts) where
+  is_journal : (end : End) (events : List Event)
       → SearchEnds parts choice (settings_of solve) end events
       → IsJournalOf parts (journal_text (settings_of solve) events) (length events)
-  is_journal choice end events run =
+  is_journal end events run =
       let ends = run.ends in
       let legal : IsHistory (blocks_of ends.abstraction) (settings_of solve) 0 events ends.run.machine.counts =
       subst (λ (j : List Event).
@@ -65,10 +66,10 @@ module _ (written : WrittenJournalsAreAccepted) (lengths : JournalTextsAreShort)
         };
       }
 
-  is_short : (choice : Choice) (end : End) (events : List Event)
+  is_short : (end : End) (events : List Event)
       → SearchEnds parts choice (settings_of solve) end events
       → length (journal_text (settings_of solve) events) ≤ most_bytes (length events)
-  is_short choice end events run =
+  is_short end events run =
       lengths (blocks_of run.ends.abstraction) (settings_of solve) events run.ends.run.machine.counts
       run.ends.few
       (subst (λ (j : List Event).
@@ -76,27 +77,27 @@ module _ (written : WrittenJournalsAreAccepted) (lengths : JournalTextsAreShort)
       (sym run.events) run.ends.run.legal)
 
   pub of_quiet : (saves : List Output → Type 0) (plan : Option Plan)
-      → Certifies saves solve parts plan → SavesJournal saves solve parts
-  of_quiet saves plan (choice, by, left, leaves, found, outputs, certificate, saved) =
+      → Certifies saves solve choice parts plan → SavesJournal saves solve parts
+  of_quiet saves plan (left, leaves, found, outputs, certificate, saved) =
       let left_so = by_engine solve Leases engine parts choice Quiet left leaves in
       record {
         events = left_so.0;
         first = outputs;
         saved = subst (λ (l : Left).
             saves (outputs ++ journal_outputs_if_any solve.journal (settings_of solve) l.journal)) left_so.2 saved;
-        legal = is_journal choice _ left_so.0 left_so.1;
-        short = is_short choice _ left_so.0 left_so.1;
+        legal = is_journal _ left_so.0 left_so.1;
+        short = is_short _ left_so.0 left_so.1;
       }
 
-  pub of_stopped : (saves : List Output → Type 0) → Stops saves solve parts
+  pub of_stopped : (saves : List Output → Type 0) → Stops saves solve choice parts
       → SavesJournal saves solve parts
-  of_stopped saves (choice, by, left, leaves, saved) =
+  of_stopped saves (left, leaves, saved) =
       let left_so = by_engine solve Leases engine parts choice Budget left leaves in
       record {
         events = left_so.0;
         first = [];
         saved = subst (λ (l : Left).
             saves (journal_outputs_if_any solve.journal (settings_of solve) l.journal)) left_so.2 saved;
-        legal = is_journal choice _ left_so.0 left_so.1;
-        short = is_short choice _ left_so.0 left_so.1;
+        legal = is_journal _ left_so.0 left_so.1;
+        short = is_short _ left_so.0 left_so.1;
       }

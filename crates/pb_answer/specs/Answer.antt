@@ -4,13 +4,15 @@ use Rattle.pb_model.specs.Plan.{HasNoPlan}
 use Rattle.pb_model.specs.Texts.{none_report, stopped_report}
 use Rattle.pb_task.specs.declared.parts.TaskParts.{TaskParts}
 use Rattle.pb_task.specs.Parts.{space_of}
+use Rattle.pb_tables.specs.Tables.{TablesValue}
+use Rattle.pb_estimate.specs.Choices.{Choice}
 use Rattle.pb_cert.specs.Stated.{text_of}
 use Rattle.pb_cert.specs.Rewritten.{text_saved}
 use Rattle.pb_journal.specs.Texts.{journal_text}
 use Rattle.pb_command.specs.Meaning.{SolveMeaning, CheckMeaning}
 use Rattle.pb_answer.specs.Statuses.{number_of}
 use Rattle.pb_answer.specs.Outputs.{Output, output}
-use Rattle.pb_answer.specs.Searches.{weight_asked}
+use Rattle.pb_answer.specs.Searches.{weight_asked, ByAskedChoice}
 use Rattle.pb_answer.specs.Claims.{Certifies, Stops, Solves, PrintsLeastCost, SavesPlan, rewritten_outputs, Accepts, Rejects}
 use Rattle.pb_answer.specs.Journals.{AcceptsJournal, RejectsJournal}
 use Rattle.pb_answer.specs.declared.answer.Answer.{Answer}
@@ -58,29 +60,37 @@ Saves said outputs = said.outputs ≡ outputs
 
 -- ---- of a task that is to be solved
 
--- A plan is reported that a search as the words ask for it found. Certificate and journal of that
--- search are saved, each if it has a name. Whatever plan is read off the report, it is the one that
--- all this is said of.
-abbrev pub IsSolved : SolveMeaning → TaskParts → Said → Type 0
-IsSolved solve parts said =
-    (said.status ≡ 0) × Solves (Says said) (Saves said) solve parts
+-- A plan is reported that a search as the words ask for it, by this choice of an estimate, found.
+-- Certificate and journal of that search are saved, each if it has a name. Whatever plan is read off
+-- the report, it is the one that all this is said of.
+abbrev pub IsSolved : SolveMeaning → Choice → TaskParts → Said → Type 0
+IsSolved solve choice parts said =
+    (said.status ≡ 0) × Solves (Says said) (Saves said) solve choice parts
     × PrintsLeastCost (Says said) parts (weight_asked solve)
-    × SavesPlan (Says said) (Saves said) solve parts
+    × SavesPlan (Says said) (Saves said) solve choice parts
 
 -- it is reported that there is no plan, with the certificate of that
-abbrev pub IsUnsolvable : SolveMeaning → TaskParts → Said → Type 0
-IsUnsolvable solve parts said =
+abbrev pub IsUnsolvable : SolveMeaning → Choice → TaskParts → Said → Type 0
+IsUnsolvable solve choice parts said =
     (said.status ≡ 1) × Says said none_report × HasNoPlan (space_of parts)
-    × Certifies (Saves said) solve parts None
+    × Certifies (Saves said) solve choice parts None
 
 -- a search as the words ask for it used up its budget of expansions, and there is no certificate
-abbrev pub IsStopped : SolveMeaning → TaskParts → Said → Type 0
-IsStopped solve parts said =
-    (said.status ≡ 2) × Says said (stopped_report solve.settings.budget) × Stops (Saves said) solve parts
+abbrev pub IsStopped : SolveMeaning → Choice → TaskParts → Said → Type 0
+IsStopped solve choice parts said =
+    (said.status ≡ 2) × Says said (stopped_report solve.settings.budget)
+    × Stops (Saves said) solve choice parts
 
-abbrev pub IsFound : SolveMeaning → TaskParts → Said → Type 0
-IsFound solve parts said =
-    IsSolved solve parts said ⊎ (IsUnsolvable solve parts said ⊎ IsStopped solve parts said)
+abbrev pub IsFound : SolveMeaning → Choice → TaskParts → Said → Type 0
+IsFound solve choice parts said =
+    IsSolved solve choice parts said
+    ⊎ (IsUnsolvable solve choice parts said ⊎ IsStopped solve choice parts said)
+
+-- All this is said of one search of the task that was read, with the tables of a file or without.
+-- The search went by a choice of an estimate that the words ask for.
+abbrev pub IsFoundOf : SolveMeaning → (read : TaskParts × Option TablesValue) → Said → Type 0
+IsFoundOf solve read said =
+    ByAskedChoice solve read (λ choice parts. IsFound solve choice parts said)
 
 -- ---- of a certificate that is to be checked
 

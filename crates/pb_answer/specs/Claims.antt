@@ -22,7 +22,7 @@ use Rattle.pb_cert.specs.Rewritten.{rewritten_text}
 use Rattle.pb_report.specs.Texts.{plan_text, verdict_text, fault_text}
 use Rattle.pb_command.specs.Meaning.{SolveMeaning, CheckMeaning}
 use Rattle.pb_answer.specs.Outputs.{Output, output}
-use Rattle.pb_answer.specs.Searches.{settings_of, weight_asked, IsChoiceAsked}
+use Rattle.pb_answer.specs.Searches.{settings_of, weight_asked}
 use Rattle.pb_answer.specs.Engines.{engine_asked, Left, SearchLeaves, FindsIn}
 
 -- ---- of a search
@@ -51,12 +51,12 @@ journal_outputs_if_any name settings (Some journal) = journal_outputs name setti
 
 -- A search of the task, as the words ask for it, came to a quiet end. It found this plan, which is
 -- the one that its rows lead to, or it found none. What is saved is its certificate and, after
--- that, its journal, each if it has a name. The search went by a choice of an estimate that the
--- words ask for, and the certificate states it.
-abbrev pub Certifies : (saves : List Output → Type 0) → SolveMeaning → TaskParts → Option Plan
-    → Type 0
-Certifies saves solve parts plan =
-    (choice : Choice) × IsChoiceAsked solve parts choice × (left : Left)
+-- that, its journal, each if it has a name. The search went by this choice of an estimate, and the
+-- certificate states it.
+abbrev pub Certifies : (saves : List Output → Type 0) → SolveMeaning → Choice → TaskParts
+    → Option Plan → Type 0
+Certifies saves solve choice parts plan =
+    (left : Left)
     × SearchLeaves (engine_asked solve) parts choice (settings_of solve) Quiet left
     × FindsIn (space_of parts) left plan
     × (outputs : List Output)
@@ -64,25 +64,25 @@ Certifies saves solve parts plan =
     outputs
     × saves (outputs ++ journal_outputs_if_any solve.journal (settings_of solve) left.journal)
 
--- A search of the task, as the words ask for it, came to the end of its budget. What is saved is
--- its journal, if it has a name.
-abbrev pub Stops : (saves : List Output → Type 0) → SolveMeaning → TaskParts → Type 0
-Stops saves solve parts =
-    (choice : Choice) × IsChoiceAsked solve parts choice × (left : Left)
+-- A search of the task, as the words ask for it and by this choice of an estimate, came to the end
+-- of its budget. What is saved is its journal, if it has a name.
+abbrev pub Stops : (saves : List Output → Type 0) → SolveMeaning → Choice → TaskParts → Type 0
+Stops saves solve choice parts =
+    (left : Left)
     × SearchLeaves (engine_asked solve) parts choice (settings_of solve) Budget left
     × saves (journal_outputs_if_any solve.journal (settings_of solve) left.journal)
 
 -- All of one plan: it is printed with its cost and bound and is a plan of the task. Its cost is at
 -- most num / den times that of any plan, at the weight num / den. The rows of a search as the words
--- ask for it lead to it, and it is saved in the certificate of that search. Its cost is a number of
--- 64 bits.
+-- ask for it, by this choice of an estimate, lead to it, and it is saved in the certificate of that
+-- search. Its cost is a number of 64 bits.
 abbrev pub Solves : (says : List ℕ → Type 0) → (saves : List Output → Type 0) → SolveMeaning
-    → TaskParts → Type 0
-Solves says saves solve parts =
+    → Choice → TaskParts → Type 0
+Solves says saves solve choice parts =
     (plan : Plan) × (bound : ℕ) × says (plan_text parts plan bound) × IsPlan (space_of parts) plan
     × IsBound (weight_asked solve) plan.cost bound
     × NoneCheaper (space_of parts) (weight_asked solve) plan.cost
-    × Certifies saves solve parts (Some plan) × (plan.cost < 2 ^ 64)
+    × Certifies saves solve choice parts (Some plan) × (plan.cost < 2 ^ 64)
 
 -- A plan of the task is printed, with its cost and bound.
 abbrev pub PrintsPlan : (says : List ℕ → Type 0) → TaskParts → Weight → Type 0
@@ -100,10 +100,10 @@ PrintsLeastCost says parts weight =
 -- The saved certificate is that of the search and is accepted, and its plan is the one that is
 -- printed.
 abbrev pub SavesPlan : (says : List ℕ → Type 0) → (saves : List Output → Type 0) → SolveMeaning
-    → TaskParts → Type 0
-SavesPlan says saves solve parts =
+    → Choice → TaskParts → Type 0
+SavesPlan says saves solve choice parts =
     (plan : Plan) (bound : ℕ) → IsPlan (space_of parts) plan → plan.cost < 2 ^ 64
-    → says (plan_text parts plan bound) → Certifies saves solve parts (Some plan)
+    → says (plan_text parts plan bound) → Certifies saves solve choice parts (Some plan)
 
 -- ---- of a certificate that is checked
 

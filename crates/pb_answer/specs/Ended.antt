@@ -15,7 +15,7 @@ use Rattle.pb_lists.specs.Store.{guide_with, IsQuietEnd}
 use Rattle.pb_check.specs.Spelling.{PlanFitsIfAny}
 use Rattle.pb_command.specs.Meaning.{SolveMeaning}
 use Rattle.pb_answer.specs.Outputs.{Output}
-use Rattle.pb_answer.specs.Searches.{settings_of, weight_asked, IsChoiceAsked}
+use Rattle.pb_answer.specs.Searches.{settings_of, weight_asked}
 use Rattle.pb_answer.specs.Engines.{Left, engine_asked, SearchLeaves}
 use Rattle.pb_answer.specs.Claims.{journal_outputs_if_any}
 
@@ -30,7 +30,6 @@ left_with guide store journal = record { guide = guide; store = store; journal =
 -- end. It left these rows, whose states have these homes, and its journal is to be saved so.
 pub record LeavesQuietRows (solve : SolveMeaning) (parts : TaskParts) (choice : Choice)
     (homes : ℕ → ℕ) (store : Store) (saved : List Output) : Type 0 where
-  pub asked : IsChoiceAsked solve parts choice
   pub end : IsQuietEnd (space_of parts) (guide_by parts choice homes) store
   pub weight : store.weight ≡ weight_asked solve
   pub journal : Option (List Event)

@@ -18,7 +18,7 @@ use Rattle.pb_search.specs.Ends.{search_of, searched_guide, RunEnds}
 use Rattle.pb_falling.specs.Falling.{weight_at, Claim, AreClaims, AfterClaims, HaveWeights, CostsFall}
 use Rattle.pb_report.specs.Texts.{claim_text}
 use Rattle.pb_command.specs.Meaning.{SolveMeaning}
-use Rattle.pb_answer.specs.Searches.{settings_of, weight_asked, IsChoiceAsked}
+use Rattle.pb_answer.specs.Searches.{settings_of, weight_asked}
 use Rattle.pb_answer.specs.Claims.{IsCertificate}
 use Rattle.pb_answer.specs.Answer.{Said}
 use Rattle.pb_answer.specs.Parts.{AnswerPart, outputs_of, report_of}
@@ -175,14 +175,12 @@ IsFallingStop solve parts abstraction choice steps handed_out =
 
 -- What is handed out first, before it is known what comes after it: each part says a claim, and of
 -- none is the bound the cost, so another run is due. The blocks are those of the task, and the
--- finest that are no more than the words wish for. The estimate is one that the words ask for.
-pub record AreClaimParts (solve : SolveMeaning) (parts : TaskParts) (steps : ℕ)
+-- finest that are no more than the words wish for. All runs go by this choice of an estimate.
+pub record AreClaimParts (solve : SolveMeaning) (choice : Choice) (parts : TaskParts) (steps : ℕ)
     (handed_out : List AnswerPart) : Type 0 where
   pub abstraction : AbstractGraph
   pub graph_of : IsGraphOf parts abstraction
   pub finest : IsFinest parts solve.settings.wish abstraction.projection
-  pub choice : Choice
-  pub asked : IsChoiceAsked solve parts choice
   pub claims : List Claim
   pub falling : AreFalling solve parts abstraction choice steps claims
   pub say : SayClaims solve parts abstraction choice steps 0 claims handed_out
@@ -190,16 +188,14 @@ pub record AreClaimParts (solve : SolveMeaning) (parts : TaskParts) (steps : ℕ
 
 -- All that is handed out of a search with falling weights, part by part, if nothing fails. The
 -- blocks are those of the task, and the finest that are no more than the words wish for. All runs
--- go by one estimate that the words ask for.
-pub record IsFallingFound (solve : SolveMeaning) (parts : TaskParts) (steps : ℕ) (said : Said)
-    (handed_out : List AnswerPart) : Type 0 where
+-- go by this choice of an estimate.
+pub record IsFallingFound (solve : SolveMeaning) (choice : Choice) (parts : TaskParts) (steps : ℕ)
+    (said : Said) (handed_out : List AnswerPart) : Type 0 where
   pub report : said.report ≡ report_of handed_out
   pub outputs : said.outputs ≡ outputs_of handed_out
   pub abstraction : AbstractGraph
   pub graph_of : IsGraphOf parts abstraction
   pub finest : IsFinest parts solve.settings.wish abstraction.projection
-  pub choice : Choice
-  pub asked : IsChoiceAsked solve parts choice
   pub found : ((said.status ≡ 0) × IsProvedCheapest solve parts abstraction choice steps handed_out)
       ⊎ (((said.status ≡ 1) × IsFallingNone solve parts abstraction choice steps handed_out)
       ⊎ ((said.status ≡ 2) × IsFallingStop solve parts abstraction choice steps handed_out))

@@ -21,7 +21,7 @@ use Rattle.pb_cert.specs.Found.{IsPlanOf}
 use Rattle.pb_check.specs.Spelling.{PlanFits, PlanFitsIfAny}
 use Rattle.pb_falling.specs.Falling.{weight_at, kept_plan, Claim, AfterClaims, HaveWeights}
 use Rattle.pb_command.specs.Meaning.{SolveMeaning, IsFallingInRange}
-use Rattle.pb_answer.specs.Searches.{settings_of, weight_asked, IsChoiceAsked}
+use Rattle.pb_answer.specs.Searches.{settings_of, weight_asked}
 use Rattle.pb_answer.specs.Answer.{Said}
 use Rattle.pb_answer.specs.Parts.{AnswerPart}
 use Rattle.pb_answer.specs.Falling.{asked_of_run, first_setup, AreOfQuietRuns, AreFalling, MayBeImproved, SaysClaim, SaysNone, SaysStop}
@@ -97,7 +97,6 @@ pub record IsFalling (before : List Claim) (machine : Machine) (search : Falling
     pub graph_of : IsGraphOf search.parts search.graph.table.abstraction
     pub finest : IsFinest search.parts search.solve.settings.wish
         search.graph.table.abstraction.projection
-    pub asked : IsChoiceAsked search.solve search.parts search.graph.choice
     pub settings : search.graph.table.settings
         ≡ settings_of (asked_of_run search.solve search.steps search.run)
     pub reopenings : search.graph.table.past.reopenings ≡ search.run

@@ -1,5 +1,7 @@
 pub use Rattle.pb_command.specs.Causes
 pub use Rattle.pb_command.specs.Meaning
+pub use Rattle.pb_estimate.specs.Choices
+pub use Rattle.pb_estimate.specs.Estimates
 pub mod Statuses
 pub mod Loaded
 pub mod Long

@@ -2,14 +2,21 @@
 -- that refuses them. The task of each kind is in `input_task`. The words for the row and for swamp
 -- are part of what spells a grid, and the word for the grounding is part of what spells a STRIPS
 -- task.
-use Rattle.std.specs.Prelude.{◌≡◌, ℕ, ◌+◌, Option, None, Some, List, [], Result, Ok, Err, slice_get}
+use Rattle.std.specs.Prelude.{◌≡◌, ℕ, ◌+◌, Bool, true, false, Option, None, Some, List, [], Result, Ok, Err, slice_get}
 use Rattle.pb_model.specs.Texts.{line}
 use Rattle.pb_task.specs.declared.parts.TaskParts.{TaskParts}
 use Rattle.pb_task.specs.declared.parts.TaskParts.TheVariants as parts
 use Rattle.pb_task.specs.declared.parts.TilesParts.{TilesParts}
+use Rattle.pb_task.specs.declared.parts.StripsParts.{StripsParts}
 use Rattle.pb_task.specs.declared.grounding.Grounding.{Grounding}
 use Rattle.pb_task.specs.declared.grounding.Grounding.TheVariants.{All}
 use Rattle.pb_task.specs.Groundings.{grounding_of}
+use Rattle.pb_task.specs.Widths.{width_of}
+use Rattle.pb_tables.specs.declared.fault.TablesFault.{TablesFault}
+use Rattle.pb_tables.specs.Tables.{TablesValue}
+use Rattle.pb_tables.specs.Suits.{tables_fault}
+use Rattle.pb_table_lines.specs.Reading.{tables_reading}
+use Rattle.pb_estimate.specs.Choices.{Choice}
 use Rattle.pb_grid.specs.declared.error.GridError.{GridError}
 use Rattle.pb_grid.specs.Reading.{grid_reading, task_of}
 use Rattle.pb_tiles.specs.declared.error.TilesError.{TilesError}
@@ -21,11 +28,12 @@ use Rattle.pb_pddl.specs.Readings.{domain_reading, problem_reading}
 use Rattle.pb_strips.specs.declared.error.StripsError.{StripsError}
 use Rattle.pb_strips.specs.Grounding.{strips_with}
 use Rattle.pb_strips.specs.Refusals.{fault_with}
-use Rattle.pb_report.specs.Texts.{input_text, tiles_text, syntax_text, strips_text}
+use Rattle.pb_report.specs.Texts.{input_text, tiles_text, syntax_text, strips_text, tables_syntax_text, tables_fault_text}
 use Rattle.pb_command.specs.Files.{too_long as fault_line}
 use Rattle.pb_command.specs.declared.command.InputOptions.{InputOptions}
 use Rattle.pb_command.specs.Values.{InputNames, Grid, Tiles, Strips}
 use Rattle.pb_command.specs.Meaning.{Reading, Refused, Read, Solve, Falling, Check, Journal, Make, SolveMeaning, CheckMeaning, JournalMeaning}
+use Rattle.pb_answer.specs.Searches.{ByAskedChoice}
 
 -- ---- what the texts spell: a task, or the report with which they are refused
 
@@ -106,9 +114,69 @@ GroundingsAreAsAsked =
     (texts : List (List ℕ)) → input_task input options first texts ≡ Ok task
     → grounding_of task ≡ grounding_asked input options
 
--- the task that is to be solved
-abbrev pub solve_task : SolveMeaning → (texts : List (List ℕ)) → Result TaskParts (List ℕ)
-solve_task solve texts = input_task solve.input solve.options 0 texts
+-- ---- the tables of a file
+
+-- tables that have no fault for the task, or the report of the first one
+abbrev pub suiting_told : TablesValue → Option TablesFault → Result TablesValue (List ℕ)
+suiting_told tables None = Ok tables
+suiting_told tables (Some fault) = Err (tables_fault_text tables fault)
+
+-- the tables that a text states for a STRIPS task, or the report with which they are refused
+abbrev pub tables_told : StripsParts → Result TablesValue ℕ → Result TablesValue (List ℕ)
+tables_told strips (Ok tables) = suiting_told tables (tables_fault strips tables)
+tables_told strips (Err at) = Err (tables_syntax_text at)
+
+-- a task that was read, and the tables of a file by which it is to be searched
+abbrev pub with_its_tables : TaskParts → Result TablesValue (List ℕ)
+    → Result (TaskParts × Option TablesValue) (List ℕ)
+with_its_tables task (Ok tables) = Ok (task, Some tables)
+with_its_tables task (Err report) = Err report
+
+-- the task, without tables of a file
+abbrev pub without_tables : Result TaskParts (List ℕ)
+    → Result (TaskParts × Option TablesValue) (List ℕ)
+without_tables (Ok task) = Ok (task, None)
+without_tables (Err report) = Err report
+
+-- The task with the tables of this text. What refuses the task comes first. Tables are of a STRIPS
+-- task alone, whose states have as many digits as the images.
+abbrev pub with_tables_of : (text : List ℕ) → Result TaskParts (List ℕ)
+    → Result (TaskParts × Option TablesValue) (List ℕ)
+with_tables_of text (Ok (parts.Grid grid)) = Ok (parts.Grid grid, None)
+with_tables_of text (Ok (parts.Tiles tiles)) = Ok (parts.Tiles tiles, None)
+with_tables_of text (Ok (parts.Strips strips)) =
+    with_its_tables (parts.Strips strips)
+    (tables_told strips (tables_reading (width_of (parts.Strips strips)) text))
+with_tables_of text (Err report) = Err report
+
+-- the same, if the file wasn't too long; else nothing is read
+abbrev pub with_tables_if_loaded : (text : Option (List ℕ)) → Result TaskParts (List ℕ)
+    → Result (TaskParts × Option TablesValue) (List ℕ)
+with_tables_if_loaded None task = Err too_long
+with_tables_if_loaded (Some text) task = with_tables_of text task
+
+-- whether the words name a file of tables that is looked at: for a STRIPS task
+abbrev pub has_tables_file : InputNames → (tables : Option (List ℕ)) → Bool
+has_tables_file (Grid names) tables = false
+has_tables_file (Tiles board) tables = false
+has_tables_file (Strips names) None = false
+has_tables_file (Strips names) (Some file) = true
+
+-- The text of the file of tables, if the words name one for a STRIPS task, with the task: it is
+-- loaded after the texts of the domain and the problem. For maps and boards it isn't looked at.
+abbrev pub with_tables_file : InputNames → (tables : Option (List ℕ)) → (texts : List (List ℕ))
+    → Result TaskParts (List ℕ) → Result (TaskParts × Option TablesValue) (List ℕ)
+with_tables_file (Grid names) tables texts task = without_tables task
+with_tables_file (Tiles board) tables texts task = without_tables task
+with_tables_file (Strips names) None texts task = without_tables task
+with_tables_file (Strips names) (Some file) texts task =
+    with_tables_if_loaded (slice_get texts 2) task
+
+-- the task that is to be solved, with the tables of a file if the words name one for a STRIPS task
+abbrev pub solve_task : SolveMeaning → (texts : List (List ℕ))
+    → Result (TaskParts × Option TablesValue) (List ℕ)
+solve_task solve texts =
+    with_tables_file solve.input solve.tables texts (input_task solve.input solve.options 0 texts)
 
 -- the text that is loaded first, beside the task of the texts after it
 abbrev pub with_text : Option (List ℕ) → Result TaskParts (List ℕ)
@@ -130,9 +198,14 @@ abbrev pub journal_task : JournalMeaning → (texts : List (List ℕ))
 journal_task journal texts =
     with_text (slice_get texts 0) (input_task journal.input journal.options 1 texts)
 
--- the texts spell a task to solve, and P holds of it
-abbrev pub OfTexts : SolveMeaning → (texts : List (List ℕ)) → (P : TaskParts → Type 0) → Type 0
-OfTexts solve texts P = (parts : TaskParts) × (solve_task solve texts ≡ Ok parts) × P parts
+-- The texts spell a task to solve, with tables of a file that suit it if the words name one for a
+-- STRIPS task. P holds of the task and of a choice of an estimate that the words ask for: with such
+-- a file it is that of its tables.
+abbrev pub OfTexts : SolveMeaning → (texts : List (List ℕ)) → (P : Choice → TaskParts → Type 0)
+    → Type 0
+OfTexts solve texts P =
+    (read : TaskParts × Option TablesValue) × (solve_task solve texts ≡ Ok read)
+    × ByAskedChoice solve read P
 
 -- the texts spell a task with a certificate to check, and P holds of both
 abbrev pub OfCheckedTexts : CheckMeaning → (texts : List (List ℕ))
@@ -151,7 +224,8 @@ OfJournalTexts journal texts P =
 abbrev pub IsErr : {A : Type 0} → Result A (List ℕ) → (report : List ℕ) → Type 0
 IsErr result report = result ≡ Err report
 
--- texts are refused with this report: one is too long, or they spell no task
+-- texts are refused with this report: one is too long, or they spell no task, or no tables that suit
+-- it where the words name a file of them
 abbrev pub RefusesTexts : Reading → (texts : List (List ℕ)) → (report : List ℕ) → Type 0
 RefusesTexts (Refused fault) texts report = ⊥
 RefusesTexts (Read (Solve solve)) texts report = IsErr (solve_task solve texts) report

@@ -31,15 +31,24 @@ IsFoundFor strips choice =
     ⊎ ((tables : TablesValue) × (choice ≡ Tables tables) × AreTables tables
     × (suit strips tables ≡ true) × ListFewImages tables)
 
--- With an effort, tables are looked for of a STRIPS task. Else the choice is the plain one, or that
--- of the pattern database with this number.
+-- This is the choice if no file of tables was read. With an effort, tables are looked for of a
+-- STRIPS task. Else the choice is the plain one, or that of the pattern database with this number.
 abbrev pub IsChoiceFor : (effort : Option ℕ) → (pattern : ℕ) → TaskParts → Choice → Type 0
 IsChoiceFor None pattern task choice = choice ≡ choice_with pattern
 IsChoiceFor (Some effort) pattern (parts.Grid grid) choice = choice ≡ choice_with pattern
 IsChoiceFor (Some effort) pattern (parts.Tiles tiles) choice = choice ≡ choice_with pattern
 IsChoiceFor (Some effort) pattern (parts.Strips strips) choice = IsFoundFor strips choice
 
--- this is a choice of an estimate by which the words ask to search the task
-abbrev pub IsChoiceAsked : SolveMeaning → TaskParts → Choice → Type 0
-IsChoiceAsked solve task choice =
+-- This is a choice of an estimate by which the words ask to search the task. With tables that
+-- `solve_task` read from a file it is theirs. Without any it is the one above.
+abbrev pub IsChoiceAsked : SolveMeaning → (given : Option TablesValue) → TaskParts → Choice → Type 0
+IsChoiceAsked solve None task choice =
     IsChoiceFor solve.effort (settings_of solve).pattern task choice
+IsChoiceAsked solve (Some tables) task choice = choice ≡ Tables tables
+
+-- P holds of a task that was read, and of a choice of an estimate by which the words ask to search
+-- it. It was read with these tables of a file, or with none.
+abbrev pub ByAskedChoice : SolveMeaning → (read : TaskParts × Option TablesValue)
+    → (P : Choice → TaskParts → Type 0) → Type 0
+ByAskedChoice solve read P =
+    (choice : Choice) × IsChoiceAsked solve read.1 read.0 choice × P choice read.0

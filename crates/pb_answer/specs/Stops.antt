@@ -1,6 +1,6 @@
 -- When grounding is stopped. Then neither a task nor a refusal is known of the texts, and nothing is
 -- claimed.
-use Rattle.std.specs.Prelude.{◌≡◌, ◌⊎◌, ℕ, ◌+◌, Option, None, Some, List, [], Ok, slice_get}
+use Rattle.std.specs.Prelude.{◌≡◌, ◌⊎◌, ℕ, ◌+◌, ⊤, Option, None, Some, List, [], Ok, slice_get}
 use Rattle.pb_task.specs.declared.grounding.Grounding.{Grounding}
 use Rattle.pb_pddl.specs.declared.tree.Domain.{Domain}
 use Rattle.pb_pddl.specs.declared.tree.Problem.{Problem}
@@ -10,7 +10,7 @@ use Rattle.pb_strips.specs.Refusals.{HasNoFaultBefore}
 use Rattle.pb_report.specs.Texts.{stopped_grounding_report}
 use Rattle.pb_command.specs.declared.command.InputOptions.{InputOptions}
 use Rattle.pb_command.specs.Values.{InputNames, Grid, Tiles, Strips}
-use Rattle.pb_command.specs.Meaning.{Reading, Refused, Read, Solve, Falling, Check, Journal, Make}
+use Rattle.pb_command.specs.Meaning.{Reading, Refused, Read, Solve, Falling, Check, Journal, Make, SolveMeaning}
 use Rattle.pb_answer.specs.Answer.{Said, Says, Saves}
 
 -- the text of a problem can be read, and no fault of both comes before a stop of this grounding
@@ -45,6 +45,21 @@ pub record StopsGrounding (input : InputNames) (options : InputOptions) (first :
   pub report : Says said stopped_grounding_report
   pub outputs : Saves said []
 
+-- the text of a file of tables is there, if the words name one for a STRIPS task
+abbrev pub HasTablesText : InputNames → (tables : Option (List ℕ)) → (texts : List (List ℕ))
+    → Type 0
+HasTablesText (Grid names) tables texts = ⊤
+HasTablesText (Tiles board) tables texts = ⊤
+HasTablesText (Strips names) None texts = ⊤
+HasTablesText (Strips names) (Some file) texts = (text : List ℕ) × (slice_get texts 2 ≡ Some text)
+
+-- Grounding of a task that is to be solved was stopped. The text of a file of tables is there if one
+-- is asked for, and wasn't read.
+abbrev pub StopsSolve : SolveMeaning → (texts : List (List ℕ)) → Said → Type 0
+StopsSolve solve texts said =
+    HasTablesText solve.input solve.tables texts
+    × StopsGrounding solve.input solve.options 0 texts said
+
 -- the same of the texts after the one that is judged, which is there
 abbrev pub StopsBehind : InputNames → InputOptions → (texts : List (List ℕ)) → Said → Type 0
 StopsBehind input options texts said =
@@ -53,9 +68,8 @@ StopsBehind input options texts said =
 -- the words are those of a command whose texts are to be grounded, and grounding was stopped
 abbrev pub StopsTexts : Reading → (texts : List (List ℕ)) → Said → Type 0
 StopsTexts (Refused fault) texts said = ⊥
-StopsTexts (Read (Solve solve)) texts said = StopsGrounding solve.input solve.options 0 texts said
-StopsTexts (Read (Falling falling)) texts said =
-    StopsGrounding falling.solve.input falling.solve.options 0 texts said
+StopsTexts (Read (Solve solve)) texts said = StopsSolve solve texts said
+StopsTexts (Read (Falling falling)) texts said = StopsSolve falling.solve texts said
 StopsTexts (Read (Check check)) texts said = StopsBehind check.input check.options texts said
 StopsTexts (Read (Journal journal)) texts said = StopsBehind journal.input journal.options texts said
 StopsTexts (Read (Make make)) texts said = ⊥

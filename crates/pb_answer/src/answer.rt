@@ -5,7 +5,7 @@ ghost use Rattle.pb_command.specs.Meaning.{IsInRange, Read, Solve, Check, Journa
 ghost use Rattle.pb_command.specs.Causes.{solve_meant, check_meant, journal_meant};
 ghost use Rattle.pb_answer.specs.Statuses.{number_of};
 ghost use Rattle.pb_answer.specs.Loaded.{solve_task, check_task, journal_task};
-ghost use Rattle.pb_answer.specs.Answer.{IsRefused, IsFound, IsChecked, IsJudged, OrRefused, said_of};
+ghost use Rattle.pb_answer.specs.Answer.{IsRefused, IsFoundOf, IsChecked, IsJudged, OrRefused, said_of};
 ghost use Rattle.pb_answer.specs.Stops.{OrStopped};
 
 use crate::check::judge;
@@ -14,6 +14,7 @@ use crate::journal::judge_journal;
 use crate::solve::solve_task;
 use crate::status::Status;
 use crate::store::SearchedStore;
+use crate::tables::read_task_with_tables;
 use crate::texts::Texts;
 use pb_cert::{Certificate, Rewriting};
 use pb_command::{CheckCommand, JournalCommand, SolveCommand};
@@ -117,7 +118,7 @@ pub(crate) fn stop_grounding<'a>(alloc: Global, looks: &Looks) -> Result<Answer<
     Ok(Answer::without_files(Status::Stopped, report, looks.taken()))
 }
 
-/// The answer to a search, or to texts that spell no task. If a file was too long, its text and the
+/// The answer to a search, or to texts that spell no task, or no tables that suit it. If a file was too long, its text and the
 /// later ones are left out. What the search leaves is kept in `kept`: the certificate and the
 /// journal borrow it. An error is out of memory.
 ///
@@ -138,14 +139,14 @@ pub fn answer_solve<'a, R: Threads + Wait + Sync, G: Gate>(
     requires { IsInRange (Solve (solve_meant solve)) }
     ensures answers { IfOk result (λ a. OrStopped (Read (Solve (solve_meant solve.entry)))
         texts.now (OrRefused (solve_task (solve_meant solve.entry) texts.now)
-        (IsFound (solve_meant solve.entry))) (said_of a)) }
+        (IsFoundOf (solve_meant solve.entry))) (said_of a)) }
     ensures counted { IfOk result (λ a. (said_of a).looks ≡ looks.new.taken) }
     ensures since { looks.new.since ≡ looks.old.since }
     ensures rising { looks.old.taken ≤ looks.new.taken }
 {
-    match input_task(alloc, &solve.input, solve.options, texts, 0, looks) {
-        Ok(task) => {
-            let answer = solve_task(rt, alloc, task, solve, gate, kept)?;
+    match read_task_with_tables(alloc, &solve, texts, looks) {
+        Ok(read) => {
+            let answer = solve_task(rt, alloc, read, solve, gate, kept)?;
             Ok(answer.after(looks))
         }
         Err(NoTask::Refused(report)) => Ok(refuse_input(report, looks)),

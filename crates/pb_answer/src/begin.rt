@@ -5,8 +5,10 @@ ghost use Rattle.pb_command.specs.Causes.{falling_meant};
 ghost use Rattle.pb_answer.specs.FallingBegins.{BeginsFalling, SaysLooks};
 
 use crate::answer::{Answer, refuse_input, stop_grounding};
+use crate::choosing::choice_for;
 use crate::falling::FallingSearch;
-use crate::input::{NoTask, input_task};
+use crate::input::NoTask;
+use crate::tables::{TaskWithTables, read_task_with_tables};
 use crate::texts::Texts;
 use pb_command::FallingCommand;
 use pb_outside::Gate;
@@ -20,7 +22,7 @@ use std::thread::Threads;
 pub enum FallingBegin<'a> {
     /// The texts spell a task, and its first run was made.
     Search(FallingSearch<'a>),
-    /// The texts spell no task.
+    /// The texts spell no task, or no tables that suit it.
     Refused(Answer<'a>),
     /// Grounding was stopped.
     Stopped(Answer<'a>),
@@ -47,17 +49,11 @@ pub fn begin_falling<'a, R: Threads + Wait + Sync, G: Gate>(
     ensures since { looks.new.since ≡ looks.old.since }
     ensures rising { looks.old.taken ≤ looks.new.taken }
 {
-    match input_task(
-        alloc,
-        &falling.solve.input,
-        falling.solve.options,
-        texts,
-        0,
-        looks,
-    ) {
-        Ok(task) => {
+    match read_task_with_tables(alloc, &falling.solve, texts, looks) {
+        Ok(TaskWithTables { task, tables }) => {
             let task = Arc::new(alloc, task)?;
-            let search = FallingSearch::start(rt, alloc, &task, falling, gate)?;
+            let choice = choice_for(alloc, &task, tables, &falling.solve)?;
+            let search = FallingSearch::start(rt, alloc, &task, choice, falling, gate)?;
             Ok(FallingBegin::Search(search))
         }
         Err(NoTask::Refused(report)) => Ok(FallingBegin::Refused(refuse_input(report, looks))),

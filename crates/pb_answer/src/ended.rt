@@ -1,11 +1,12 @@
 //! What is answered of a search that ended, whichever engine searched.
-ghost use Rattle.std.specs.Prelude.{◌≡◌, ◌≤◌, ◌⊎◌, ℕ, IfOk, Some, None};
+ghost use Rattle.std.specs.Prelude.{◌≡◌, ◌≤◌, ◌⊎◌, ℕ, IfOk, Some, None, true};
 ghost use Rattle.pb_model.specs.Plan.{IsBound};
 ghost use Rattle.pb_task.specs.Parts.{space_of};
+ghost use Rattle.pb_estimate.specs.Estimates.{suits};
 ghost use Rattle.pb_lists.specs.Store.{store_with, IsQuietEnd};
 ghost use Rattle.pb_command.specs.Meaning.{IsInRange, Solve};
 ghost use Rattle.pb_command.specs.Causes.{solve_meant};
-ghost use Rattle.pb_answer.specs.Searches.{weight_asked, IsChoiceAsked};
+ghost use Rattle.pb_answer.specs.Searches.{weight_asked};
 ghost use Rattle.pb_answer.specs.Named.{NamesTell};
 ghost use Rattle.pb_answer.specs.Ended.{guide_by, LeavesQuietRows, CanBeCertified};
 ghost use Rattle.pb_answer.specs.Claims.{IsCertificate, Stops};
@@ -25,11 +26,14 @@ use std::alloc::{AllocError, Global};
 pub fn report_stop<'a>(
     alloc: Global,
     _task: &Task,
+    _choice: &Choice,
     solve: &SolveCommand<'a>,
     journal: Option<SavedJournal<'a>>,
 ) -> Result<Answer<'a>, AllocError>
-    requires { Stops (λ outputs. journals_of journal ≡ outputs) (solve_meant solve.now) _task.now }
-    ensures { IfOk result (λ a. IsStopped (solve_meant solve.now) _task.now (said_of a)) }
+    requires { Stops (λ outputs. journals_of journal ≡ outputs) (solve_meant solve.now) _choice.now
+        _task.now }
+    ensures { IfOk result (λ a. IsStopped (solve_meant solve.now) _choice.now _task.now
+        (said_of a)) }
 {
     Ok(Answer {
         status: Status::Stopped,
@@ -52,14 +56,15 @@ pub fn report_end<'a, S: Store>(
     journal: Option<SavedJournal<'a>>,
 ) -> Result<Answer<'a>, AllocError>
     requires range { IsInRange (Solve (solve_meant solve.now)) }
+    requires suits { suits task.now choice.now ≡ true }
     requires whole { S.is_whole store.now }
     requires of_task { S.is_of store.now (space_of task.now) }
     requires quiet { LeavesQuietRows (solve_meant solve.now) task.now choice.now (S.home store.now)
         (store_with (S.rows store.now) (S.weight store.now) (S.incumbent store.now))
         (journals_of journal) }
     requires names { NamesTell task.now }
-    ensures { IfOk result (λ a. IsSolved (solve_meant solve.now) task.now (said_of a)
-        ⊎ IsUnsolvable (solve_meant solve.now) task.now (said_of a)) }
+    ensures { IfOk result (λ a. IsSolved (solve_meant solve.now) choice.now task.now
+        (said_of a) ⊎ IsUnsolvable (solve_meant solve.now) choice.now task.now (said_of a)) }
 {
     match store.incumbent() {
         Some(_) => report_plan(alloc, task, choice, solve, store, journal),
@@ -77,6 +82,7 @@ fn report_plan<'a, S: Store>(
     journal: Option<SavedJournal<'a>>,
 ) -> Result<Answer<'a>, AllocError>
     requires range { IsInRange (Solve (solve_meant solve.now)) }
+    requires suits { suits task.now choice.now ≡ true }
     requires whole { S.is_whole store.now }
     requires of_task { S.is_of store.now (space_of task.now) }
     requires quiet { LeavesQuietRows (solve_meant solve.now) task.now choice.now (S.home store.now)
@@ -84,7 +90,8 @@ fn report_plan<'a, S: Store>(
         (journals_of journal) }
     requires names { NamesTell task.now }
     requires known { (cost : ℕ) × (S.incumbent store.now ≡ Some cost) }
-    ensures { IfOk result (λ a. IsSolved (solve_meant solve.now) task.now (said_of a)) }
+    ensures { IfOk result (λ a. IsSolved (solve_meant solve.now) choice.now task.now
+        (said_of a)) }
 {
     // Called for its clause `lawful`: the proof asks for a lawful task.
     let _lawful = task.max_degree();
@@ -111,12 +118,14 @@ fn report_none<'a, S: Store>(
     journal: Option<SavedJournal<'a>>,
 ) -> Result<Answer<'a>, AllocError>
     requires range { IsInRange (Solve (solve_meant solve.now)) }
+    requires suits { suits task.now choice.now ≡ true }
     requires whole { S.is_whole store.now }
     requires quiet { LeavesQuietRows (solve_meant solve.now) task.now choice.now (S.home store.now)
         (store_with (S.rows store.now) (S.weight store.now) (S.incumbent store.now))
         (journals_of journal) }
     requires none { S.incumbent store.now ≡ None }
-    ensures { IfOk result (λ a. IsUnsolvable (solve_meant solve.now) task.now (said_of a)) }
+    ensures { IfOk result (λ a. IsUnsolvable (solve_meant solve.now) choice.now task.now
+        (said_of a)) }
 {
     let report = Report::of_no_plan(alloc)?;
     let certificate = certify(alloc, task, choice, solve, None, store)?;
@@ -140,7 +149,7 @@ pub(crate) fn certify<'a, S: Store>(
     store: &'a S,
 ) -> Result<Option<SavedCertificate<'a>>, AllocError>
     requires range { IsInRange (Solve (solve_meant solve.now)) }
-    requires asked { IsChoiceAsked (solve_meant solve.now) task.now choice.now }
+    requires suits { suits task.now choice.now ≡ true }
     requires whole { S.is_whole store.now }
     requires end { IsQuietEnd (space_of task.now)
         (guide_by task.now choice.now (S.home store.now))

@@ -1,11 +1,12 @@
 //! A search with falling weights: one run after another on the same rows, each at a lower weight.
 //! What is claimed after a run is handed out before the next run begins.
-ghost use Rattle.std.specs.Prelude.{◌≡◌, ◌↔◌, ◌≤◌, ◌+◌, ◌⊎◌, IfOk, IsTrue, IsFalse, Some, None, List, []};
+ghost use Rattle.std.specs.Prelude.{◌≡◌, ◌↔◌, ◌≤◌, ◌+◌, ◌⊎◌, IfOk, IsTrue, IsFalse, true, Some, None, List, []};
 ghost use Rattle.std.specs.Arc.{arc_value};
 ghost use Rattle.pb_model.specs.Plan.{IsBound};
 ghost use Rattle.pb_machine.specs.declared.event.End.TheVariants.{Quiet, Budget};
 ghost use Rattle.pb_machine.specs.Machine.{Machine};
 ghost use Rattle.pb_task.specs.Parts.{space_of};
+ghost use Rattle.pb_estimate.specs.Estimates.{suits};
 ghost use Rattle.pb_lists.specs.Store.{IsQuietEnd};
 ghost use Rattle.pb_lease.specs.Choices.{is_out_in};
 ghost use Rattle.pb_lease.specs.Begins.{home_store};
@@ -18,12 +19,12 @@ ghost use Rattle.pb_answer.specs.Falling.{asked_of_run};
 ghost use Rattle.pb_answer.specs.FallingRuns.{guide_in, weight_now, KeepsPlan, IsFalling, IsAfterRun, IsLast, SaysNow, SaysClaimNow, SaysNoneNow, SaysStopNow, GoesOn};
 
 use crate::answer::Answer;
-use crate::choosing::choice_for;
 use crate::ended::{bound_of, certify};
 use crate::kept::{claimed_plan, copy_plan, numbered_name, numerator_at};
 use crate::status::Status;
 use pb_cert::Plan;
 use pb_command::{FallingCommand, SolveCommand};
+use pb_estimate::Choice;
 use pb_falling::claims_hold;
 use pb_lease::LeaseGraph;
 use pb_machine::End;
@@ -72,23 +73,25 @@ impl<'a> Model for FallingSearch<'a> {
 }
 
 impl<'a> FallingSearch<'a> {
-    /// Searches a task by leases, for the first time, at the weight and by the estimate that the
-    /// words ask for. An error is out of memory.
+    /// Searches a task by leases, for the first time, at the weight that the words ask for and by
+    /// this choice of an estimate. An error is out of memory.
     pub fn start<R: Threads + Wait + Sync, G: Gate>(
         rt: &R,
         alloc: Global,
         task: &Arc<Task>,
+        choice: Choice,
         falling: FallingCommand<'a>,
         gate: &G,
     ) -> Result<FallingSearch<'a>, AllocError>
-        requires { IsInRange (Falling (falling_meant falling)) }
+        requires range { IsInRange (Falling (falling_meant falling)) }
+        requires suits { suits (arc_value task.now) choice ≡ true }
         ensures solve { IfOk result (λ s. s.solve ≡ solve_meant falling.entry.solve) }
         ensures task { IfOk result (λ s. s.parts ≡ arc_value task.now) }
         ensures steps { IfOk result (λ s. s.steps ≡ falling.entry.steps) }
         ensures run { IfOk result (λ s. s.run ≡ 0) }
+        ensures choice { IfOk result (λ s. s.graph.choice ≡ choice) }
         ensures falling { IfOk result (λ s. (machine : Machine) × IsFalling [] machine s) }
     {
-        let choice = choice_for(alloc, task, &falling.solve)?;
         let graph = search(rt, alloc, task, choice, falling.solve.settings, gate)?;
         // Called for its clause `lawful`: the proof asks for a lawful graph.
         let _lawful = graph.abstraction();
@@ -219,6 +222,7 @@ impl<'a> FallingSearch<'a> {
             settings: *self.graph.settings(),
             engine: self.solve.engine,
             effort: self.solve.effort,
+            tables: self.solve.tables,
             certificate: self.name.as_deref(),
             journal: None,
         }

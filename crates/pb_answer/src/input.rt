@@ -9,7 +9,7 @@ ghost use Rattle.pb_report.specs.Texts.{file_number, syntax_text, strips_text};
 ghost use Rattle.pb_answer.specs.Named.{NamesTell};
 ghost use Rattle.pb_strips.specs.Looks.{IsSpent};
 ghost use Rattle.pb_answer.specs.Stops.{ProblemMayStop, StripsMayStop, InputMayStop};
-ghost use Rattle.pb_answer.specs.Tasks.{GivesTask, IsNoTask};
+ghost use Rattle.pb_answer.specs.Tasks.{GivesTask, IsNoTask, IsRefusal};
 
 use crate::texts::Texts;
 use pb_command::{Input, InputOptions};
@@ -23,7 +23,7 @@ use pb_task::{Grounding, Task};
 use pb_tiles::{TilesError, read_tiles};
 use std::alloc::{AllocError, Global};
 
-/// Why there is no task.
+/// Why nothing was read: no task, or no tables that suit it.
 #[derive(Drop)]
 pub enum NoTask {
     /// The texts are refused with this report.
@@ -47,8 +47,8 @@ impl From<AllocError> for NoTask {
 }
 
 // The refusal if a file was too long.
-fn refuse_long_text(alloc: Global) -> NoTask
-    ensures { IsNoTask ⊥ result (Err too_long) }
+pub(crate) fn refuse_long_text(alloc: Global) -> NoTask
+    ensures { IsRefusal result too_long }
 {
     match Report::of_line(alloc, b"input TooLong") {
         Ok(report) => NoTask::Refused(report),

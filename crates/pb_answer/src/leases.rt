@@ -1,12 +1,12 @@
 //! A search by leases and its answer.
-ghost use Rattle.std.specs.Prelude.{◌≡◌, ◌⊎◌, IfOk};
+ghost use Rattle.std.specs.Prelude.{◌≡◌, ◌⊎◌, IfOk, true};
 ghost use Rattle.std.specs.Arc.{arc_value};
 ghost use Rattle.pb_search.specs.Searches.{LeavesQuiet, LeavesStopped};
 ghost use Rattle.pb_command.specs.declared.command.Engine.TheVariants.{Leases};
 ghost use Rattle.pb_command.specs.Meaning.{IsInRange, Solve};
-ghost use Rattle.pb_estimate.specs.Choices.{Choice};
+ghost use Rattle.pb_estimate.specs.Estimates.{suits};
 ghost use Rattle.pb_command.specs.Causes.{solve_meant};
-ghost use Rattle.pb_answer.specs.Searches.{settings_of, IsChoiceAsked};
+ghost use Rattle.pb_answer.specs.Searches.{settings_of};
 ghost use Rattle.pb_answer.specs.Named.{NamesTell};
 ghost use Rattle.pb_answer.specs.Engines.{engine_asked};
 ghost use Rattle.pb_answer.specs.Claims.{journal_outputs};
@@ -39,10 +39,10 @@ pub fn solve_by_leases<'a, R: Threads + Wait + Sync, G: Gate>(
 ) -> Result<Answer<'a>, AllocError>
     requires range { IsInRange (Solve (solve_meant solve)) }
     requires engine { engine_asked (solve_meant solve) ≡ Leases }
-    requires asked { IsChoiceAsked (solve_meant solve) (arc_value task.now) choice.now }
+    requires suits { suits (arc_value task.now) choice.now ≡ true }
     requires names { NamesTell (arc_value task.now) }
-    ensures { IfOk result (λ a. IsFound (solve_meant solve.entry) (arc_value task.now)
-        (said_of a)) }
+    ensures { IfOk result (λ a. IsFound (solve_meant solve.entry) choice.now
+        (arc_value task.now) (said_of a)) }
 {
     let settings = solve.settings;
     // The search keeps a choice of its own.
@@ -52,7 +52,7 @@ pub fn solve_by_leases<'a, R: Threads + Wait + Sync, G: Gate>(
     let graph = keep_leases(kept, graph);
     match graph.end() {
         Some(End::Quiet) => answer_end(alloc, task, choice, &solve, graph),
-        Some(End::Budget) => answer_stop(alloc, task, &solve, graph),
+        Some(End::Budget) => answer_stop(alloc, task, choice, &solve, graph),
         // `search` gives no other end: that memory ran out is its error.
         Some(End::Memory) | None => unreachable!(),
     }
@@ -68,12 +68,13 @@ fn answer_end<'a>(
 ) -> Result<Answer<'a>, AllocError>
     requires range { IsInRange (Solve (solve_meant solve.now)) }
     requires engine { engine_asked (solve_meant solve.now) ≡ Leases }
-    requires asked { IsChoiceAsked (solve_meant solve.now) task.now choice.now }
+    requires suits { suits task.now choice.now ≡ true }
     requires quiet { LeavesQuiet task.now choice.now (settings_of (solve_meant solve.now))
         graph.now }
     requires names { NamesTell task.now }
-    ensures { IfOk result (λ a. IsSolved (solve_meant solve.now) task.now (said_of a)
-        ⊎ IsUnsolvable (solve_meant solve.now) task.now (said_of a)) }
+    ensures { IfOk result (λ a. IsSolved (solve_meant solve.now) choice.now task.now
+        (said_of a)
+        ⊎ IsUnsolvable (solve_meant solve.now) choice.now task.now (said_of a)) }
 {
     let journal = save_journal(solve, graph);
     report_end(alloc, task, choice, solve, graph, journal)
@@ -83,16 +84,17 @@ fn answer_end<'a>(
 fn answer_stop<'a>(
     alloc: Global,
     task: &Task,
+    choice: &Choice,
     solve: &SolveCommand<'a>,
     graph: &'a LeaseGraph,
 ) -> Result<Answer<'a>, AllocError>
     requires engine { engine_asked (solve_meant solve.now) ≡ Leases }
-    requires stopped { (choice : Choice) × IsChoiceAsked (solve_meant solve.now) task.now choice
-        × LeavesStopped task.now choice (settings_of (solve_meant solve.now)) graph.now }
-    ensures { IfOk result (λ a. IsStopped (solve_meant solve.now) task.now (said_of a)) }
+    requires stopped { LeavesStopped task.now choice.now (settings_of (solve_meant solve.now))
+        graph.now }
+    ensures { IfOk result (λ a. IsStopped (solve_meant solve.now) choice.now task.now (said_of a)) }
 {
     let journal = save_journal(solve, graph);
-    report_stop(alloc, task, solve, journal)
+    report_stop(alloc, task, choice, solve, journal)
 }
 
 // The journal, if it has a name.

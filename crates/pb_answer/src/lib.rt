@@ -19,6 +19,7 @@ mod owners;
 mod solve;
 mod status;
 mod store;
+mod tables;
 mod texts;
 
 pub use answer::{

@@ -1,13 +1,13 @@
 //! A hash-distributed search and its answer.
-ghost use Rattle.std.specs.Prelude.{◌≡◌, ◌⊎◌, IfOk};
+ghost use Rattle.std.specs.Prelude.{◌≡◌, ◌⊎◌, IfOk, true};
 ghost use Rattle.std.specs.Arc.{arc_value};
 ghost use Rattle.pb_machine.specs.declared.event.End.TheVariants.{Quiet, Budget};
 ghost use Rattle.pb_owners.specs.Leaves.{LeavesOwners};
 ghost use Rattle.pb_command.specs.declared.command.Engine.TheVariants.{Owners as ByOwners};
 ghost use Rattle.pb_command.specs.Meaning.{IsInRange, Solve};
-ghost use Rattle.pb_estimate.specs.Choices.{Choice};
+ghost use Rattle.pb_estimate.specs.Estimates.{suits};
 ghost use Rattle.pb_command.specs.Causes.{solve_meant};
-ghost use Rattle.pb_answer.specs.Searches.{settings_of, IsChoiceAsked};
+ghost use Rattle.pb_answer.specs.Searches.{settings_of};
 ghost use Rattle.pb_answer.specs.Named.{NamesTell};
 ghost use Rattle.pb_answer.specs.Engines.{engine_asked};
 ghost use Rattle.pb_answer.specs.Answer.{IsFound, IsSolved, IsUnsolvable, IsStopped, said_of};
@@ -38,10 +38,10 @@ pub fn solve_by_owners<'a, R: Threads + Wait + Sync, G: Gate>(
 ) -> Result<Answer<'a>, AllocError>
     requires range { IsInRange (Solve (solve_meant solve)) }
     requires engine { engine_asked (solve_meant solve) ≡ ByOwners }
-    requires asked { IsChoiceAsked (solve_meant solve) (arc_value task.now) choice.now }
+    requires suits { suits (arc_value task.now) choice.now ≡ true }
     requires names { NamesTell (arc_value task.now) }
-    ensures { IfOk result (λ a. IsFound (solve_meant solve.entry) (arc_value task.now)
-        (said_of a)) }
+    ensures { IfOk result (λ a. IsFound (solve_meant solve.entry) choice.now
+        (arc_value task.now) (said_of a)) }
 {
     let settings = solve.settings;
     // The search keeps a choice of its own.
@@ -51,7 +51,7 @@ pub fn solve_by_owners<'a, R: Threads + Wait + Sync, G: Gate>(
     let owners = keep_owners(kept, owners);
     match end {
         End::Quiet => answer_end(alloc, task, choice, &solve, owners),
-        End::Budget => answer_stop(alloc, task, &solve, owners),
+        End::Budget => answer_stop(alloc, task, choice, &solve, owners),
         // That memory ran out is an error of the search.
         End::Memory => unreachable!(),
     }
@@ -67,12 +67,13 @@ fn answer_end<'a>(
 ) -> Result<Answer<'a>, AllocError>
     requires range { IsInRange (Solve (solve_meant solve.now)) }
     requires engine { engine_asked (solve_meant solve.now) ≡ ByOwners }
-    requires asked { IsChoiceAsked (solve_meant solve.now) task.now choice.now }
+    requires suits { suits task.now choice.now ≡ true }
     requires quiet { LeavesOwners task.now choice.now (settings_of (solve_meant solve.now)) Quiet
         owners.now }
     requires names { NamesTell task.now }
-    ensures { IfOk result (λ a. IsSolved (solve_meant solve.now) task.now (said_of a)
-        ⊎ IsUnsolvable (solve_meant solve.now) task.now (said_of a)) }
+    ensures { IfOk result (λ a. IsSolved (solve_meant solve.now) choice.now task.now
+        (said_of a)
+        ⊎ IsUnsolvable (solve_meant solve.now) choice.now task.now (said_of a)) }
 {
     report_end(alloc, task, choice, solve, owners, None)
 }
@@ -81,13 +82,14 @@ fn answer_end<'a>(
 fn answer_stop<'a>(
     alloc: Global,
     task: &Task,
+    choice: &Choice,
     solve: &SolveCommand<'a>,
     _owners: &'a Owners,
 ) -> Result<Answer<'a>, AllocError>
     requires engine { engine_asked (solve_meant solve.now) ≡ ByOwners }
-    requires stopped { (choice : Choice) × IsChoiceAsked (solve_meant solve.now) task.now choice
-        × LeavesOwners task.now choice (settings_of (solve_meant solve.now)) Budget _owners.now }
-    ensures { IfOk result (λ a. IsStopped (solve_meant solve.now) task.now (said_of a)) }
+    requires stopped { LeavesOwners task.now choice.now (settings_of (solve_meant solve.now)) Budget
+        _owners.now }
+    ensures { IfOk result (λ a. IsStopped (solve_meant solve.now) choice.now task.now (said_of a)) }
 {
-    report_stop(alloc, task, solve, None)
+    report_stop(alloc, task, choice, solve, None)
 }

@@ -24,7 +24,7 @@ use Rattle.pb_command.specs.declared.command.Engine.{Engine}
 use Rattle.pb_command.specs.declared.command.InputOptions.{InputOptions}
 use Rattle.pb_command.specs.Meaning.{Reading, Refused, reading_of_words, unless_faulty, command_met as command_at, command_of, if_fit, with_kind, with_input, solve_with, solve_tested, solve_of, options_by, settings_by}
 use Rattle.pb_command.specs.Table.{solve_options}
-use Rattle.pb_command.specs.declared.table.ValuedOption.TheVariants.{Certificate, Journal, Falling}
+use Rattle.pb_command.specs.declared.table.ValuedOption.TheVariants.{Tables, Certificate, Journal, Falling}
 use Rattle.pb_command.specs.Values.{InputNames, number_in, input_of, kind_of_text, values_fit, number_at, optional_number_at, flag_at, engine_at, effort_at, text_at}
 use Rattle.pb_command.specs.Causes.{IsRefusal, IsCause, IsPrinted}
 use Rattle.pb_command.specs.declared.refusal.CommandFault.{CommandFault}
@@ -153,12 +153,12 @@ refused_for reading f refusal.Memory is holds = holds
 -- ---- `solve`
 
 -- What `solve` asks for is tested if its values have their forms, its kind is known, and its kind has so many files.
-pub solve_asked : (rows : List Row) (k : Kind) (first : Text) (second : Option Text) (input : InputNames) (engine : Engine) (effort : Option ℕ) (certificate journal : Option Text) (falling : Option ℕ) (options : InputOptions) (settings : Settings)
+pub solve_asked : (rows : List Row) (k : Kind) (first : Text) (second : Option Text) (input : InputNames) (engine : Engine) (effort : Option ℕ) (tables certificate journal : Option Text) (falling : Option ℕ) (options : InputOptions) (settings : Settings)
     → values_fit solve_options rows ≡ true → kind_of_text (first_of (codes "KIND") rows) ≡ Some k → first_of (codes "FIRST_FILE") rows ≡ Some first
     → first_of (codes "SECOND_FILE") rows ≡ second → input_of k first second ≡ Some input → options_by (number_at rows) (flag_at rows) ≡ options → settings_by (number_at rows) (flag_at rows) ≡ settings
-    → engine_at rows ≡ engine → effort_at rows ≡ effort → text_at rows Certificate ≡ certificate → text_at rows Journal ≡ journal
+    → engine_at rows ≡ engine → effort_at rows ≡ effort → text_at rows Tables ≡ tables → text_at rows Certificate ≡ certificate → text_at rows Journal ≡ journal
     → optional_number_at rows Falling ≡ falling
-    → solve_of rows ≡ solve_tested falling (record { input = input; options = options; settings = settings; engine = engine; effort = effort; certificate = certificate; journal = journal })
-solve_asked rows k first second input engine effort certificate journal falling options settings fits known has has_second files a b d e f g h =
-    (λ i. if_fit (fits i) (with_kind (known i) (solve_with (has i) (has_second i) (a i) (b i) (d i) (e i) (f i) (g i) (h i))))
-    ∙ ap (λ x. with_input x (λ input. solve_tested falling (record { input = input; options = options; settings = settings; engine = engine; effort = effort; certificate = certificate; journal = journal }))) files
+    → solve_of rows ≡ solve_tested falling (record { input = input; options = options; settings = settings; engine = engine; effort = effort; tables = tables; certificate = certificate; journal = journal })
+solve_asked rows k first second input engine effort tables certificate journal falling options settings fits known has has_second files a b d e t f g h =
+    (λ i. if_fit (fits i) (with_kind (known i) (solve_with (has i) (has_second i) (a i) (b i) (d i) (e i) (t i) (f i) (g i) (h i))))
+    ∙ ap (λ x. with_input x (λ input. solve_tested falling (record { input = input; options = options; settings = settings; engine = engine; effort = effort; tables = tables; certificate = certificate; journal = journal }))) files

@@ -12,11 +12,11 @@ use Rattle.pb_machine.specs.declared.settings.Settings.{Settings}
 use Rattle.pb_command.specs.declared.command.Engine.{Engine}
 use Rattle.pb_command.specs.declared.command.Engine.TheVariants.{Leases, Owners}
 use Rattle.pb_command.specs.declared.command.InputOptions.{InputOptions}
-use Rattle.pb_command.specs.declared.table.ValuedOption.TheVariants.{Engine as EngineOption, Num, Den, Pattern, Estimate, Effort, Certificate, Journal, Falling as FallingOption}
+use Rattle.pb_command.specs.declared.table.ValuedOption.TheVariants.{Engine as EngineOption, Num, Den, Pattern, Estimate, Effort, Tables, Certificate, Journal, Falling as FallingOption}
 use Rattle.pb_command.specs.declared.table.FlagOption.{FlagOption}
 use Rattle.pb_command.specs.declared.table.FlagOption.TheVariants.{Plain, Swamp, Reachable}
 use Rattle.pb_command.specs.Table.{solve_options, solve_flags}
-use Rattle.pb_command.specs.Values.{InputNames, Grid, Tiles, Strips, kind_of_text, are_one_name, is_journal_of_owners, is_falling_of_owners, is_journal_of_falling, is_pattern_of_estimate, flag_of, values_fit, number_at, optional_number_at, flag_at, text_at, engine_of, engine_at, effort_of, effort_at}
+use Rattle.pb_command.specs.Values.{InputNames, Grid, Tiles, Strips, kind_of_text, are_one_name, is_journal_of_owners, is_falling_of_owners, is_journal_of_falling, are_two_estimates, flag_of, values_fit, number_at, optional_number_at, flag_at, text_at, engine_of, engine_at, effort_of, effort_at}
 use Rattle.pb_command.specs.Meaning.{Read, Refused, Solve, Falling, SolveMeaning, reading_of_words, unless_faulty, solve_of, with_kind, if_fit, options_by, settings_by, solve_with, solve_in_steps, solve_tested}
 use Rattle.pb_command.specs.Options.{number_given, options_given, settings_given, engine_given, effort_given, Argument, words_of, placed_words, value_given, flag_given, AreDistinct, IsArgumentOf, is_of_solve, is_flag_of_solve, number_of, kind_word, file_words, falling_given, solve_given, AreOfSolve, HaveOneRun, HaveTwoNames, HaveKeptJournal, HaveOneEstimate, HaveFittingFalling}
 use Rattle.pb_command.specs.declared.refusal.CommandFault.TheVariants as fault
@@ -83,15 +83,15 @@ flags_read arguments Plain = plain_read arguments
 flags_read arguments Swamp = swamp_read arguments
 flags_read arguments Reachable = reachable_read arguments
 
-solve_values : (rows : List MatchRow) (kind first second certificate journal : Option Text) (falling : Option ℕ) (options : InputOptions) (settings : Settings) (engine : Engine) (effort : Option ℕ)
+solve_values : (rows : List MatchRow) (kind first second tables certificate journal : Option Text) (falling : Option ℕ) (options : InputOptions) (settings : Settings) (engine : Engine) (effort : Option ℕ)
     → values_fit solve_options rows ≡ true
     → first_of (codes "KIND") rows ≡ kind → first_of (codes "FIRST_FILE") rows ≡ first → first_of (codes "SECOND_FILE") rows ≡ second
     → options_by (number_at rows) (flag_at rows) ≡ options → settings_by (number_at rows) (flag_at rows) ≡ settings → engine_at rows ≡ engine → effort_at rows ≡ effort
-    → text_at rows Certificate ≡ certificate → text_at rows Journal ≡ journal
+    → text_at rows Tables ≡ tables → text_at rows Certificate ≡ certificate → text_at rows Journal ≡ journal
     → optional_number_at rows FallingOption ≡ falling
-    → solve_of rows ≡ with_kind (kind_of_text kind) (solve_with first second options settings engine effort certificate journal falling)
-solve_values rows kind first second certificate journal falling options settings engine effort fit a b c d e f g h k l =
-    λ i. if_fit (fit i) (with_kind (kind_of_text (a i)) (solve_with (b i) (c i) (d i) (e i) (f i) (g i) (h i) (k i) (l i)))
+    → solve_of rows ≡ with_kind (kind_of_text kind) (solve_with first second options settings engine effort tables certificate journal falling)
+solve_values rows kind first second tables certificate journal falling options settings engine effort fit a b c d e f g t h k l =
+    λ i. if_fit (fit i) (with_kind (kind_of_text (a i)) (solve_with (b i) (c i) (d i) (e i) (f i) (g i) (t i) (h i) (k i) (l i)))
 
 -- clap takes what it has walked over, and the values are those that it found
 pub solve_is_read : (arguments : List Argument) → IsWalkedWhole solve_shape solve_places arguments
@@ -109,7 +109,7 @@ solve_is_read arguments w kind first kind_is first_is =
 pub solve_is : (arguments : List Argument) → AllByRecursion (IsArgumentOf is_of_solve is_flag_of_solve) arguments → AreDistinct arguments → FitPlaces solve_places (placed_words arguments)
     → (kind first : Text) → word_at Kind solve_places (placed_words arguments) ≡ Some kind → word_at FirstFile solve_places (placed_words arguments) ≡ Some first
     → reading_of_words (codes "solve" ∷ words_of arguments) ≡ with_kind (kind_of_text (Some kind))
-    (solve_with (Some first) (word_at SecondFile solve_places (placed_words arguments)) (options_given arguments) (settings_given arguments) (engine_given arguments) (effort_given arguments) (value_given Certificate arguments) (value_given Journal arguments) (falling_given arguments))
+    (solve_with (Some first) (word_at SecondFile solve_places (placed_words arguments)) (options_given arguments) (settings_given arguments) (engine_given arguments) (effort_given arguments) (value_given Tables arguments) (value_given Certificate arguments) (value_given Journal arguments) (falling_given arguments))
 solve_is arguments all distinct fit kind first kind_is first_is =
     let w = solve_walk arguments all distinct fit in
     let rows = rows_with_flags arguments in
@@ -119,7 +119,7 @@ solve_is arguments all distinct fit kind first kind_is first_is =
     let numbers : number_at rows ≡ (λ o. number_given o arguments) = fun_ext (numbers_read is_of_solve is_flag_of_solve solve_places arguments rows all found) in
     let flags : flag_at rows ≡ (λ f. flag_given f arguments) = fun_ext (flags_read arguments) in
     solve_is_read arguments w kind first kind_is first_is
-    ∙ solve_values rows (Some kind) (Some first) (word_at SecondFile solve_places (placed_words arguments)) (value_given Certificate arguments) (value_given Journal arguments) (falling_given arguments) (options_given arguments) (settings_given arguments)
+    ∙ solve_values rows (Some kind) (Some first) (word_at SecondFile solve_places (placed_words arguments)) (value_given Tables arguments) (value_given Certificate arguments) (value_given Journal arguments) (falling_given arguments) (options_given arguments) (settings_given arguments)
     (engine_given arguments) (effort_given arguments)
     (all_fit is_of_solve is_flag_of_solve solve_places arguments rows all found solve_options)
     (text_read rows (codes "KIND") (Some kind) kind_row) (text_read rows (codes "FIRST_FILE") (Some first) first_row)
@@ -127,6 +127,7 @@ solve_is arguments all distinct fit kind first kind_is first_is =
     (ap₂ options_by numbers flags) (ap₂ settings_by numbers flags)
     (ap engine_of (text_read rows (codes "engine") (value_given EngineOption arguments) (found.option EngineOption)))
     (ap₂ effort_of (text_read rows (codes "estimate") (value_given Estimate arguments) (found.option Estimate)) (ap (λ number. number Effort) numbers))
+    (text_read rows (codes "tables") (value_given Tables arguments) (found.option Tables))
     (text_read rows (codes "cert") (value_given Certificate arguments) (found.option Certificate))
     (text_read rows (codes "trace") (value_given Journal arguments) (found.option Journal))
     (falling_read is_of_solve is_flag_of_solve solve_places arguments rows all found)
@@ -150,7 +151,7 @@ first_at (Strips names) = refl
 tested : (input : InputNames) (arguments : List Argument)
     → with_kind (kind_of_text (Some (kind_word input)))
     (solve_with (Some (first_file input)) (word_at SecondFile solve_places (kind_word input ∷ file_words input)) (options_given arguments) (settings_given arguments) (engine_given arguments) (effort_given arguments)
-    (value_given Certificate arguments) (value_given Journal arguments) (falling_given arguments)) ≡ solve_tested (falling_given arguments) (solve_given input arguments)
+    (value_given Tables arguments) (value_given Certificate arguments) (value_given Journal arguments) (falling_given arguments)) ≡ solve_tested (falling_given arguments) (solve_given input arguments)
 tested (Grid names) arguments = refl
 tested (Tiles board) arguments = refl
 tested (Strips names) arguments = refl
@@ -166,7 +167,7 @@ solve_is_tested input arguments are =
     (ap (word_at Kind solve_places) are.placed ∙ kind_at input) (ap (word_at FirstFile solve_places) are.placed ∙ first_at input)
     ∙ (ap (λ ws. with_kind (kind_of_text (Some (kind_word input)))
     (solve_with (Some (first_file input)) (word_at SecondFile solve_places ws) (options_given arguments) (settings_given arguments) (engine_given arguments) (effort_given arguments)
-    (value_given Certificate arguments) (value_given Journal arguments) (falling_given arguments))) are.placed ∙ tested input arguments)
+    (value_given Tables arguments) (value_given Certificate arguments) (value_given Journal arguments) (falling_given arguments))) are.placed ∙ tested input arguments)
 
 -- ---- the tests
 
@@ -182,14 +183,14 @@ module _ (m : SolveMeaning) where
     other_engine names lost = rw (le-ltb m.settings.num m.settings.den weight, names, lost) refl
 
     pub passes : are_one_name m.certificate m.journal ≡ false → is_journal_of_owners m.engine m.journal ≡ false → is_falling_of_owners m.engine falling ≡ false
-        → is_journal_of_falling falling m.journal ≡ false → is_pattern_of_estimate m.effort m.settings.pattern ≡ false
+        → is_journal_of_falling falling m.journal ≡ false → are_two_estimates m.effort m.tables m.settings.pattern ≡ false
         → solve_tested falling m ≡ Read (solve_in_steps m falling)
     passes names kept leases alone one = rw (le-ltb m.settings.num m.settings.den weight, names, kept, leases, alone, one) refl
 
-    pub pattern_of_estimate : are_one_name m.certificate m.journal ≡ false → is_journal_of_owners m.engine m.journal ≡ false → is_falling_of_owners m.engine falling ≡ false
-        → is_journal_of_falling falling m.journal ≡ false → is_pattern_of_estimate m.effort m.settings.pattern ≡ true
+    pub two_are_refused : are_one_name m.certificate m.journal ≡ false → is_journal_of_owners m.engine m.journal ≡ false → is_falling_of_owners m.engine falling ≡ false
+        → is_journal_of_falling falling m.journal ≡ false → are_two_estimates m.effort m.tables m.settings.pattern ≡ true
         → solve_tested falling m ≡ Refused fault.Estimate
-    pattern_of_estimate names kept leases alone two = rw (le-ltb m.settings.num m.settings.den weight, names, kept, leases, alone, two) refl
+    two_are_refused names kept leases alone two = rw (le-ltb m.settings.num m.settings.den weight, names, kept, leases, alone, two) refl
 
     -- falling weights of owners are refused, whether a journal of them is asked for or not
     pub falling_of_owners : are_one_name m.certificate m.journal ≡ false → is_falling_of_owners m.engine falling ≡ true → solve_tested falling m ≡ Refused fault.Engine
@@ -236,16 +237,27 @@ two_names_with_none : (a : Option Text) → are_one_name a None ≡ false
 two_names_with_none None = refl
 two_names_with_none (Some name) = refl
 
--- beside tables there is no pattern database
-one_estimate : (estimate : Option Text) (effort pattern : ℕ) → (estimate ≡ Some (codes "tables") → pattern ≡ 0) → is_pattern_of_estimate (effort_of estimate effort) pattern ≡ false
-one_estimate None effort pattern none = refl
-one_estimate (Some word) effort pattern none = by (bytes_eq word (codes "tables")) refl where
-  by : (b : Bool) → bytes_eq word (codes "tables") ≡ b → is_pattern_of_estimate (effort_of (Some word) effort) pattern ≡ false
+-- beside tables that are looked for there is no pattern database, and beside a file of tables there is neither
+one_estimate : (estimate tables : Option Text) (effort pattern : ℕ) → (estimate ≡ Some (codes "tables") → pattern ≡ 0)
+    → ((file : Text) → tables ≡ Some file → (pattern ≡ 0) × (estimate ≡ None)) → are_two_estimates (effort_of estimate effort) tables pattern ≡ false
+one_estimate None None effort pattern none alone = refl
+one_estimate estimate (Some file) effort pattern none alone = rw ((alone file refl).1, (alone file refl).0) refl
+one_estimate (Some word) None effort pattern none alone = by (bytes_eq word (codes "tables")) refl where
+  by : (b : Bool) → bytes_eq word (codes "tables") ≡ b → are_two_estimates (effort_of (Some word) effort) None pattern ≡ false
   by true is = rw (is, none (ap Some ((bytes_eq-Decides word (codes "tables")).0 is))) refl
   by false is = rw is refl
 
-two_estimates : (estimate : Option Text) (effort pattern : ℕ) → estimate ≡ Some (codes "tables") → 1 ≤ pattern → is_pattern_of_estimate (effort_of estimate effort) pattern ≡ true
-two_estimates estimate effort pattern tables some = rw (tables, lt-ltb 0 pattern some) refl
+pattern_beside_tables : (estimate tables : Option Text) (effort pattern : ℕ) → estimate ≡ Some (codes "tables") → 1 ≤ pattern → are_two_estimates (effort_of estimate effort) tables pattern ≡ true
+pattern_beside_tables estimate None effort pattern is some = rw (is, lt-ltb 0 pattern some) refl
+pattern_beside_tables estimate (Some file) effort pattern is some = rw is refl
+
+pattern_beside_file : (effort : Option ℕ) (tables : Option Text) (file : Text) (pattern : ℕ) → tables ≡ Some file → 1 ≤ pattern → are_two_estimates effort tables pattern ≡ true
+pattern_beside_file None tables file pattern is some = rw (is, lt-ltb 0 pattern some) refl
+pattern_beside_file (Some effort) tables file pattern is some = rw is refl
+
+tables_beside_file : (estimate tables : Option Text) (file : Text) (effort pattern : ℕ) → tables ≡ Some file → estimate ≡ Some (codes "tables")
+    → are_two_estimates (effort_of estimate effort) tables pattern ≡ true
+tables_beside_file estimate tables file effort pattern is looked = rw (is, looked) refl
 
 -- the laws
 pub solve_reads : (input : InputNames) (arguments : List Argument) → AreOfSolve input arguments → HaveOneRun arguments → number_given Den arguments ≤ number_given Num arguments
@@ -256,7 +268,7 @@ solve_reads input arguments are once weight names kept one =
     ∙ (ap (λ given. solve_tested (option_map number_of given) (solve_given input arguments)) once
     ∙ passes (solve_given input arguments) None weight (two_names (value_given Certificate arguments) (value_given Journal arguments) names)
     (kept_journal (engine_given arguments) (value_given Journal arguments) kept) (no_falling (engine_given arguments)) (no_journal_of_falling (value_given Journal arguments))
-    (one_estimate (value_given Estimate arguments) (number_given Effort arguments) (number_given Pattern arguments) one))
+    (one_estimate (value_given Estimate arguments) (value_given Tables arguments) (number_given Effort arguments) (number_given Pattern arguments) one.0 one.1))
 
 -- the engine by leases keeps each journal and has falling weights
 pub leases_keep : (e : Engine) (journal : Option Text) → e ≡ Leases → is_journal_of_owners e journal ≡ false
@@ -275,7 +287,7 @@ falling_reads input steps arguments are given weight engine journal one =
     (ap (are_one_name (value_given Certificate arguments)) journal ∙ two_names_with_none (value_given Certificate arguments))
     (leases_keep (engine_given arguments) (value_given Journal arguments) engine) (leases_fall (engine_given arguments) (Some (number_of steps)) engine)
     (ap (is_journal_of_falling (Some (number_of steps))) journal)
-    (one_estimate (value_given Estimate arguments) (number_given Effort arguments) (number_given Pattern arguments) one))
+    (one_estimate (value_given Estimate arguments) (value_given Tables arguments) (number_given Effort arguments) (number_given Pattern arguments) one.0 one.1))
 
 pub falling_of_owners_refused : (input : InputNames) (steps : Text) (arguments : List Argument) → AreOfSolve input arguments → number_given Den arguments ≤ number_given Num arguments
     → HaveTwoNames arguments → value_given EngineOption arguments ≡ Some (codes "hda") → value_given FallingOption arguments ≡ Some steps
@@ -304,14 +316,39 @@ fall_unnoted : (falling journal : Option Text) → ((steps : Text) → falling �
 fall_unnoted None journal fit = no_journal_of_falling journal
 fall_unnoted (Some steps) journal fit = ap (is_journal_of_falling (Some (number_of steps))) (fit steps refl)
 
+-- two estimates are refused, if all other tests pass
+two_estimates_refused : (input : InputNames) (arguments : List Argument) → AreOfSolve input arguments → number_given Den arguments ≤ number_given Num arguments
+    → HaveTwoNames arguments → HaveKeptJournal arguments → HaveFittingFalling arguments
+    → are_two_estimates (effort_given arguments) (value_given Tables arguments) (number_given Pattern arguments) ≡ true
+    → reading_of_words (codes "solve" ∷ words_of arguments) ≡ Refused fault.Estimate
+two_estimates_refused input arguments are weight names kept fit two =
+    solve_is_tested input arguments are
+    ∙ two_are_refused (solve_given input arguments) (falling_given arguments) weight (two_names (value_given Certificate arguments) (value_given Journal arguments) names)
+    (kept_journal (engine_given arguments) (value_given Journal arguments) kept)
+    (fall_by_leases (engine_given arguments) (value_given FallingOption arguments) (λ steps given. (fit steps given).0))
+    (fall_unnoted (value_given FallingOption arguments) (value_given Journal arguments) (λ steps given. (fit steps given).1))
+    two
+
 pub pattern_of_estimate_refused : (input : InputNames) (arguments : List Argument) → AreOfSolve input arguments → number_given Den arguments ≤ number_given Num arguments
     → HaveTwoNames arguments → HaveKeptJournal arguments → HaveFittingFalling arguments
     → value_given Estimate arguments ≡ Some (codes "tables") → 1 ≤ number_given Pattern arguments
     → reading_of_words (codes "solve" ∷ words_of arguments) ≡ Refused fault.Estimate
-pattern_of_estimate_refused input arguments are weight names kept fit tables some =
-    solve_is_tested input arguments are
-    ∙ pattern_of_estimate (solve_given input arguments) (falling_given arguments) weight (two_names (value_given Certificate arguments) (value_given Journal arguments) names)
-    (kept_journal (engine_given arguments) (value_given Journal arguments) kept)
-    (fall_by_leases (engine_given arguments) (value_given FallingOption arguments) (λ steps given. (fit steps given).0))
-    (fall_unnoted (value_given FallingOption arguments) (value_given Journal arguments) (λ steps given. (fit steps given).1))
-    (two_estimates (value_given Estimate arguments) (number_given Effort arguments) (number_given Pattern arguments) tables some)
+pattern_of_estimate_refused input arguments are weight names kept fit looked some =
+    two_estimates_refused input arguments are weight names kept fit
+    (pattern_beside_tables (value_given Estimate arguments) (value_given Tables arguments) (number_given Effort arguments) (number_given Pattern arguments) looked some)
+
+pub pattern_beside_file_refused : (input : InputNames) (file : Text) (arguments : List Argument) → AreOfSolve input arguments → number_given Den arguments ≤ number_given Num arguments
+    → HaveTwoNames arguments → HaveKeptJournal arguments → HaveFittingFalling arguments
+    → value_given Tables arguments ≡ Some file → 1 ≤ number_given Pattern arguments
+    → reading_of_words (codes "solve" ∷ words_of arguments) ≡ Refused fault.Estimate
+pattern_beside_file_refused input file arguments are weight names kept fit given some =
+    two_estimates_refused input arguments are weight names kept fit
+    (pattern_beside_file (effort_given arguments) (value_given Tables arguments) file (number_given Pattern arguments) given some)
+
+pub estimate_beside_file_refused : (input : InputNames) (file : Text) (arguments : List Argument) → AreOfSolve input arguments → number_given Den arguments ≤ number_given Num arguments
+    → HaveTwoNames arguments → HaveKeptJournal arguments → HaveFittingFalling arguments
+    → value_given Tables arguments ≡ Some file → value_given Estimate arguments ≡ Some (codes "tables")
+    → reading_of_words (codes "solve" ∷ words_of arguments) ≡ Refused fault.Estimate
+estimate_beside_file_refused input file arguments are weight names kept fit given looked =
+    two_estimates_refused input arguments are weight names kept fit
+    (tables_beside_file (value_given Estimate arguments) (value_given Tables arguments) file (number_given Effort arguments) (number_given Pattern arguments) given looked)

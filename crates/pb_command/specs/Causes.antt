@@ -36,6 +36,7 @@ solve_meant s = record {
   settings = s.settings;
   engine = s.engine;
   effort = s.effort;
+  tables = option_map (λ t. t.now) s.tables;
   certificate = option_map (λ t. t.now) s.certificate;
   journal = option_map (λ t. t.now) s.journal;
 }

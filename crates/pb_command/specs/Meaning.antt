@@ -9,24 +9,25 @@ use Rattle.pb_command.specs.declared.command.Engine.{Engine}
 use Rattle.pb_command.specs.declared.command.Engine.TheVariants.{Leases, Owners}
 use Rattle.pb_command.specs.declared.command.InputOptions.{InputOptions}
 use Rattle.pb_command.specs.declared.table.ValuedOption.{ValuedOption}
-use Rattle.pb_command.specs.declared.table.ValuedOption.TheVariants.{Row as ScenarioRow, Workers, Num, Den, Budget, Lot, Blocks, Pattern, Certificate, Journal as JournalName, Rewrite, Falling as FallingSteps}
+use Rattle.pb_command.specs.declared.table.ValuedOption.TheVariants.{Row as ScenarioRow, Workers, Num, Den, Budget, Lot, Blocks, Pattern, Tables, Certificate, Journal as JournalName, Rewrite, Falling as FallingSteps}
 use Rattle.pb_command.specs.declared.table.FlagOption.{FlagOption}
 use Rattle.pb_command.specs.declared.table.FlagOption.TheVariants.{Plain, Swamp, Reachable}
 use Rattle.pb_command.specs.Parser.{the_program, seed_most}
 use Rattle.pb_command.specs.Table.{IsInRangeOf, solve_options, check_options, journal_options, make_options}
-use Rattle.pb_command.specs.Values.{InputNames, kind_of_text, input_of, values_fit, number_at, optional_number_at, text_at, flag_at, grounding_by, engine_at, effort_at, seed_of, size_of, least_size, most_size, is_size, are_one_name, is_journal_of_owners, is_falling_of_owners, is_journal_of_falling, is_pattern_of_estimate, is_loaded_name}
+use Rattle.pb_command.specs.Values.{InputNames, kind_of_text, input_of, values_fit, number_at, optional_number_at, text_at, flag_at, grounding_by, engine_at, effort_at, seed_of, size_of, least_size, most_size, is_size, are_one_name, is_journal_of_owners, is_falling_of_owners, is_journal_of_falling, are_two_estimates, is_loaded_name}
 use Rattle.pb_command.specs.declared.refusal.CommandFault.{CommandFault}
 use Rattle.pb_command.specs.declared.refusal.CommandFault.TheVariants as fault
 
 -- `solve`: the task and how its files are read, what the search is run with, and how it searches.
--- How much is looked at to find tables for the estimate, if they are asked for. The names of the
--- certificate and of the journal, if they are given.
+-- How much is looked at to find tables for the estimate, if they are asked for. The names of a file
+-- of tables, of the certificate and of the journal, if they are given.
 pub record SolveMeaning : Type 0 where
   pub input : InputNames
   pub options : InputOptions
   pub settings : Settings
   pub engine : Engine
   pub effort : Option ℕ
+  pub tables : Option Text
   pub certificate : Option Text
   pub journal : Option Text
 
@@ -117,7 +118,7 @@ solve_in_steps solve (Some steps) = Falling (record { solve = solve; steps = ste
 
 -- A weight below 1 is a fault, then one name for the certificate and the journal. Then a journal of
 -- the engine that keeps none, or falling weights of the engine that has none, then a journal of
--- falling weights, and then a pattern database beside tables.
+-- falling weights. Then two of tables that are looked for, a file of tables, and a pattern database.
 abbrev pub solve_tested : (falling : Option ℕ) → SolveMeaning → Reading
 solve_tested falling solve =
     if nat_lt solve.settings.num solve.settings.den then Refused fault.Weight
@@ -125,16 +126,18 @@ solve_tested falling solve =
     else (if is_journal_of_owners solve.engine solve.journal then Refused fault.Engine
     else (if is_falling_of_owners solve.engine falling then Refused fault.Engine
     else (if is_journal_of_falling falling solve.journal then Refused fault.Falling
-    else (if is_pattern_of_estimate solve.effort solve.settings.pattern then Refused fault.Estimate
+    else (if are_two_estimates solve.effort solve.tables solve.settings.pattern
+    then Refused fault.Estimate
     else Read (solve_in_steps solve falling))))))
 
 -- clap sees to it that a required word is there
 abbrev pub solve_with : Option Text → Option Text → InputOptions → Settings → Engine
-    → (effort : Option ℕ) → (certificate journal : Option Text) → (falling : Option ℕ) → Kind
-    → Reading
-solve_with None second options settings engine effort certificate journal falling kind =
+    → (effort : Option ℕ) → (tables certificate journal : Option Text) → (falling : Option ℕ)
+    → Kind → Reading
+solve_with None second options settings engine effort tables certificate journal falling kind =
     Refused fault.Form
-solve_with (Some first) second options settings engine effort certificate journal falling kind =
+solve_with (Some first) second options settings engine effort tables certificate journal falling
+    kind =
     with_input (input_of kind first second)
     (λ input. solve_tested falling (record {
       input = input;
@@ -142,6 +145,7 @@ solve_with (Some first) second options settings engine effort certificate journa
       settings = settings;
       engine = engine;
       effort = effort;
+      tables = tables;
       certificate = certificate;
       journal = journal;
     }))
@@ -151,8 +155,8 @@ solve_of rows = if_fit (values_fit solve_options rows)
     (with_kind (kind_of_text (first_of (codes "KIND") rows))
     (solve_with (first_of (codes "FIRST_FILE") rows) (first_of (codes "SECOND_FILE") rows)
     (options_by (number_at rows) (flag_at rows)) (settings_by (number_at rows) (flag_at rows))
-    (engine_at rows) (effort_at rows) (text_at rows Certificate) (text_at rows JournalName)
-    (optional_number_at rows FallingSteps)))
+    (engine_at rows) (effort_at rows) (text_at rows Tables) (text_at rows Certificate)
+    (text_at rows JournalName) (optional_number_at rows FallingSteps)))
 
 -- ---- `check` and `journal`
 
@@ -251,7 +255,8 @@ pub record AreEachInRange (settings : Settings) : Type 0 where
 
 -- The row and the settings lie in their ranges, the weight is at least 1, and certificate and
 -- journal have two names. Of the engine that keeps none no journal is asked for. The effort for
--- tables is from 1 to 20, and beside tables no pattern database is asked for.
+-- tables is from 1 to 20, and beside tables no pattern database is asked for. Beside a file of
+-- tables neither a pattern database is asked for nor tables that are looked for.
 pub record IsSolveInRange (solve : SolveMeaning) : Type 0 where
   pub row : IsInRangeOf ScenarioRow solve.options.row
   pub settings : AreInRange solve.settings
@@ -259,6 +264,7 @@ pub record IsSolveInRange (solve : SolveMeaning) : Type 0 where
   pub engine : solve.engine ≡ Owners → solve.journal ≡ None
   pub effort : IfSome solve.effort (λ e. (1 ≤ e) × (e ≤ 20))
   pub estimate : IsSome solve.effort → solve.settings.pattern ≡ 0
+  pub tables : IsSome solve.tables → (solve.settings.pattern ≡ 0) × (solve.effort ≡ None)
 
 -- The same, and the number of steps is from 1 to 20. The engine is the one by leases, and no
 -- journal is asked for.

@@ -16,7 +16,7 @@ use Rattle.pb_command.specs.declared.command.Engine.{Engine}
 use Rattle.pb_command.specs.declared.command.Engine.TheVariants.{Leases, Owners}
 use Rattle.pb_command.specs.declared.command.InputOptions.{InputOptions}
 use Rattle.pb_command.specs.declared.table.ValuedOption.{ValuedOption}
-use Rattle.pb_command.specs.declared.table.ValuedOption.TheVariants.{Workers, Engine as EngineOption, Num, Den, Pattern, Estimate, Effort, Certificate, Journal, Rewrite, Falling}
+use Rattle.pb_command.specs.declared.table.ValuedOption.TheVariants.{Workers, Engine as EngineOption, Num, Den, Pattern, Estimate, Effort, Tables, Certificate, Journal, Rewrite, Falling}
 use Rattle.pb_command.specs.declared.table.FlagOption.{FlagOption}
 use Rattle.pb_command.specs.Names.{IsName}
 use Rattle.pb_command.specs.Table.{Form, Number, OptionalNumber, FileName, OneOf, option_name, option_form, flag_name, is_value, solve_options, solve_flags, check_options, check_flags, journal_options, journal_flags, make_options}
@@ -199,10 +199,13 @@ HaveTwoNames arguments =
 abbrev pub HaveKeptJournal : List Argument → Type 0
 HaveKeptJournal arguments = engine_given arguments ≡ Owners → value_given Journal arguments ≡ None
 
--- no pattern database is asked for beside tables
+-- no pattern database is asked for beside tables, and beside a file of tables neither a pattern
+-- database nor tables that are looked for
 abbrev pub HaveOneEstimate : List Argument → Type 0
 HaveOneEstimate arguments =
-    value_given Estimate arguments ≡ Some (codes "tables") → number_given Pattern arguments ≡ 0
+    (value_given Estimate arguments ≡ Some (codes "tables") → number_given Pattern arguments ≡ 0)
+    × ((file : Text) → value_given Tables arguments ≡ Some file
+    → (number_given Pattern arguments ≡ 0) × (value_given Estimate arguments ≡ None))
 
 -- if falling weights are asked for, the engine has them, and no journal is
 abbrev pub HaveFittingFalling : List Argument → Type 0
@@ -221,6 +224,7 @@ solve_given input arguments = record {
   settings = settings_given arguments;
   engine = engine_given arguments;
   effort = effort_given arguments;
+  tables = value_given Tables arguments;
   certificate = value_given Certificate arguments;
   journal = value_given Journal arguments;
 }
@@ -330,6 +334,25 @@ PatternOfEstimateIsRefused =
     → HaveKeptJournal arguments → HaveFittingFalling arguments
     → value_given Estimate arguments ≡ Some (codes "tables")
     → 1 ≤ number_given Pattern arguments
+    → reading_of_words (codes "solve" ∷ words_of arguments) ≡ Refused fault.Estimate
+
+-- And so is a pattern database beside a file of tables.
+abbrev pub PatternBesideFileIsRefused : Type 0
+PatternBesideFileIsRefused =
+    (input : InputNames) (file : Text) (arguments : List Argument) → AreOfSolve input arguments
+    → number_given Den arguments ≤ number_given Num arguments → HaveTwoNames arguments
+    → HaveKeptJournal arguments → HaveFittingFalling arguments
+    → value_given Tables arguments ≡ Some file → 1 ≤ number_given Pattern arguments
+    → reading_of_words (codes "solve" ∷ words_of arguments) ≡ Refused fault.Estimate
+
+-- And so are tables that are looked for, beside a file of tables, whatever `--pattern` is given.
+abbrev pub EstimateBesideFileIsRefused : Type 0
+EstimateBesideFileIsRefused =
+    (input : InputNames) (file : Text) (arguments : List Argument) → AreOfSolve input arguments
+    → number_given Den arguments ≤ number_given Num arguments → HaveTwoNames arguments
+    → HaveKeptJournal arguments → HaveFittingFalling arguments
+    → value_given Tables arguments ≡ Some file
+    → value_given Estimate arguments ≡ Some (codes "tables")
     → reading_of_words (codes "solve" ∷ words_of arguments) ≡ Refused fault.Estimate
 
 -- the name is one of these

@@ -9,7 +9,7 @@ use Rattle.clap.specs.ValueTests.{is_unsigned_in}
 use Rattle.pb_command.specs.declared.command.Engine.{Engine}
 use Rattle.pb_command.specs.declared.command.Engine.TheVariants.{Leases, Owners}
 use Rattle.pb_command.specs.declared.table.ValuedOption.{ValuedOption}
-use Rattle.pb_command.specs.declared.table.ValuedOption.TheVariants.{Row, Workers, Engine as EngineOption, Num, Den, Budget, Lot, Blocks, Pattern, Estimate, Effort, Certificate, Journal, Rewrite, Falling}
+use Rattle.pb_command.specs.declared.table.ValuedOption.TheVariants.{Row, Workers, Engine as EngineOption, Num, Den, Budget, Lot, Blocks, Pattern, Estimate, Effort, Tables, Certificate, Journal, Rewrite, Falling}
 use Rattle.pb_command.specs.declared.table.FlagOption.{FlagOption}
 use Rattle.pb_command.specs.declared.table.FlagOption.TheVariants.{Plain, Swamp, Reachable}
 
@@ -58,10 +58,10 @@ tables_word = codes "tables"
 -- The numerator and the denominator of the weight, and how many expansions a search may do, at most
 -- 2^40. How many expansions a lease gets at most, at most 2^20, and how many blocks the abstract
 -- graph has at most. The number of the pattern database, 0 for none. Whether tables are looked for,
--- from which the estimate is read, and how much is looked at to find them. The names under which
--- the certificate and the journal are saved, and under which a certificate that was accepted is
--- saved anew. In how many steps the weight falls; without this option there is one run at one
--- weight.
+-- from which the estimate is read, and how much is looked at to find them. The name of a file that
+-- has such tables. The names under which the certificate and the journal are saved, and under which
+-- a certificate that was accepted is saved anew. In how many steps the weight falls; without this
+-- option there is one run at one weight.
 abbrev pub entry_of : ValuedOption → Entry
 entry_of Row = number (codes "row") 0 1000000 0
 entry_of Workers = number (codes "workers") 1 64 1
@@ -74,6 +74,7 @@ entry_of Blocks = number (codes "blocks") 16 4096 256
 entry_of Pattern = number (codes "pattern") 0 12 0
 entry_of Estimate = word (codes "estimate") (tables_word ∷ [])
 entry_of Effort = number (codes "effort") 1 20 10
+entry_of Tables = file_name (codes "tables")
 entry_of Certificate = file_name (codes "cert")
 entry_of Journal = file_name (codes "trace")
 entry_of Rewrite = file_name (codes "rewrite")
@@ -97,7 +98,7 @@ flag_name Reachable = codes "reachable"
 abbrev pub solve_options : List ValuedOption
 solve_options =
     Row ∷ Workers ∷ EngineOption ∷ Num ∷ Den ∷ Budget ∷ Lot ∷ Blocks ∷ Pattern ∷ Estimate
-    ∷ Effort ∷ Certificate ∷ Journal ∷ Falling ∷ []
+    ∷ Effort ∷ Tables ∷ Certificate ∷ Journal ∷ Falling ∷ []
 
 abbrev pub solve_flags : List FlagOption
 solve_flags = Plain ∷ Swamp ∷ Reachable ∷ []

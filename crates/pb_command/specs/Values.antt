@@ -211,10 +211,13 @@ abbrev pub is_journal_of_falling : (falling : Option ℕ) → (journal : Option 
 is_journal_of_falling (Some steps) (Some name) = true
 is_journal_of_falling _ _ = false
 
--- whether a pattern database is asked for beside tables
-abbrev pub is_pattern_of_estimate : (effort : Option ℕ) → (pattern : ℕ) → Bool
-is_pattern_of_estimate None pattern = false
-is_pattern_of_estimate (Some effort) pattern = nat_lt 0 pattern
+-- whether two of these are asked for: tables that are looked for, a file of tables, and a pattern
+-- database
+abbrev pub are_two_estimates : (effort : Option ℕ) → (tables : Option Text) → (pattern : ℕ) → Bool
+are_two_estimates None None pattern = false
+are_two_estimates None (Some file) pattern = nat_lt 0 pattern
+are_two_estimates (Some effort) None pattern = nat_lt 0 pattern
+are_two_estimates (Some effort) (Some file) pattern = true
 
 -- whether a file of the task has this name
 abbrev pub is_input_name : InputNames → Text → Bool

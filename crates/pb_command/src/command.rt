@@ -74,6 +74,9 @@ pub struct SolveCommand<'a> {
     /// saturated cost partitioning (Seipp, Keller and Helmert, "Saturated Cost Partitioning for
     /// Optimal Classical Planning", 2020). No pattern database is asked for beside them.
     pub effort: Option<u32>,
+    /// `--tables FILE`: the name of a file of tables, if one is given. It is looked at for STRIPS
+    /// alone. Beside it neither a pattern database is asked for, nor tables that are looked for.
+    pub tables: Option<&'a str>,
     /// `--cert NAME`: the name under which the certificate is to be saved, if one is given.
     pub certificate: Option<&'a str>,
     /// `--trace NAME`: the name under which the journal is to be saved, if one is given. It isn't

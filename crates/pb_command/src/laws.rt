@@ -10,6 +10,7 @@ ghost use Rattle.pb_command.specs.Options.{DefaultsAreStandard, DefaultEngineIsL
 ghost use Rattle.pb_command.specs.Options.{EngineHasTwoWords, EstimateHasOneWord};
 ghost use Rattle.pb_command.specs.Options.{TablesHaveEffort, EffortIsOfTables};
 ghost use Rattle.pb_command.specs.Options.{PatternOfEstimateIsRefused};
+ghost use Rattle.pb_command.specs.Options.{PatternBesideFileIsRefused, EstimateBesideFileIsRefused};
 ghost use Rattle.pb_command.specs.Laws.{OneFileIsRefused, TwoBoardsAreRefused};
 ghost use Rattle.pb_command.specs.Laws.{DomainAloneIsRefused, OtherKindIsRefused};
 ghost use Rattle.pb_command.specs.Laws.{FilesComeBeforeWeight, WeightComesBeforeNames};
@@ -37,13 +38,16 @@ pub fn solve_reads_options()
 {}
 
 /// Wherever the options of `solve` stand, these are refused, each for its own fault: a weight below
-/// 1, one name for the certificate and the journal, a journal of a search by owners, and a pattern
-/// database beside tables, with `--falling` or without it.
+/// 1, one name for the certificate and the journal, a journal of a search by owners, and two of
+/// tables that are looked for, a file of tables and a pattern database, with `--falling` or without
+/// it.
 pub fn solve_tests_options()
     ensures weight { LowWeightIsRefused }
     ensures names { OneNameIsRefused }
     ensures engine { JournalOfOwnersIsRefused }
     ensures estimate { PatternOfEstimateIsRefused }
+    ensures file { PatternBesideFileIsRefused }
+    ensures both { EstimateBesideFileIsRefused }
 {}
 
 /// With `--falling`, wherever it stands, they give a search at falling weights the same values, and

@@ -23,9 +23,9 @@ use crate::table::{
     CHECK_OPTIONS, FlagOption, JOURNAL_OPTIONS, MAKE_OPTIONS, SOLVE_OPTIONS, ValuedOption,
 };
 use crate::values::{
-    SEED_MOST, SIZE_WORD_MOST, effort_at, engine_at, fits, flag_at, grounding_at, input_of,
-    is_falling_of_owners, is_journal_of_falling, is_journal_of_owners, is_loaded_name, is_one_name,
-    is_pattern_of_estimate, is_size, known_kind, number, number_at, optional_number_at, text,
+    SEED_MOST, SIZE_WORD_MOST, are_two_estimates, effort_at, engine_at, fits, flag_at,
+    grounding_at, input_of, is_falling_of_owners, is_journal_of_falling, is_journal_of_owners,
+    is_loaded_name, is_one_name, is_size, known_kind, number, number_at, optional_number_at, text,
     text_at, values_fit,
 };
 use clap::{ArgMatches, Error};
@@ -66,7 +66,7 @@ fn settings(matches: &ArgMatches<'_>) -> Settings
 
 // The command, if its weight is at least 1, its two files have two names, and its engine keeps the
 // journal and has the falling weights that are asked for. A search with falling weights keeps no
-// journal, and beside tables there is no pattern database.
+// journal. Tables that are looked for, a file of tables and a pattern database exclude each other.
 fn tested_solve<'a>(
     command: SolveCommand<'a>,
     falling: Option<u64>,
@@ -94,7 +94,7 @@ fn tested_solve<'a>(
     if is_journal_of_falling(falling, command.journal) {
         return Err(CommandFault::Falling);
     }
-    if is_pattern_of_estimate(command.effort, command.settings.pattern) {
+    if are_two_estimates(command.effort, command.tables, command.settings.pattern) {
         return Err(CommandFault::Estimate);
     }
     match falling {
@@ -118,6 +118,7 @@ fn read_solve<'a>(matches: &ArgMatches<'a>) -> Result<CommandLine<'a>, CommandFa
     let settings = settings(matches);
     let engine = engine_at(matches);
     let effort = effort_at(matches);
+    let tables = text_at(matches, ValuedOption::Tables);
     let certificate = text_at(matches, ValuedOption::Certificate);
     let journal = text_at(matches, ValuedOption::Journal);
     let falling = optional_number_at(matches, ValuedOption::Falling);
@@ -136,6 +137,7 @@ fn read_solve<'a>(matches: &ArgMatches<'a>) -> Result<CommandLine<'a>, CommandFa
                     settings,
                     engine,
                     effort,
+                    tables,
                     certificate,
                     journal,
                 };
@@ -353,8 +355,8 @@ fn parse<'a>(alloc: Global, words: &'a [String]) -> Result<ArgMatches<'a>, Error
 
 /// Reads the words after the program's name: the command that they are, or why they are none, with
 /// what is to be printed of it. The tests come in this order: the form, the kind, the number of
-/// files, the weight, the two names, the engine, the journal of falling weights, the pattern
-/// database beside tables, the size.
+/// files, the weight, the two names, the engine, the journal of falling weights, the two estimates,
+/// the size.
 pub fn read_words<'a>(alloc: Global, words: &'a [String]) -> Result<CommandLine<'a>, CommandRefusal>
     ensures read { IfOk result (λ c. reading_of_words (map string_bytes words.entry.now)
         ≡ Read (meaning_of c)) }

@@ -37,8 +37,8 @@ pub enum CommandFault {
     Engine,
     /// A journal is asked for of a search with falling weights: `--falling` stands with `--trace`.
     Falling,
-    /// A pattern database is asked for beside tables: `--estimate tables` stands with a `--pattern`
-    /// over 0.
+    /// Two of these are asked for: tables that are looked for, a file of tables, and a pattern
+    /// database. `--estimate tables` or `--tables` stands with a `--pattern` over 0, or both stand.
     Estimate,
     /// A made task of this kind can't have this size.
     Size,

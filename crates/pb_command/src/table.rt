@@ -31,6 +31,8 @@ pub enum ValuedOption {
     Estimate,
     /// `--effort E`: how much is looked at to find these tables.
     Effort,
+    /// `--tables FILE`: the name of a file of tables, from which the estimate is read.
+    Tables,
     /// `--cert NAME`: the name under which the certificate is saved.
     Certificate,
     /// `--trace NAME`: the name under which the journal is saved.
@@ -79,7 +81,7 @@ pub(crate) struct TableEntry<'a> {
 }
 
 // The options of each command, in the order in which clap knows them.
-pub(crate) const SOLVE_OPTIONS: [ValuedOption; 14] = [
+pub(crate) const SOLVE_OPTIONS: [ValuedOption; 15] = [
     ValuedOption::Row,
     ValuedOption::Workers,
     ValuedOption::Engine,
@@ -91,6 +93,7 @@ pub(crate) const SOLVE_OPTIONS: [ValuedOption; 14] = [
     ValuedOption::Pattern,
     ValuedOption::Estimate,
     ValuedOption::Effort,
+    ValuedOption::Tables,
     ValuedOption::Certificate,
     ValuedOption::Journal,
     ValuedOption::Falling,
@@ -207,6 +210,7 @@ fn entry_of<'a>(option: ValuedOption) -> TableEntry<'a>
         ValuedOption::Pattern => number("pattern", 0, 12, 0),
         ValuedOption::Estimate => one_word("estimate", TABLES),
         ValuedOption::Effort => number("effort", 1, 20, 10),
+        ValuedOption::Tables => file_name("tables"),
         ValuedOption::Certificate => file_name("cert"),
         ValuedOption::Journal => file_name("trace"),
         ValuedOption::Rewrite => file_name("rewrite"),

@@ -6,7 +6,7 @@ ghost use Rattle.pb_command.specs.Values.{are_one_name, option_fits, values_fit,
 ghost use Rattle.pb_command.specs.Values.{optional_number_at, text_at, flag_at, grounding_by};
 ghost use Rattle.pb_command.specs.Values.{is_input_name, is_loaded_name, is_journal_of_owners};
 ghost use Rattle.pb_command.specs.Values.{engine_at, is_falling_of_owners, is_journal_of_falling};
-ghost use Rattle.pb_command.specs.Values.{effort_at, is_pattern_of_estimate};
+ghost use Rattle.pb_command.specs.Values.{effort_at, are_two_estimates};
 ghost use Rattle.pb_command.specs.Table.{IsInRangeOf};
 ghost use Rattle.pb_command.specs.declared.command.Engine.TheVariants.{Leases, Owners};
 ghost use Rattle.pb_command.specs.declared.table.ValuedOption.TheVariants.{Effort};
@@ -255,14 +255,19 @@ pub(crate) fn is_journal_of_falling(falling: Option<u64>, journal: Option<&str>)
     }
 }
 
-// Whether a pattern database is asked for beside tables.
-pub(crate) fn is_pattern_of_estimate(effort: Option<u32>, pattern: u32) -> bool
-    ensures test { result ≡ is_pattern_of_estimate effort pattern }
+// Whether two of these are asked for: tables that are looked for, a file of tables, and a pattern
+// database.
+pub(crate) fn are_two_estimates(effort: Option<u32>, tables: Option<&str>, pattern: u32) -> bool
+    ensures test { result
+        ≡ are_two_estimates effort (option_map (λ t. t.now) tables.entry) pattern }
     ensures none { result ≡ false → IsSome effort → pattern ≡ 0 }
+    ensures file { result ≡ false → IsSome (option_map (λ t. t.now) tables.entry)
+        → (pattern ≡ 0) × (effort ≡ None) }
 {
-    match effort {
-        Some(_) => pattern > 0,
-        None => false,
+    match (effort, tables) {
+        (None, None) => false,
+        (Some(_), Some(_)) => true,
+        _ => pattern > 0,
     }
 }
 

@@ -26,6 +26,10 @@ use Rattle.pb_lifted.specs.declared.refusal.TypingRefusal.{TypingRefusal}
 use Rattle.pb_lifted.specs.declared.refusal.TypingRefusal.TheVariants.{Named, TooManyObjects}
 use Rattle.pb_strips.specs.declared.error.StripsError.{StripsError}
 use Rattle.pb_strips.specs.declared.error.StripsError.TheVariants as strips
+use Rattle.pb_tables.specs.declared.fault.TablesFault.{TablesFault}
+use Rattle.pb_tables.specs.declared.fault.TablesFault.TheVariants as tables_faults
+use Rattle.pb_tables.specs.Tables.{TablesValue}
+use Rattle.pb_table_lines.specs.Lines.{line_number}
 use Rattle.pb_journal.specs.declared.error.Why.{Why}
 use Rattle.pb_journal.specs.declared.error.Why.TheVariants as why
 use Rattle.pb_check.specs.declared.fault.Verdict.{Verdict}
@@ -229,3 +233,18 @@ strips_text (strips.TooManyAtoms count) = Some (with_number (codes "input TooMan
 strips_text strips.TooManyActions = Some (line (codes "input TooManyActions"))
 strips_text strips.Stopped = Some stopped_grounding_report
 strips_text strips.Memory = None
+
+-- ---- the input: tables of a file
+
+-- the first line of a file that isn't spelled as one that states tables must be
+abbrev pub tables_syntax_text : (at : ℕ) → List ℕ
+tables_syntax_text at = with_number (codes "input Tables") at
+
+-- Why the tables of a file don't suit the task: the number of the line of a table or trap that is at
+-- fault, among all lines of the file from 1 on; or the sum that an action lowers by more than its
+-- cost, and the action.
+abbrev pub tables_fault_text : TablesValue → TablesFault → List ℕ
+tables_fault_text tables (tables_faults.Line list at) =
+    with_number (codes "input Unsuited") (line_number tables list at)
+tables_fault_text tables (tables_faults.Unpaid sum action) =
+    with_numbers (codes "input Unpaid") sum action

@@ -4,7 +4,7 @@ ghost use Rattle.std.specs.Fmt.{decimal};
 ghost use Rattle.pb_model.specs.Texts.{line, spaced, none_report, stopped_report};
 ghost use Rattle.pb_task.specs.Parts.{space_of};
 ghost use Rattle.pb_lifted.specs.declared.refusal.TypingRefusal.TheVariants.{Named};
-ghost use Rattle.pb_report.specs.Texts.{AreActions, plan_text, claim_text, verdict_text, made_text, fault_text, input_text, tiles_text, file_number, syntax_text, refusal_text, strips_text, stopped_grounding_report, journal_report, journal_fault_text};
+ghost use Rattle.pb_report.specs.Texts.{AreActions, plan_text, claim_text, verdict_text, made_text, fault_text, input_text, tiles_text, file_number, syntax_text, refusal_text, strips_text, stopped_grounding_report, tables_syntax_text, tables_fault_text, journal_report, journal_fault_text};
 
 use crate::pieces::{
     push_steps, push_with_number, push_with_number_and_wide, push_with_numbers,
@@ -19,6 +19,8 @@ use pb_lifted::{Cause, File, Place, TypingRefusal};
 use pb_pddl::SyntaxError;
 use pb_print::{push_line, push_text};
 use pb_strips::StripsError;
+use pb_table_lines::line_number;
+use pb_tables::{Tables, TablesFault};
 use pb_task::Task;
 use pb_tiles::TilesError;
 use std::alloc::{AllocError, Global};
@@ -315,6 +317,38 @@ impl Report {
             StripsError::TooManyActions => Report::of_line(alloc, b"input TooManyActions"),
             StripsError::Stopped => Report::of_grounding_stop(alloc),
             StripsError::Memory => Err(AllocError),
+        }
+    }
+
+    /// That a file states no tables: its first line that isn't spelled as it must be, from 1 on.
+    pub fn of_tables_line(alloc: Global, line: u64) -> Result<Report, AllocError>
+        ensures { IfOk result (λ report. report ≡ tables_syntax_text line) }
+    {
+        Report::with_number(alloc, b"input Tables ", line)
+    }
+
+    /// That the tables of a file don't suit the task, and why: the line of a table or trap that is
+    /// at fault, counted from 1 in the file; or a sum and the action that lowers it by more than its
+    /// cost.
+    pub fn of_tables_fault(
+        alloc: Global,
+        tables: &Tables,
+        fault: TablesFault,
+    ) -> Result<Report, AllocError>
+        ensures { IfOk result (λ report. report ≡ tables_fault_text tables.now fault) }
+    {
+        match fault {
+            TablesFault::Line { list, line } => {
+                let at = line_number(tables, list, line);
+                Report::with_wide(alloc, b"input Unsuited ", at)
+            }
+            TablesFault::Unpaid { sum, action } => Report::with_numbers(
+                alloc,
+                b"input Unpaid ",
+                sum as u64,
+                b" ",
+                action as u64,
+            ),
         }
     }
 

@@ -3,6 +3,8 @@ use Rattle.std.proofs.Common.{◌≡◌, ◌⊎◌, inl, inr, ℕ, false, ◌<�
 use Rattle.pb_model.specs.Plan.{Plan}
 use Rattle.pb_model.specs.Texts.{stopped_report}
 use Rattle.pb_task.specs.declared.parts.TaskParts.{TaskParts}
+use Rattle.pb_tables.specs.Tables.{TablesValue}
+use Rattle.pb_estimate.specs.Choices.{Choice}
 use Rattle.pb_check.specs.Judging.{checked}
 use Rattle.pb_grid.specs.Laws.{SwampChangesMarksAlone}
 use Rattle.pb_abstract.specs.Laws.{BlocksAskForNoCosts}
@@ -22,27 +24,34 @@ use Rattle.pb_answer.specs.Searches.{settings_of, weight_asked}
 use Rattle.pb_answer.specs.Claims.{IsCertificate, journal_outputs, journal_outputs_if_any, Certifies, Stops}
 use Rattle.pb_answer.specs.Journals.{IsJournalOf}
 use Rattle.pb_answer.specs.Answer.{Says, Saves}
-use Rattle.pb_answer.specs.Stops.{StopsGrounding, StopsBehind, StopsTexts}
-use Rattle.pb_answer.proofs.Callers.{SavesJournal, of_quiet, of_stopped, without_swamp}
+use Rattle.pb_answer.specs.Stops.{StopsSolve, StopsBehind, StopsTexts}
+use Rattle.pb_answer.proofs.Callers.{task_read, SavesJournal, of_quiet, of_stopped, without_swamp}
 use Rattle.pb_run.specs.Outcome.{Outcome, IfSolve, IfCheck, IfJournal, IsAnswer, IsBroken}
 use Rattle.pb_run.specs.Headline.{CertificateHolds, StopHasCause}
 use Rattle.pb_run.specs.Commands.{IsOfVerdict, SolveHolds, CheckHolds, JournalHolds}
-use Rattle.pb_run.specs.Laws.{IsSavedFirst, IsSavedLast, SavedCertificatesAreAccepted, SavedJournalsAreAccepted, SavedJournalsAreShort, Keeps, AcceptsUnlessStopped, AcceptsIt, CertificatesAreAcceptedByWords, JournalsAreAcceptedByWords}
+use Rattle.pb_run.specs.Laws.{task_texts, IsSavedFirst, IsSavedLast, SavedCertificatesAreAccepted, SavedJournalsAreAccepted, SavedJournalsAreShort, Keeps, AcceptsUnlessStopped, AcceptsIt, CertificatesAreAcceptedByWords, JournalsAreAcceptedByWords}
 
--- the texts behind another one spell the task that they spell alone
-input_behind : (input : InputNames) (options : InputOptions) (text : List ℕ) (texts : List (List ℕ))
-    → input_task input options 1 (text ∷ texts) ≡ input_task input options 0 texts
-input_behind (Grid names) options text texts = refl
-input_behind (Tiles board) options text texts = refl
-input_behind (Strips names) options text texts = refl
+-- The texts of a task, behind another text, spell the task that they spell alone. The text of a file
+-- of tables may follow there.
+pub input_behind : (input : InputNames) (options : InputOptions) (text : List ℕ)
+    (texts : List (List ℕ))
+    → input_task input options 1 (text ∷ task_texts input texts) ≡ input_task input options 0 texts
+input_behind (Grid names) options text [] = refl
+input_behind (Grid names) options text (first ∷ []) = refl
+input_behind (Grid names) options text (first ∷ (second ∷ rest)) = refl
+input_behind (Tiles board) options text [] = refl
+input_behind (Tiles board) options text (first ∷ rest) = refl
+input_behind (Strips names) options text [] = refl
+input_behind (Strips names) options text (first ∷ []) = refl
+input_behind (Strips names) options text (first ∷ (second ∷ rest)) = refl
 
 -- ---- what is promised of a search
 
 -- the certificate of none, or the cause of a stop, if the arguments are this command
 pub none_of : (solve : SolveMeaning) (it : Outcome) → it.asked ≡ Read (Solve solve) → CertificateHolds it → it.said.status ≡ 1
-    → OfTexts solve it.texts (λ task. Certifies (Saves it.said) solve task None)
+    → OfTexts solve it.texts (λ choice task. Certifies (Saves it.said) solve choice task None)
 none_of solve it is holds =
-    subst (λ (r : Reading). IfSolve r (λ s. it.said.status ≡ 1 → OfTexts s it.texts (λ task. Certifies (Saves it.said) s task None))) is holds.none
+    subst (λ (r : Reading). IfSolve r (λ s. it.said.status ≡ 1 → OfTexts s it.texts (λ choice task. Certifies (Saves it.said) s choice task None))) is holds.none
 
 none_last : (first : List Output) (last : Output) → [] ≡ first ++ last ∷ [] → ⊥
 none_last [] last e = cc
@@ -53,12 +62,12 @@ stop_of : (solve : SolveMeaning) (it : Outcome) (name text : List ℕ) → it.as
     → OfTexts solve it.texts (Stops (Saves it.said) solve)
 stop_of solve it name text is saved holds two = go
     (subst (λ (r : Reading). IfSolve r (λ s. it.said.status ≡ 2 → (Says it.said (stopped_report s.settings.budget) × OfTexts s it.texts (Stops (Saves it.said) s))
-    ⊎ StopsGrounding s.input s.options 0 it.texts it.said)) is holds two)
+    ⊎ StopsSolve s it.texts it.said)) is holds two)
   where
-    go : (Says it.said (stopped_report solve.settings.budget) × OfTexts solve it.texts (Stops (Saves it.said) solve)) ⊎ StopsGrounding solve.input solve.options 0 it.texts it.said
+    go : (Says it.said (stopped_report solve.settings.budget) × OfTexts solve it.texts (Stops (Saves it.said) solve)) ⊎ StopsSolve solve it.texts it.said
         → OfTexts solve it.texts (Stops (Saves it.said) solve)
     go (inl stop) = stop.1
-    go (inr halted) = absurd (none_last saved.0 (output name text) (sym halted.outputs ∙ saved.1))
+    go (inr halted) = absurd (none_last saved.0 (output name text) (sym halted.1.outputs ∙ saved.1))
 
 -- ---- a verdict, or a stop
 
@@ -75,18 +84,20 @@ first_text [] = []
 first_text (first ∷ rest) = first.text
 
 module _ (solve : SolveMeaning) (check : CheckMeaning) (ran checked_ran : Outcome) (name text : List ℕ) (same_input : check.input ≡ solve.input) (same_options : check.options ≡ solve.options)
-    (named : solve.certificate ≡ Some name) (saved : IsSavedFirst ran.said name text) (texts : checked_ran.texts ≡ text ∷ ran.texts) (decided : CheckHolds check checked_ran) where
-  task_is : (parts : TaskParts) → solve_task solve ran.texts ≡ Ok parts → check_task check checked_ran.texts ≡ Ok (parts, text)
-  task_is parts is =
-      let input : input_task check.input check.options 1 (text ∷ ran.texts) ≡ Ok parts =
-      (λ i. input_task (same_input i) (same_options i) 1 (text ∷ ran.texts)) ∙ input_behind solve.input solve.options text ran.texts ∙ is in
+    (named : solve.certificate ≡ Some name) (saved : IsSavedFirst ran.said name text) (texts : checked_ran.texts ≡ text ∷ task_texts solve.input ran.texts) (decided : CheckHolds check checked_ran) where
+  task_is : (read : TaskParts × Option TablesValue) → solve_task solve ran.texts ≡ Ok read → check_task check checked_ran.texts ≡ Ok (read.0, text)
+  task_is read is =
+      let there = task_texts solve.input ran.texts in
+      let input : input_task check.input check.options 1 (text ∷ there) ≡ Ok read.0 =
+      (λ i. input_task (same_input i) (same_options i) 1 (text ∷ there)) ∙ input_behind solve.input solve.options text ran.texts ∙ task_read solve ran.texts read is in
       ap (check_task check) texts ∙ ap (with_text (Some text)) input
 
   -- the text of the certificate is accepted
-  accepted : (parts : TaskParts) (plan : Option Plan) → solve_task solve ran.texts ≡ Ok parts → Certifies (Saves ran.said) solve parts plan
+  accepted : (read : TaskParts × Option TablesValue) (choice : Choice) (plan : Option Plan) → solve_task solve ran.texts ≡ Ok read
+      → Certifies (Saves ran.said) solve choice read.0 plan
       → AcceptsUnlessStopped check.input check.options checked_ran
-  accepted parts plan is (choice, asked, left, searched, found, outputs, certificate, saves) =
-      let mine = subst (λ (n : Option (List ℕ)). IsCertificate n parts choice (weight_asked solve) left.guide
+  accepted read choice plan is (left, searched, found, outputs, certificate, saves) =
+      let mine = subst (λ (n : Option (List ℕ)). IsCertificate n read.0 choice (weight_asked solve) left.guide
       left.store plan outputs) named certificate in
       let journals = journal_outputs_if_any solve.journal (settings_of solve) left.journal in
       let all : output name text ∷ saved.0 ≡ (output name mine.0 ∷ []) ++ journals =
@@ -94,13 +105,13 @@ module _ (solve : SolveMeaning) (check : CheckMeaning) (ran checked_ran : Outcom
       let same : text ≡ mine.0 = ap first_text all in
       verdict_or_stop check.input check.options checked_ran
       (subst (λ v. IsOfVerdict v checked_ran.said.status ⊎ StopsBehind check.input check.options checked_ran.texts checked_ran.said)
-      (ap (checked parts) same ∙ mine.1.accepted)
-      (decided.exact parts text (task_is parts is)))
+      (ap (checked read.0) same ∙ mine.1.accepted)
+      (decided.exact read.0 text (task_is read is)))
 
   pub either : (ran.said.status ≡ 0) ⊎ (ran.said.status ≡ 1) → ran.asked ≡ Read (Solve solve) → SolveHolds solve ran → CertificateHolds ran
       → AcceptsUnlessStopped check.input check.options checked_ran
-  either (inl zero) is all certified = let found = all.one_plan zero in accepted found.0 (Some found.2.0) found.1 found.2.6
-  either (inr one) is all certified = let found = none_of solve ran is certified one in accepted found.0 None found.1 found.2
+  either (inl zero) is all certified = let found = all.one_plan zero in accepted found.0 found.2.0 (Some found.2.2.0) found.1 found.2.2.6
+  either (inr one) is all certified = let found = none_of solve ran is certified one in accepted found.0 found.2.0 None found.1 found.2.2
 
 pub saved_certificates_are_accepted : SavedCertificatesAreAccepted
 saved_certificates_are_accepted solve check ran checked_ran name text is same_input same_options named answered saved texts all certified decided =
@@ -130,16 +141,16 @@ saved_journal : WrittenJournalsAreAccepted → JournalTextsAreShort → (solve :
     → solve.engine ≡ Leases → (ran : Outcome) → (ran.said.status ≡ 0) ⊎ ((ran.said.status ≡ 1) ⊎ (ran.said.status ≡ 2))
     → ran.asked ≡ Read (Solve solve) → SolveHolds solve ran → CertificateHolds ran
     → StopHasCause ran → (name text : List ℕ) → IsSavedLast ran.said name text
-    → OfTexts solve ran.texts (SavesJournal (Saves ran.said) solve)
+    → OfTexts solve ran.texts (λ choice parts. SavesJournal (Saves ran.said) solve parts)
 saved_journal law lengths solve engine ran (inl zero) is all certified stop name text saved =
     let found = all.one_plan zero in
-    (found.0, found.1, of_quiet law lengths solve engine found.0 (Saves ran.said) (Some found.2.0) found.2.6)
+    (found.0, found.1, (found.2.0, found.2.1, of_quiet law lengths solve engine found.2.0 found.0.0 (Saves ran.said) (Some found.2.2.0) found.2.2.6))
 saved_journal law lengths solve engine ran (inr (inl one)) is all certified stop name text saved =
     let found = none_of solve ran is certified one in
-    (found.0, found.1, of_quiet law lengths solve engine found.0 (Saves ran.said) None found.2)
+    (found.0, found.1, (found.2.0, found.2.1, of_quiet law lengths solve engine found.2.0 found.0.0 (Saves ran.said) None found.2.2))
 saved_journal law lengths solve engine ran (inr (inr two)) is all certified stop name text saved =
     let found = stop_of solve ran name text is saved stop two in
-    (found.0, found.1, of_stopped law lengths solve engine found.0 (Saves ran.said) found.2)
+    (found.0, found.1, (found.2.0, found.2.1, of_stopped law lengths solve engine found.2.0 found.0.0 (Saves ran.said) found.2.2))
 
 -- the text that was saved last is that of the journal
 text_is : (solve : SolveMeaning) (ran : Outcome) (name text : List ℕ) → solve.journal ≡ Some name
@@ -159,14 +170,18 @@ pub saved_journals_are_short : WrittenJournalsAreAccepted → JournalTextsAreSho
     → SavedJournalsAreShort
 saved_journals_are_short law lengths solve ran name text engine is named answered saved all certified stop =
     let found = saved_journal law lengths solve engine ran answered is all certified stop name text saved in
-    let mine = found.2 in
-    let same = text_is solve ran name text named saved found.0 mine in (
+    let mine = found.2.2 in
+    let same = text_is solve ran name text named saved found.0.0 mine in (
       found.0,
       found.1,
       (
-        length mine.events,
-        subst (λ (t : List ℕ). IsJournalOf found.0 t (length mine.events)) (sym same) mine.legal,
-        subst (λ (t : List ℕ). length t ≤ most_bytes (length mine.events)) (sym same) mine.short,
+        found.2.0,
+        found.2.1,
+        (
+          length mine.events,
+          subst (λ (t : List ℕ). IsJournalOf found.0.0 t (length mine.events)) (sym same) mine.legal,
+          subst (λ (t : List ℕ). length t ≤ most_bytes (length mine.events)) (sym same) mine.short,
+        ),
       ),
     )
 
@@ -174,18 +189,19 @@ module _ (law : WrittenJournalsAreAccepted) (lengths : JournalTextsAreShort) (ma
     (blocks : BlocksAskForNoCosts) (solve : SolveMeaning) (engine : solve.engine ≡ Leases) (journal : JournalMeaning)
     (ran judged_ran : Outcome) (name text : List ℕ) (same_input : journal.input ≡ solve.input)
     (same_options : journal.options ≡ record solve.options { swamp = false }) (named : solve.journal ≡ Some name)
-    (saved : IsSavedLast ran.said name text) (texts : judged_ran.texts ≡ text ∷ ran.texts)
+    (saved : IsSavedLast ran.said name text) (texts : judged_ran.texts ≡ text ∷ task_texts solve.input ran.texts)
     (decided : JournalHolds journal judged_ran) where
   judged_task : (parts : TaskParts) → input_task solve.input (record solve.options { swamp = false }) 0 ran.texts ≡ Ok parts
       → journal_task journal judged_ran.texts ≡ Ok (parts, text)
   judged_task parts is =
-      let input : input_task journal.input journal.options 1 (text ∷ ran.texts) ≡ Ok parts =
-      (λ i. input_task (same_input i) (same_options i) 1 (text ∷ ran.texts))
+      let there = task_texts solve.input ran.texts in
+      let input : input_task journal.input journal.options 1 (text ∷ there) ≡ Ok parts =
+      (λ i. input_task (same_input i) (same_options i) 1 (text ∷ there))
       ∙ input_behind solve.input (record solve.options { swamp = false }) text ran.texts ∙ is in
       ap (journal_task journal) texts ∙ ap (with_text (Some text)) input
 
   -- the saved text is accepted, whatever was saved before it
-  journal_accepted : (parts : TaskParts) → solve_task solve ran.texts ≡ Ok parts
+  journal_accepted : (parts : TaskParts) → input_task solve.input solve.options 0 ran.texts ≡ Ok parts
       → SavesJournal (Saves ran.said) solve parts
       → AcceptsUnlessStopped journal.input journal.options judged_ran
   journal_accepted parts is mine =
@@ -201,7 +217,7 @@ module _ (law : WrittenJournalsAreAccepted) (lengths : JournalTextsAreShort) (ma
       → AcceptsUnlessStopped journal.input journal.options judged_ran
   any_journal answered is all certified stop =
       let found = saved_journal law lengths solve engine ran answered is all certified stop name text saved in
-      journal_accepted found.0 found.1 found.2
+      journal_accepted found.0.0 (task_read solve ran.texts found.0 found.1) found.2.2
 
 pub saved_journals_are_accepted : WrittenJournalsAreAccepted → JournalTextsAreShort
     → SwampChangesMarksAlone → BlocksAskForNoCosts → SavedJournalsAreAccepted
@@ -261,7 +277,8 @@ module _ (words others : List (List ℕ)) (solve : SolveMeaning) (solved other :
       → reading_of_words others ≡ Read (Check check) → check.input ≡ solve.input
       → check.options ≡ solve.options → solve.certificate ≡ Some name
       → (solved.said.status ≡ 0) ⊎ (solved.said.status ≡ 1)
-      → IsSavedFirst solved.said name text → other.texts ≡ text ∷ solved.texts
+      → IsSavedFirst solved.said name text
+      → other.texts ≡ text ∷ task_texts solve.input solved.texts
       → AcceptsIt other
   certificate_by_words check name text also same_input same_options named answered saved texts =
       check_accepts other check (kept_too.asked ∙ also)
@@ -275,7 +292,8 @@ module _ (words others : List (List ℕ)) (solve : SolveMeaning) (solved other :
       → reading_of_words others ≡ Read (Journal journal) → journal.input ≡ solve.input
       → journal.options ≡ record solve.options { swamp = false } → solve.journal ≡ Some name
       → (solved.said.status ≡ 0) ⊎ ((solved.said.status ≡ 1) ⊎ (solved.said.status ≡ 2))
-      → IsSavedLast solved.said name text → other.texts ≡ text ∷ solved.texts
+      → IsSavedLast solved.said name text
+      → other.texts ≡ text ∷ task_texts solve.input solved.texts
       → AcceptsIt other
   journal_by_words law engine journal name text also same_input same_options named answered saved texts =
       journal_accepts other journal (kept_too.asked ∙ also)

@@ -9,11 +9,12 @@ use Rattle.pb_tiles.specs.Laws.{ReadingsAreSpelled}
 use Rattle.pb_command.specs.declared.command.InputOptions.{InputOptions}
 use Rattle.pb_command.specs.Values.{InputNames, Grid, Tiles, Strips}
 use Rattle.pb_command.specs.Meaning.{Reading, Refused, Read, Solve, Falling, Check, Journal, Make, SolveMeaning}
+use Rattle.pb_estimate.specs.Choices.{Choice}
 use Rattle.pb_answer.specs.Answer.{Says, Saves}
 use Rattle.pb_answer.specs.Claims.{Solves}
 use Rattle.pb_answer.specs.Loaded.{input_task, OfTexts}
 use Rattle.pb_answer.specs.Spelled.{OfGrid, OfTiles}
-use Rattle.pb_answer.proofs.Callers.{of_grid, of_tiles, solved_by_names, none_by_names, accepted_by_names}
+use Rattle.pb_answer.proofs.Callers.{task_read, of_grid, of_tiles, solved_by_names, none_by_names, accepted_by_names}
 use Rattle.pb_run.specs.Outcome.{Outcome, IfSolve, IfCheck}
 use Rattle.pb_run.specs.Headline.{NoneMeansNone}
 use Rattle.pb_run.specs.Commands.{SolveHolds, CheckHolds, SolvesHold, ChecksHold}
@@ -22,7 +23,7 @@ use Rattle.pb_run.specs.Kinds.{PrintsCheapest, weight_of_words, IfMap, MapHolds,
 module _ (it : Outcome) where
   -- what the texts of this command spell has no plan, at status 1
   abbrev HasNone : SolveMeaning → Type 0
-  HasNone solve = it.said.status ≡ 1 → OfTexts solve it.texts (λ task. HasNoPlan (space_of task))
+  HasNone solve = it.said.status ≡ 1 → OfTexts solve it.texts (λ choice task. HasNoPlan (space_of task))
 
   abbrev HasOne : SolveMeaning → Type 0
   HasOne solve = it.said.status ≡ 0 → OfTexts solve it.texts (Solves (Says it.said) (Saves it.said) solve)
@@ -30,6 +31,9 @@ module _ (it : Outcome) where
   -- a plan of the task is printed, with its cost and bound, and none is cheaper
   abbrev Prints : SolveMeaning → TaskParts → Type 0
   Prints solve task = PrintsCheapest it.said.report (space_of task) (action_name task) (weight_of_words solve)
+
+  plan_there : (solve : SolveMeaning) (task : TaskParts) (choice : Choice) → Solves (Says it.said) (Saves it.said) solve choice task → Prints solve task
+  plan_there solve task choice (plan, bound, says, is, is_bound, none, certifies, small) = (plan, bound, says, is, is_bound, none)
 
   -- what follows for the input from both promises
   both : (P : SolveMeaning → Type 0) → ((solve : SolveMeaning) → HasOne solve → HasNone solve → P solve)
@@ -58,10 +62,10 @@ module _ (it : Outcome) where
   as_map law solve one none = go solve.input plan_of none_of
     where
       plan_of : it.said.status ≡ 0 → IfMap solve.input (OfMap solve (Prints solve))
-      plan_of zero = let found = one zero in of_map law solve.input solve.options found.0 (Prints solve) found.1 (found.2.0, found.2.1, found.2.2, found.2.3, found.2.4, found.2.5)
+      plan_of zero = let found = one zero in of_map law solve.input solve.options found.0.0 (Prints solve) (task_read solve it.texts found.0 found.1) (plan_there solve found.0.0 found.2.0 found.2.2)
 
       none_of : it.said.status ≡ 1 → IfMap solve.input (OfMap solve (λ task. HasNoPlan (space_of task)))
-      none_of e = let found = none e in of_map law solve.input solve.options found.0 (λ task. HasNoPlan (space_of task)) found.1 found.2
+      none_of e = let found = none e in of_map law solve.input solve.options found.0.0 (λ task. HasNoPlan (space_of task)) (task_read solve it.texts found.0 found.1) found.2.2
 
       go : (input : InputNames) → (it.said.status ≡ 0 → IfMap input (OfMap solve (Prints solve))) → (it.said.status ≡ 1 → IfMap input (OfMap solve (λ task. HasNoPlan (space_of task))))
           → IfMap input (MapHolds solve it)
@@ -87,10 +91,10 @@ module _ (it : Outcome) where
   as_board law solve one none = go solve.input plan_of none_of
     where
       plan_of : it.said.status ≡ 0 → IfBoard solve.input (OfBoard (Prints solve))
-      plan_of zero = let found = one zero in of_board law solve.input solve.options found.0 (Prints solve) found.1 (found.2.0, found.2.1, found.2.2, found.2.3, found.2.4, found.2.5)
+      plan_of zero = let found = one zero in of_board law solve.input solve.options found.0.0 (Prints solve) (task_read solve it.texts found.0 found.1) (plan_there solve found.0.0 found.2.0 found.2.2)
 
       none_of : it.said.status ≡ 1 → IfBoard solve.input (OfBoard (λ task. HasNoPlan (space_of task)))
-      none_of e = let found = none e in of_board law solve.input solve.options found.0 (λ task. HasNoPlan (space_of task)) found.1 found.2
+      none_of e = let found = none e in of_board law solve.input solve.options found.0.0 (λ task. HasNoPlan (space_of task)) (task_read solve it.texts found.0 found.1) found.2.2
 
       go : (input : InputNames) → (it.said.status ≡ 0 → IfBoard input (OfBoard (Prints solve))) → (it.said.status ≡ 1 → IfBoard input (OfBoard (λ task. HasNoPlan (space_of task))))
           → IfBoard input (BoardHolds solve it)

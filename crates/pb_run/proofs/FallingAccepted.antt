@@ -4,25 +4,25 @@ use Rattle.std.specs.List.{AllByRecursion}
 use Rattle.pb_model.specs.Weight.{Weight}
 use Rattle.pb_model.specs.Plan.{Plan}
 use Rattle.pb_task.specs.declared.parts.TaskParts.{TaskParts}
+use Rattle.pb_tables.specs.Tables.{TablesValue}
 use Rattle.pb_estimate.specs.Choices.{Choice}
 use Rattle.pb_check.specs.declared.fault.CertificateFault.{CertificateFault}
 use Rattle.pb_check.specs.declared.fault.Verdict.{Verdict}
 use Rattle.pb_check.specs.Judging.{checked, verdict_of}
-use Rattle.pb_command.specs.declared.command.InputOptions.{InputOptions}
-use Rattle.pb_command.specs.Values.{InputNames, Grid, Tiles, Strips}
 use Rattle.pb_command.specs.Meaning.{Reading, Read, Falling, FallingMeaning, CheckMeaning, SolveMeaning}
 use Rattle.pb_command.specs.Options.{number_of, solve_given, FallingReadsOptions, CheckReadsOptions}
 use Rattle.pb_answer.specs.Outputs.{Output}
 use Rattle.pb_answer.specs.Searches.{weight_asked}
 use Rattle.pb_answer.specs.Loaded.{input_task, solve_task, check_task, with_text, OfTexts}
 use Rattle.pb_answer.specs.Parts.{AnswerPart}
-use Rattle.pb_answer.specs.Stops.{StopsGrounding, StopsBehind}
+use Rattle.pb_answer.specs.Stops.{StopsSolve, StopsBehind}
+use Rattle.pb_answer.proofs.Callers.{task_read}
 use Rattle.pb_run.specs.Outcome.{Outcome, IfFalling, IfCheck}
 use Rattle.pb_run.specs.Commands.{IsOfVerdict, CheckHolds}
 use Rattle.pb_run.specs.FallingHeadline.{PrintedClaim, IsNumberedFile, SavesOne, AreNumberedFiles, SavesEach, IsNext, IsSilent, EndsProved, EndsNone, EndsStopped, EndsShort, EndsUnprinted, IsRefusedInPart, IsStoppedInPart, FallingHolds}
-use Rattle.pb_run.specs.Laws.{AcceptsUnlessStopped}
+use Rattle.pb_run.specs.Laws.{task_texts, AcceptsUnlessStopped}
 use Rattle.pb_run.specs.FallingLaws.{SavesWhole, IsSaved, SavedClaimsAreAccepted, ClaimsAreAcceptedByWords}
-use Rattle.pb_run.proofs.Accepted.{verdict_or_stop, check_accepts, options_agree}
+use Rattle.pb_run.proofs.Accepted.{input_behind, verdict_or_stop, check_accepts, options_agree}
 use Rattle.pb_run.proofs.FallingTold.{all_joined}
 
 -- ---- files that are accepted
@@ -52,12 +52,12 @@ saved_accepted None run task choice weight plan files none = none_accepted task 
 saved_accepted (Some name) run task choice weight plan files (file, is, are) =
     subst (AllByRecursion (IsAcceptedFile task)) (sym are) (one_accepted name run task choice weight plan file is, tt)
 
-next_accepted : (solve : SolveMeaning) (task : TaskParts) (choice : Choice) (steps : ℕ) (claims : List PrintedClaim) (part : AnswerPart) → IsNext solve task choice steps claims part → AllByRecursion (IsAcceptedFile task) part.outputs
-next_accepted solve task choice steps claims part (inl (claim, are, of, same, text, saves)) =
+next_accepted : (solve : SolveMeaning) (choice : Choice) (task : TaskParts) (steps : ℕ) (claims : List PrintedClaim) (part : AnswerPart) → IsNext solve choice task steps claims part → AllByRecursion (IsAcceptedFile task) part.outputs
+next_accepted solve choice task steps claims part (inl (claim, are, of, text, saves)) =
     saved_accepted solve.certificate (length claims) task choice claim.weight (Some claim.plan) part.outputs saves
-next_accepted solve task choice steps claims part (inr (inl (none, no_plan, text, asked, saves))) =
+next_accepted solve choice task steps claims part (inr (inl (none, no_plan, text, saves))) =
     saved_accepted solve.certificate 0 task choice (weight_asked solve) None part.outputs saves
-next_accepted solve task choice steps claims part (inr (inr (spent, text, none))) = none_accepted task part.outputs none
+next_accepted solve choice task steps claims part (inr (inr (spent, text, none))) = none_accepted task part.outputs none
 
 -- ---- one of the files
 
@@ -69,68 +69,65 @@ not_none : (before : List Output) (file : Output) (after : List Output) → [] �
 not_none [] file after e = cc
 not_none (first ∷ before) file after e = cc
 
--- the texts behind another one spell the task that they spell alone
-input_behind : (input : InputNames) (options : InputOptions) (text : List ℕ) (texts : List (List ℕ)) → input_task input options 1 (text ∷ texts) ≡ input_task input options 0 texts
-input_behind (Grid names) options text texts = refl
-input_behind (Tiles board) options text texts = refl
-input_behind (Strips names) options text texts = refl
-
 -- ---- another call
 
 module _ (falling : FallingMeaning) (check : CheckMeaning) (ran checked_ran : Outcome) (file : Output) (same_input : check.input ≡ falling.solve.input) (same_options : check.options ≡ falling.solve.options)
-    (saved : IsSaved ran.said file) (texts : checked_ran.texts ≡ file.text ∷ ran.texts) (decided : CheckHolds check checked_ran) where
+    (saved : IsSaved ran.said file) (texts : checked_ran.texts ≡ file.text ∷ task_texts falling.solve.input ran.texts) (decided : CheckHolds check checked_ran) where
   abbrev Accepts : Type 0
   Accepts = AcceptsUnlessStopped check.input check.options checked_ran
 
-  task_is : (task : TaskParts) → solve_task falling.solve ran.texts ≡ Ok task → check_task check checked_ran.texts ≡ Ok (task, file.text)
-  task_is task is =
-      let input : input_task check.input check.options 1 (file.text ∷ ran.texts) ≡ Ok task =
-      (λ i. input_task (same_input i) (same_options i) 1 (file.text ∷ ran.texts)) ∙ input_behind falling.solve.input falling.solve.options file.text ran.texts ∙ is in
+  task_is : (read : TaskParts × Option TablesValue) → solve_task falling.solve ran.texts ≡ Ok read → check_task check checked_ran.texts ≡ Ok (read.0, file.text)
+  task_is read is =
+      let there = task_texts falling.solve.input ran.texts in
+      let input : input_task check.input check.options 1 (file.text ∷ there) ≡ Ok read.0 =
+      (λ i. input_task (same_input i) (same_options i) 1 (file.text ∷ there)) ∙ input_behind falling.solve.input falling.solve.options file.text ran.texts
+      ∙ task_read falling.solve ran.texts read is in
       ap (check_task check) texts ∙ ap (with_text (Some file.text)) input
 
-  accepts : (task : TaskParts) → solve_task falling.solve ran.texts ≡ Ok task → AllByRecursion (IsAcceptedFile task) ran.said.outputs → Accepts
-  accepts task is all =
-      let mine = one_of task saved.0 file saved.1 (subst (AllByRecursion (IsAcceptedFile task)) saved.2 all) in
+  accepts : (read : TaskParts × Option TablesValue) → solve_task falling.solve ran.texts ≡ Ok read → AllByRecursion (IsAcceptedFile read.0) ran.said.outputs → Accepts
+  accepts read is all =
+      let mine = one_of read.0 saved.0 file saved.1 (subst (AllByRecursion (IsAcceptedFile read.0)) saved.2 all) in
       verdict_or_stop check.input check.options checked_ran
       (subst (λ (v : Result Verdict CertificateFault). IsOfVerdict v checked_ran.said.status ⊎ StopsBehind check.input check.options checked_ran.texts checked_ran.said) mine.1
-      (decided.exact task file.text (task_is task is)))
+      (decided.exact read.0 file.text (task_is read is)))
 
   nothing : ran.said.outputs ≡ [] → Accepts
   nothing none = absurd (not_none saved.0 file saved.1 (sym none ∙ saved.2))
 
   -- what holds of the task that the texts spell gives that all files are accepted
-  of_texts : (P : TaskParts → Type 0) → ((task : TaskParts) → P task → AllByRecursion (IsAcceptedFile task) ran.said.outputs) → OfTexts falling.solve ran.texts P → Accepts
-  of_texts P f (task, is, holds) = accepts task is (f task holds)
+  of_texts : (P : Choice → TaskParts → Type 0) → ((choice : Choice) (task : TaskParts) → P choice task → AllByRecursion (IsAcceptedFile task) ran.said.outputs)
+      → OfTexts falling.solve ran.texts P → Accepts
+  of_texts P f (read, is, (choice, asked, holds)) = accepts read is (f choice read.0 holds)
 
   pub by_status : SavesWhole ran.said.status → FallingHolds falling ran → Accepts
   by_status (inl zero) holds = of_texts (EndsProved falling.solve falling.steps ran.said)
-      (λ task e. each_accepted falling.solve.certificate task e.searched.choice (e.claims ++ e.last ∷ []) ran.said.outputs e.certified) (holds.proved zero)
+      (λ choice task e. each_accepted falling.solve.certificate task choice (e.claims ++ e.last ∷ []) ran.said.outputs e.certified) (holds.proved zero)
   by_status (inr (inl one)) holds = of_texts (EndsNone falling.solve ran.said)
-      (λ task e. saved_accepted falling.solve.certificate 0 task e.choice (weight_asked falling.solve) None ran.said.outputs e.certified) (holds.none one)
+      (λ choice task e. saved_accepted falling.solve.certificate 0 task choice (weight_asked falling.solve) None ran.said.outputs e.certified) (holds.none one)
   by_status (inr (inr (inl two))) holds = go (holds.stopped two)
     where
-      go : OfTexts falling.solve ran.texts (EndsStopped falling.solve falling.steps ran.said) ⊎ StopsGrounding falling.solve.input falling.solve.options 0 ran.texts ran.said → Accepts
+      go : OfTexts falling.solve ran.texts (EndsStopped falling.solve falling.steps ran.said) ⊎ StopsSolve falling.solve ran.texts ran.said → Accepts
       go (inl stop) = of_texts (EndsStopped falling.solve falling.steps ran.said)
-          (λ task e. each_accepted falling.solve.certificate task e.so_far.searched.choice e.claims ran.said.outputs e.so_far.certified) stop
-      go (inr halted) = nothing halted.outputs
+          (λ choice task e. each_accepted falling.solve.certificate task choice e.claims ran.said.outputs e.so_far.certified) stop
+      go (inr halted) = nothing halted.1.outputs
   by_status (inr (inr (inr (inl memory)))) holds = go (holds.short memory)
     where
       go : IsSilent ran.said ⊎ OfTexts falling.solve ran.texts (EndsShort falling.solve falling.steps ran.said) → Accepts
       go (inl silent) = nothing silent.1
       go (inr short) = of_texts (EndsShort falling.solve falling.steps ran.said)
-          (λ task e. each_accepted falling.solve.certificate task e.so_far.searched.choice e.claims ran.said.outputs e.so_far.certified) short
+          (λ choice task e. each_accepted falling.solve.certificate task choice e.claims ran.said.outputs e.so_far.certified) short
   by_status (inr (inr (inr (inr sink)))) holds = go (holds.unprinted sink)
     where
-      all : (task : TaskParts) → EndsUnprinted falling.solve falling.steps ran.said task → AllByRecursion (IsAcceptedFile task) ran.said.outputs
-      all task e = subst (AllByRecursion (IsAcceptedFile task)) (sym e.outputs)
+      all : (choice : Choice) (task : TaskParts) → EndsUnprinted falling.solve falling.steps ran.said choice task → AllByRecursion (IsAcceptedFile task) ran.said.outputs
+      all choice task e = subst (AllByRecursion (IsAcceptedFile task)) (sym e.outputs)
           (all_joined (IsAcceptedFile task) e.files e.part.outputs
-          (each_accepted falling.solve.certificate task e.so_far.searched.choice e.claims e.files e.so_far.certified)
-          (next_accepted falling.solve task e.so_far.searched.choice falling.steps e.claims e.part e.next))
+          (each_accepted falling.solve.certificate task choice e.claims e.files e.so_far.certified)
+          (next_accepted falling.solve choice task falling.steps e.claims e.part e.next))
 
       go : IsRefusedInPart falling.solve ran.texts ran.said
           ⊎ (IsStoppedInPart falling.solve ran.texts ran.said ⊎ OfTexts falling.solve ran.texts (EndsUnprinted falling.solve falling.steps ran.said)) → Accepts
       go (inl refused) = nothing refused.4
-      go (inr (inl stopped)) = nothing stopped.4
+      go (inr (inl stopped)) = nothing stopped.5
       go (inr (inr unprinted)) = of_texts (EndsUnprinted falling.solve falling.steps ran.said) all unprinted
 
 pub saved_claims_are_accepted : SavedClaimsAreAccepted

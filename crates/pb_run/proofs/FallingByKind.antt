@@ -11,8 +11,9 @@ use Rattle.pb_command.specs.Values.{InputNames, Grid, Tiles, Strips}
 use Rattle.pb_command.specs.Meaning.{FallingMeaning}
 use Rattle.pb_answer.specs.Loaded.{input_task, OfTexts}
 use Rattle.pb_answer.specs.Spelled.{OfGrid, OfTiles}
-use Rattle.pb_answer.specs.Stops.{InputMayStop, StopsGrounding}
-use Rattle.pb_answer.proofs.Callers.{of_grid, of_tiles}
+use Rattle.pb_answer.specs.Stops.{InputMayStop, StopsSolve}
+use Rattle.pb_estimate.specs.Choices.{Choice}
+use Rattle.pb_answer.proofs.Callers.{task_read, of_grid, of_tiles}
 use Rattle.pb_run.specs.Outcome.{Outcome}
 use Rattle.pb_run.specs.Kinds.{weight_of_words, IfMap, IfBoard}
 use Rattle.pb_run.specs.FallingHeadline.{PrintedClaim, printed_text, claims_text, EndsProved, EndsNone, EndsStopped, EndsShort, EndsUnsaved, EndsUnprinted, IsNext, IsSilent, IsRefusedInPart, IsStoppedInPart, FallingHolds}
@@ -33,15 +34,15 @@ module _ (falling : FallingMeaning) (it : Outcome) where
   abbrev pub budget_line : List ℕ
   budget_line = stopped_report falling.solve.settings.budget
 
-  abbrev Of : (P : TaskParts → Type 0) → Type 0
-  Of P = OfTexts falling.solve it.texts P
+  abbrev pub Of : (P : TaskParts → Type 0) → Type 0
+  Of P = OfTexts falling.solve it.texts (λ choice task. P task)
 
-  -- what holds of every task holds of the one that the texts spell
-  of_every : (P Q : TaskParts → Type 0) → ((task : TaskParts) → P task → Q task) → Of P → Of Q
-  of_every P Q f (task, is, holds) = (task, is, f task holds)
+  -- what follows for every task, whatever the choice of an estimate, holds of the one that the texts spell
+  of_every : (P : Choice → TaskParts → Type 0) (Q : TaskParts → Type 0) → ((choice : Choice) (task : TaskParts) → P choice task → Q task) → OfTexts falling.solve it.texts P → Of Q
+  of_every P Q f (read, is, (choice, asked, holds)) = (read, is, (choice, asked, f choice read.0 holds))
 
   abbrev pub IsHalted : Type 0
-  IsHalted = StopsGrounding falling.solve.input falling.solve.options 0 it.texts it.said
+  IsHalted = StopsSolve falling.solve it.texts it.said
 
   abbrev MayHalt : InputNames → Type 0
   MayHalt input = InputMayStop input falling.solve.options 0 it.texts
@@ -54,26 +55,26 @@ module _ (falling : FallingMeaning) (it : Outcome) where
       append_assoc (printed_text name first) (claims_text name claims) (printed_text name claim) ∙ ap (λ (t : List ℕ). printed_text name first ++ t) (one_more name claims claim)
       ∙ sym (append_assoc (printed_text name first) (claims_text name (claims ++ claim ∷ [])) [])
 
-  last_of : (task : TaskParts) → EndsProved falling.solve falling.steps it.said task → Last task
-  last_of task e = (e.claims, e.last, e.are, e.printed, e.improvable, e.proved, e.least)
+  last_of : (choice : Choice) (task : TaskParts) → EndsProved falling.solve falling.steps it.said choice task → Last task
+  last_of choice task e = (e.claims, e.last, e.are, e.printed, e.improvable, e.proved, e.least)
 
-  stop_of : (task : TaskParts) → EndsStopped falling.solve falling.steps it.said task → Claims budget_line task
-  stop_of task e = (e.claims, e.so_far.are, e.printed ∙ ap (λ (text : List ℕ). text ++ budget_line) e.so_far.printed)
+  stop_of : (choice : Choice) (task : TaskParts) → EndsStopped falling.solve falling.steps it.said choice task → Claims budget_line task
+  stop_of choice task e = (e.claims, e.so_far.are, e.printed ∙ ap (λ (text : List ℕ). text ++ budget_line) e.so_far.printed)
 
-  short_of : (task : TaskParts) → EndsShort falling.solve falling.steps it.said task → Claims [] task
-  short_of task e = (e.claims, e.so_far.are, e.so_far.printed ∙ sym (append-nil (claims_text (action_name task) e.claims)))
+  short_of : (choice : Choice) (task : TaskParts) → EndsShort falling.solve falling.steps it.said choice task → Claims [] task
+  short_of choice task e = (e.claims, e.so_far.are, e.so_far.printed ∙ sym (append-nil (claims_text (action_name task) e.claims)))
 
-  unsaved_of : (task : TaskParts) → EndsUnsaved falling.solve falling.steps it.said task → Claims [] task
-  unsaved_of task e = (e.claims, e.so_far.are, e.so_far.printed ∙ sym (append-nil (claims_text (action_name task) e.claims)))
+  unsaved_of : (choice : Choice) (task : TaskParts) → EndsUnsaved falling.solve falling.steps it.said choice task → Claims [] task
+  unsaved_of choice task e = (e.claims, e.so_far.are, e.so_far.printed ∙ sym (append-nil (claims_text (action_name task) e.claims)))
 
   -- the claims before, and then the text of the part in hand, of which a first part is printed
-  whole_of : (task : TaskParts) (e : EndsUnprinted falling.solve falling.steps it.said task) → it.said.report ++ e.rest ≡ claims_text (action_name task) e.claims ++ e.part.report
-  whole_of task e =
+  whole_of : (choice : Choice) (task : TaskParts) (e : EndsUnprinted falling.solve falling.steps it.said choice task) → it.said.report ++ e.rest ≡ claims_text (action_name task) e.claims ++ e.part.report
+  whole_of choice task e =
       ap (λ (t : List ℕ). t ++ e.rest) e.printed ∙ append_assoc e.report e.kept e.rest ∙ ap (λ (t : List ℕ). e.report ++ t) (sym e.is_kept)
       ∙ ap (λ (t : List ℕ). t ++ e.part.report) e.so_far.printed
 
-  unprinted_of : (task : TaskParts) → EndsUnprinted falling.solve falling.steps it.said task → InPart task
-  unprinted_of task e = (e.rest, go e.next)
+  unprinted_of : (choice : Choice) (task : TaskParts) → EndsUnprinted falling.solve falling.steps it.said choice task → InPart task
+  unprinted_of choice task e = (e.rest, go e.next)
     where
       name : ℕ → List ℕ
       name = action_name task
@@ -81,51 +82,51 @@ module _ (falling : FallingMeaning) (it : Outcome) where
       Whole : (rest : List ℕ) → Type 0
       Whole rest = PrintsClaims (it.said.report ++ e.rest) (space_of task) name (weight_of_words falling.solve) falling.steps rest
 
-      go : IsNext falling.solve task e.so_far.searched.choice falling.steps e.claims e.part
+      go : IsNext falling.solve choice task falling.steps e.claims e.part
           → Whole [] ⊎ (Whole budget_line ⊎ ((it.said.report ++ e.rest ≡ none_report) × HasNoPlan (space_of task)))
-      go (inl (claim, are, searched, same, text, saves)) =
+      go (inl (claim, are, searched, text, saves)) =
           inl (
             e.claims ++ claim ∷ [],
             are,
-            whole_of task e ∙ ap (λ (t : List ℕ). claims_text name e.claims ++ t) text ∙ one_more name e.claims claim,
+            whole_of choice task e ∙ ap (λ (t : List ℕ). claims_text name e.claims ++ t) text ∙ one_more name e.claims claim,
           )
-      go (inr (inl (first, none, text, asked, saves))) =
-          inr (inr (whole_of task e ∙ ap (λ (c : List PrintedClaim). claims_text name c ++ e.part.report) first ∙ text, none))
+      go (inr (inl (first, none, text, saves))) =
+          inr (inr (whole_of choice task e ∙ ap (λ (c : List PrintedClaim). claims_text name c ++ e.part.report) first ∙ text, none))
       go (inr (inr (spent, text, nothing))) =
-          inr (inl (e.claims, e.so_far.are, whole_of task e ∙ ap (λ (t : List ℕ). claims_text name e.claims ++ t) text))
+          inr (inl (e.claims, e.so_far.are, whole_of choice task e ∙ ap (λ (t : List ℕ). claims_text name e.claims ++ t) text))
 
   module _ (holds : FallingHolds falling it) where
     pub proved : it.said.status ≡ 0 → Of Last
     proved e = of_every (EndsProved falling.solve falling.steps it.said) Last last_of (holds.proved e)
 
     pub none : it.said.status ≡ 1 → Of (λ task. HasNoPlan (space_of task))
-    none e = of_every (EndsNone falling.solve it.said) (λ task. HasNoPlan (space_of task)) (λ task n. n.no_plan) (holds.none e)
+    none e = of_every (EndsNone falling.solve it.said) (λ task. HasNoPlan (space_of task)) (λ choice task n. n.no_plan) (holds.none e)
 
     pub stopped : it.said.status ≡ 2 → Of (Claims budget_line) ⊎ IsHalted
     stopped e = go (holds.stopped e)
       where
-        go : Of (EndsStopped falling.solve falling.steps it.said) ⊎ IsHalted → Of (Claims budget_line) ⊎ IsHalted
+        go : OfTexts falling.solve it.texts (EndsStopped falling.solve falling.steps it.said) ⊎ IsHalted → Of (Claims budget_line) ⊎ IsHalted
         go (inl ends) = inl (of_every (EndsStopped falling.solve falling.steps it.said) (Claims budget_line) stop_of ends)
         go (inr stop) = inr stop
 
     pub short : it.said.status ≡ 71 → (it.said.report ≡ []) ⊎ Of (Claims [])
     short e = go (holds.short e)
       where
-        go : IsSilent it.said ⊎ Of (EndsShort falling.solve falling.steps it.said) → (it.said.report ≡ []) ⊎ Of (Claims [])
+        go : IsSilent it.said ⊎ OfTexts falling.solve it.texts (EndsShort falling.solve falling.steps it.said) → (it.said.report ≡ []) ⊎ Of (Claims [])
         go (inl silent) = inl silent.0
         go (inr ends) = inr (of_every (EndsShort falling.solve falling.steps it.said) (Claims []) short_of ends)
 
     pub unsaved : it.said.status ≡ 73 → (it.said.report ≡ []) ⊎ Of (Claims [])
     unsaved e = go (holds.unsaved e)
       where
-        go : IsSilent it.said ⊎ Of (EndsUnsaved falling.solve falling.steps it.said) → (it.said.report ≡ []) ⊎ Of (Claims [])
+        go : IsSilent it.said ⊎ OfTexts falling.solve it.texts (EndsUnsaved falling.solve falling.steps it.said) → (it.said.report ≡ []) ⊎ Of (Claims [])
         go (inl silent) = inl silent.0
         go (inr ends) = inr (of_every (EndsUnsaved falling.solve falling.steps it.said) (Claims []) unsaved_of ends)
 
     pub unprinted : it.said.status ≡ 74 → IsRefusedInPart falling.solve it.texts it.said ⊎ (IsStoppedInPart falling.solve it.texts it.said ⊎ Of InPart)
     unprinted e = go (holds.unprinted e)
       where
-        go : IsRefusedInPart falling.solve it.texts it.said ⊎ (IsStoppedInPart falling.solve it.texts it.said ⊎ Of (EndsUnprinted falling.solve falling.steps it.said))
+        go : IsRefusedInPart falling.solve it.texts it.said ⊎ (IsStoppedInPart falling.solve it.texts it.said ⊎ OfTexts falling.solve it.texts (EndsUnprinted falling.solve falling.steps it.said))
             → IsRefusedInPart falling.solve it.texts it.said ⊎ (IsStoppedInPart falling.solve it.texts it.said ⊎ Of InPart)
         go (inl refused) = inl refused
         go (inr (inl stopped)) = inr (inl stopped)
@@ -137,10 +138,10 @@ module _ (falling : FallingMeaning) (it : Outcome) where
     OfMap P = OfGrid (slice_get it.texts 0) (slice_get it.texts 1) falling.solve.options (λ grid. P (kinds.Grid grid))
 
     of_map : ReadAsSpelled → (P : TaskParts → Type 0) → Of P → IfMap falling.solve.input (OfMap P)
-    of_map law P (task, is, p) = go falling.solve.input is
+    of_map law P (read, reads, (choice, asked, p)) = go falling.solve.input (task_read falling.solve it.texts read reads)
       where
-        go : (input : InputNames) → input_task input falling.solve.options 0 it.texts ≡ Ok task → IfMap input (OfMap P)
-        go (Grid names) is = of_grid task P p law (slice_get it.texts 0) (slice_get it.texts 1) falling.solve.options is
+        go : (input : InputNames) → input_task input falling.solve.options 0 it.texts ≡ Ok read.0 → IfMap input (OfMap P)
+        go (Grid names) is = of_grid read.0 P p law (slice_get it.texts 0) (slice_get it.texts 1) falling.solve.options is
         go (Tiles board) is = tt
         go (Strips names) is = tt
 
@@ -163,11 +164,11 @@ module _ (falling : FallingMeaning) (it : Outcome) where
 
         stop : Of (Claims budget_line) ⊎ IsHalted → IfMap falling.solve.input (OfMap (Claims budget_line))
         stop (inl of) = of_map law (Claims budget_line) of
-        stop (inr halted) = never_map (Claims budget_line) halted.due
+        stop (inr halted) = never_map (Claims budget_line) halted.1.due
 
         part : IsRefusedInPart falling.solve it.texts it.said ⊎ (IsStoppedInPart falling.solve it.texts it.said ⊎ Of InPart) → IsRefusedInPart falling.solve it.texts it.said ⊎ IfMap falling.solve.input (OfMap InPart)
         part (inl refused) = inl refused
-        part (inr (inl stopped)) = inr (never_map InPart stopped.1)
+        part (inr (inl stopped)) = inr (never_map InPart stopped.2)
         part (inr (inr of)) = inr (of_map law InPart of)
 
         go : (input : InputNames) → (it.said.status ≡ 0 → IfMap input (OfMap Last)) → (it.said.status ≡ 1 → IfMap input (OfMap (λ task. HasNoPlan (space_of task))))
@@ -184,11 +185,11 @@ module _ (falling : FallingMeaning) (it : Outcome) where
     OfBoard P = OfTiles (slice_get it.texts 0) (λ tiles. P (kinds.Tiles tiles))
 
     of_board : ReadingsAreSpelled → (P : TaskParts → Type 0) → Of P → IfBoard falling.solve.input (OfBoard P)
-    of_board law P (task, is, p) = go falling.solve.input is
+    of_board law P (read, reads, (choice, asked, p)) = go falling.solve.input (task_read falling.solve it.texts read reads)
       where
-        go : (input : InputNames) → input_task input falling.solve.options 0 it.texts ≡ Ok task → IfBoard input (OfBoard P)
+        go : (input : InputNames) → input_task input falling.solve.options 0 it.texts ≡ Ok read.0 → IfBoard input (OfBoard P)
         go (Grid names) is = tt
-        go (Tiles board) is = of_tiles task P p law (slice_get it.texts 0) is
+        go (Tiles board) is = of_tiles read.0 P p law (slice_get it.texts 0) is
         go (Strips names) is = tt
 
     -- a board isn't grounded
@@ -210,11 +211,11 @@ module _ (falling : FallingMeaning) (it : Outcome) where
 
         stop : Of (Claims budget_line) ⊎ IsHalted → IfBoard falling.solve.input (OfBoard (Claims budget_line))
         stop (inl of) = of_board law (Claims budget_line) of
-        stop (inr halted) = never_board (Claims budget_line) halted.due
+        stop (inr halted) = never_board (Claims budget_line) halted.1.due
 
         part : IsRefusedInPart falling.solve it.texts it.said ⊎ (IsStoppedInPart falling.solve it.texts it.said ⊎ Of InPart) → IsRefusedInPart falling.solve it.texts it.said ⊎ IfBoard falling.solve.input (OfBoard InPart)
         part (inl refused) = inl refused
-        part (inr (inl stopped)) = inr (never_board InPart stopped.1)
+        part (inr (inl stopped)) = inr (never_board InPart stopped.2)
         part (inr (inr of)) = inr (of_board law InPart of)
 
         go : (input : InputNames) → (it.said.status ≡ 0 → IfBoard input (OfBoard Last)) → (it.said.status ≡ 1 → IfBoard input (OfBoard (λ task. HasNoPlan (space_of task))))

@@ -15,7 +15,6 @@ use Rattle.pb_task.specs.declared.grounding.Grounding.{Grounding}
 use Rattle.pb_strips.specs.Grounding.{strips_with}
 use Rattle.pb_command.specs.Meaning.{FallingMeaning}
 use Rattle.pb_answer.specs.Named.{OfTrees, NoneCheaperByNames, HasNoNamedPlan}
-use Rattle.pb_answer.specs.Loaded.{OfTexts}
 use Rattle.pb_answer.proofs.Callers.{AreTask, texts_by_names, plan_by_names, none_below_by_names, no_named_plan}
 use Rattle.pb_run.specs.Outcome.{Outcome}
 use Rattle.pb_run.specs.Kinds.{weight_of_words}
@@ -171,38 +170,44 @@ module _ (grounding : Grounding) (domain : Domain) (problem : Problem) (are : Ar
 
 -- ---- of what the texts spell
 
+-- what follows by names from what holds of the task that the texts spell
+by_names : (falling : FallingMeaning) (it : Outcome) (P : TaskParts → Type 0) (Q : Domain → Problem → Type 0)
+    → ((grounding : Grounding) (domain : Domain) (problem : Problem) → AreTask grounding domain problem → P (kinds.Strips (strips_with grounding domain problem)) → Q domain problem)
+    → kind.Of falling it P → OfTrees falling.solve.input 0 it.texts Q
+by_names falling it P Q f = texts_by_names it.texts (λ choice task. P task) Q (λ choice. f) falling.solve
+
 pub named_holds : (falling : FallingMeaning) (it : Outcome) → FallingHolds falling it → FallingNamedHolds falling it
 named_holds falling it holds = record {
-  proved = λ e. texts_by_names it.texts (kind.Last falling it) (PrintsNamedLast it.said.report (weight_of_words falling.solve) falling.steps)
+  proved = λ e. by_names falling it (kind.Last falling it) (PrintsNamedLast it.said.report (weight_of_words falling.solve) falling.steps)
       (λ grounding domain problem are last. named_last grounding domain problem are it.said.report (weight_of_words falling.solve) falling.steps last)
-      falling.solve (kind.proved falling it holds e);
-  none = λ e. texts_by_names it.texts (λ task. HasNoPlan (space_of task)) HasNoNamedPlan no_named_plan falling.solve (kind.none falling it holds e);
+      (kind.proved falling it holds e);
+  none = λ e. by_names falling it (λ task. HasNoPlan (space_of task)) HasNoNamedPlan no_named_plan (kind.none falling it holds e);
   stopped = λ e. stop (kind.stopped falling it holds e);
   short = λ e. go (kind.short falling it holds e);
   unsaved = λ e. go (kind.unsaved falling it holds e);
   unprinted = λ e. part (kind.unprinted falling it holds e);
 }
   where
-    go : (it.said.report ≡ []) ⊎ OfTexts falling.solve it.texts (kind.Claims falling it [])
+    go : (it.said.report ≡ []) ⊎ kind.Of falling it (kind.Claims falling it [])
         → (it.said.report ≡ []) ⊎ OfTrees falling.solve.input 0 it.texts (PrintsNamedClaims it.said.report (weight_of_words falling.solve) falling.steps [])
     go (inl silent) = inl silent
-    go (inr claims) = inr (texts_by_names it.texts (kind.Claims falling it []) (PrintsNamedClaims it.said.report (weight_of_words falling.solve) falling.steps [])
-        (λ grounding domain problem are c. named_claims grounding domain problem are it.said.report (weight_of_words falling.solve) falling.steps [] c) falling.solve claims)
+    go (inr claims) = inr (by_names falling it (kind.Claims falling it []) (PrintsNamedClaims it.said.report (weight_of_words falling.solve) falling.steps [])
+        (λ grounding domain problem are c. named_claims grounding domain problem are it.said.report (weight_of_words falling.solve) falling.steps [] c) claims)
 
-    stop : OfTexts falling.solve it.texts (kind.Claims falling it (kind.budget_line falling it)) ⊎ kind.IsHalted falling it
+    stop : kind.Of falling it (kind.Claims falling it (kind.budget_line falling it)) ⊎ kind.IsHalted falling it
         → OfTrees falling.solve.input 0 it.texts (PrintsNamedClaims it.said.report (weight_of_words falling.solve) falling.steps (kind.budget_line falling it)) ⊎ kind.IsHalted falling it
-    stop (inl claims) = inl (texts_by_names it.texts (kind.Claims falling it (kind.budget_line falling it))
+    stop (inl claims) = inl (by_names falling it (kind.Claims falling it (kind.budget_line falling it))
         (PrintsNamedClaims it.said.report (weight_of_words falling.solve) falling.steps (kind.budget_line falling it))
         (λ grounding domain problem are c. named_claims grounding domain problem are it.said.report (weight_of_words falling.solve) falling.steps (kind.budget_line falling it) c)
-        falling.solve claims)
+        claims)
     stop (inr halted) = inr halted
 
-    part : IsRefusedInPart falling.solve it.texts it.said ⊎ (IsStoppedInPart falling.solve it.texts it.said ⊎ OfTexts falling.solve it.texts (kind.InPart falling it))
+    part : IsRefusedInPart falling.solve it.texts it.said ⊎ (IsStoppedInPart falling.solve it.texts it.said ⊎ kind.Of falling it (kind.InPart falling it))
         → IsRefusedInPart falling.solve it.texts it.said
         ⊎ (IsStoppedInPart falling.solve it.texts it.said
         ⊎ OfTrees falling.solve.input 0 it.texts (PrintsNamedInPart it.said.report (weight_of_words falling.solve) falling.steps falling.solve.settings.budget))
     part (inl refused) = inl refused
     part (inr (inl stopped)) = inr (inl stopped)
-    part (inr (inr begun)) = inr (inr (texts_by_names it.texts (kind.InPart falling it)
+    part (inr (inr begun)) = inr (inr (by_names falling it (kind.InPart falling it)
         (PrintsNamedInPart it.said.report (weight_of_words falling.solve) falling.steps falling.solve.settings.budget)
-        (λ grounding domain problem are b. named_in_part grounding domain problem are it.said.report (weight_of_words falling.solve) falling.steps falling.solve.settings.budget b) falling.solve begun))
+        (λ grounding domain problem are b. named_in_part grounding domain problem are it.said.report (weight_of_words falling.solve) falling.steps falling.solve.settings.budget b) begun))

@@ -12,7 +12,7 @@ use Rattle.pb_abstract.specs.Graph.{AbstractGraph, IsGraphOf}
 use Rattle.pb_falling.specs.Falling.{Claim}
 use Rattle.pb_command.specs.Meaning.{SolveMeaning}
 use Rattle.pb_answer.specs.Outputs.{Output}
-use Rattle.pb_answer.specs.Searches.{weight_asked, IsChoiceAsked}
+use Rattle.pb_answer.specs.Searches.{weight_asked}
 use Rattle.pb_answer.specs.Answer.{Said}
 use Rattle.pb_answer.specs.Parts.{AnswerPart, outputs_of, report_of}
 use Rattle.pb_answer.specs.Falling.{AreFalling, MayBeImproved, SayClaims, IsProvedCheapest, IsFallingNone, IsFallingStop, AreClaimParts, IsFallingFound}
@@ -32,14 +32,14 @@ files_joined (part ∷ parts) more =
     ap (λ (files : List Output). part.outputs ++ files) (files_joined parts more) ∙ sym (append_assoc part.outputs (outputs_of parts) (outputs_of more))
 
 -- the same claims, printed and saved as these
-abbrev pub claimed_as : (solve : SolveMeaning) (task : TaskParts) (steps : ℕ) (claims : List PrintedClaim) (report other : List ℕ) (files others : List Output) → other ≡ report → others ≡ files
-    → HaveClaimed solve task steps claims report files → HaveClaimed solve task steps claims other others
-claimed_as solve task steps claims report other files others is are have = record {
+abbrev pub claimed_as : (solve : SolveMeaning) (choice : Choice) (task : TaskParts) (steps : ℕ) (claims : List PrintedClaim) (report other : List ℕ) (files others : List Output) → other ≡ report → others ≡ files
+    → HaveClaimed solve choice task steps claims report files → HaveClaimed solve choice task steps claims other others
+claimed_as solve choice task steps claims report other files others is are have = record {
   are = have.are;
   searched = have.searched;
   improvable = have.improvable;
   printed = is ∙ have.printed;
-  certified = subst (λ (os : List Output). SavesEach solve.certificate task have.searched.choice claims os) (sym are) have.certified;
+  certified = subst (λ (os : List Output). SavesEach solve.certificate task choice claims os) (sym are) have.certified;
 }
 
 -- ---- the last claim
@@ -122,16 +122,16 @@ all_before {A = A} P xs last first one rest e h = go (where_in first one rest xs
     go (inl (more, is)) = all_first P first (one ∷ more) (subst (AllByRecursion P) is h)
     go (inr (is, also)) = subst (AllByRecursion P) (sym is) h
 
-module _ (solve : SolveMeaning) (task : TaskParts) (steps : ℕ) where
+module _ (solve : SolveMeaning) (choice : Choice) (task : TaskParts) (steps : ℕ) where
   -- ---- up to a part that broke off
 
   -- the parts before it are claims, and it is what comes next
   pub record Broken (before : List AnswerPart) (part : AnswerPart) : Type 0 where
     pub claims : List PrintedClaim
-    pub so_far : HaveClaimed solve task steps claims (report_of before) (outputs_of before)
-    pub next : IsNext solve task so_far.searched.choice steps claims part
+    pub so_far : HaveClaimed solve choice task steps claims (report_of before) (outputs_of before)
+    pub next : IsNext solve choice task steps claims part
 
-  module _ (abstraction : AbstractGraph) (choice : Choice) (graph_of : IsGraphOf task abstraction) (finest : IsFinest task solve.settings.wish abstraction.projection) (asked : IsChoiceAsked solve task choice) where
+  module _ (abstraction : AbstractGraph) (graph_of : IsGraphOf task abstraction) (finest : IsFinest task solve.settings.wish abstraction.projection) where
     abbrev Say : List Claim → List AnswerPart → Type 0
     Say runs parts = SayClaims solve task abstraction choice steps 0 runs parts
 
@@ -146,8 +146,8 @@ module _ (solve : SolveMeaning) (task : TaskParts) (steps : ℕ) where
         let some = improvable s.first s.claim s.rest s.runs_are in
         record {
           claims = (told solve task abstraction choice steps 0 s.first before s.say).claims;
-          so_far = have_claimed solve task abstraction choice steps graph_of finest asked s.first before s.say (first_falling s.first s.claim s.rest all) some;
-          next = inl (one_more solve task abstraction choice steps graph_of finest asked s.first s.claim s.rest before part s.say s.says all);
+          so_far = have_claimed solve task abstraction choice steps graph_of finest s.first before s.say (first_falling s.first s.claim s.rest all) some;
+          next = inl (one_more solve task abstraction choice steps graph_of finest s.first s.claim s.rest before part s.say s.says all);
         }
       where
         first_falling : (first : List Claim) (one : Claim) (rest : List Claim) → Fall (first ++ one ∷ rest) → Fall first
@@ -164,10 +164,10 @@ module _ (solve : SolveMeaning) (task : TaskParts) (steps : ℕ) where
     no_claims : Fall []
     no_claims = record { are = tt; quiet_runs = tt; few = omega arith; weights = tt; hold = tt; fall = tt }
 
-    abbrev nothing_claimed : HaveClaimed solve task steps [] [] []
+    abbrev nothing_claimed : HaveClaimed solve choice task steps [] [] []
     nothing_claimed = record {
       are = are_claims solve task abstraction choice steps [] [] no_claims tt tt;
-      searched = searched solve task abstraction choice steps graph_of finest asked [] [] no_claims tt;
+      searched = searched solve task abstraction choice steps graph_of finest [] [] no_claims tt;
       improvable = tt;
       printed = refl;
       certified = each_file solve.certificate task choice [] [] (no_files solve.certificate 0 task choice);
@@ -184,12 +184,11 @@ module _ (solve : SolveMeaning) (task : TaskParts) (steps : ℕ) where
             never (b ∷ before) more is = cc
         go (inr (is, also)) = record {
           claims = [];
-          so_far = claimed_as solve task steps [] [] (report_of before) [] (outputs_of before) (ap report_of is) (ap outputs_of is) nothing_claimed;
+          so_far = claimed_as solve choice task steps [] [] (report_of before) [] (outputs_of before) (ap report_of is) (ap outputs_of is) nothing_claimed;
           next = inr (inl (
             refl,
             none,
             ap (λ (p : AnswerPart). p.report) also ∙ report,
-            asked,
             subst (λ (p : AnswerPart). SavesOne solve.certificate 0 task choice (weight_asked solve) None p.outputs) (sym also)
                 (saves_one solve.certificate 0 task choice (weight_asked solve) _ _ None one.outputs saved),
           ));
@@ -204,10 +203,10 @@ module _ (solve : SolveMeaning) (task : TaskParts) (steps : ℕ) where
             let t = told solve task abstraction choice steps 0 runs said say in
             record {
               claims = t.claims;
-              so_far = claimed_as solve task steps t.claims (report_of said) (report_of before) (outputs_of said) (outputs_of before) (ap report_of is) (ap outputs_of is)
-                  (have_claimed solve task abstraction choice steps graph_of finest asked runs said say falling improvable);
+              so_far = claimed_as solve choice task steps t.claims (report_of said) (report_of before) (outputs_of said) (outputs_of before) (ap report_of is) (ap outputs_of is)
+                  (have_claimed solve task abstraction choice steps graph_of finest runs said say falling improvable);
               next = inr (inr (
-                (searched solve task abstraction choice steps graph_of finest asked runs t.claims falling t.are_of, refl, stop.0),
+                (searched solve task abstraction choice steps graph_of finest runs t.claims falling t.are_of, stop.0),
                 ap (λ (p : AnswerPart). p.report) also ∙ stop.1,
                 ap (λ (p : AnswerPart). p.outputs) also ∙ stop.2,
               ));
@@ -215,7 +214,7 @@ module _ (solve : SolveMeaning) (task : TaskParts) (steps : ℕ) where
 
     -- ---- all of it
 
-    ends_proved : (said : Said) (parts : List AnswerPart) → said.report ≡ report_of parts → said.outputs ≡ outputs_of parts → IsProvedCheapest solve task abstraction choice steps parts → EndsProved solve steps said task
+    ends_proved : (said : Said) (parts : List AnswerPart) → said.report ≡ report_of parts → said.outputs ≡ outputs_of parts → IsProvedCheapest solve task abstraction choice steps parts → EndsProved solve steps said choice task
     ends_proved said parts report outputs (runs, last, falling, say, improvable, bound, least) =
         let all = runs ++ last ∷ [] in
         let t = told solve task abstraction choice steps 0 all parts say in
@@ -229,7 +228,7 @@ module _ (solve : SolveMeaning) (task : TaskParts) (steps : ℕ) where
           last = s.final;
           are = subst (λ (cs : List PrintedClaim). AreClaimsOf (space_of task) (weight_asked solve) steps cs) s.claims_are
               (are_claims solve task abstraction choice steps all t.claims falling t.are_of t.bounded);
-          searched = searched solve task abstraction choice steps graph_of finest asked all (s.first ++ s.final ∷ []) falling
+          searched = searched solve task abstraction choice steps graph_of finest all (s.first ++ s.final ∷ []) falling
               (subst (λ (cs : List PrintedClaim). AreOfRuns all cs) s.claims_are t.are_of);
           printed = report ∙ t.printed ∙ ap (claims_text (action_name task)) s.claims_are;
           certified = subst (λ (os : List Output). SavesEach solve.certificate task choice (s.first ++ s.final ∷ []) os) (sym outputs)
@@ -240,19 +239,17 @@ module _ (solve : SolveMeaning) (task : TaskParts) (steps : ℕ) where
           least = λ plan is. subst (λ (p : Plan). p.cost ≤ plan.cost) (sym s.plan) (least plan is);
         }
 
-    ends_none : (said : Said) (parts : List AnswerPart) → said.report ≡ report_of parts → said.outputs ≡ outputs_of parts → IsFallingNone solve task abstraction choice steps parts → EndsNone solve said task
+    ends_none : (said : Said) (parts : List AnswerPart) → said.report ≡ report_of parts → said.outputs ≡ outputs_of parts → IsFallingNone solve task abstraction choice steps parts → EndsNone solve said choice task
     ends_none said parts report outputs (one, (none, text, moves, run, saved), are) =
         let files : said.outputs ≡ one.outputs = outputs ∙ ap outputs_of are ∙ append-nil one.outputs in
         record {
           printed = report ∙ ap report_of are ∙ append-nil one.report ∙ text;
           no_plan = none;
-          choice = choice;
-          asked = asked;
           certified = subst (λ (os : List Output). SavesOne solve.certificate 0 task choice (weight_asked solve) None os) (sym files)
               (saves_one solve.certificate 0 task choice (weight_asked solve) _ _ None one.outputs saved);
         }
 
-    ends_stopped : (said : Said) (parts : List AnswerPart) → said.report ≡ report_of parts → said.outputs ≡ outputs_of parts → IsFallingStop solve task abstraction choice steps parts → EndsStopped solve steps said task
+    ends_stopped : (said : Said) (parts : List AnswerPart) → said.report ≡ report_of parts → said.outputs ≡ outputs_of parts → IsFallingStop solve task abstraction choice steps parts → EndsStopped solve steps said choice task
     ends_stopped said parts report outputs (runs, first, last, falling, say, improvable, stop, are) =
         let t = told solve task abstraction choice steps 0 runs first say in
         let files : said.outputs ≡ outputs_of first =
@@ -260,89 +257,89 @@ module _ (solve : SolveMeaning) (task : TaskParts) (steps : ℕ) where
         record {
           claims = t.claims;
           report = report_of first;
-          so_far = claimed_as solve task steps t.claims (report_of first) (report_of first) (outputs_of first) said.outputs refl files
-              (have_claimed solve task abstraction choice steps graph_of finest asked runs first say falling improvable);
+          so_far = claimed_as solve choice task steps t.claims (report_of first) (report_of first) (outputs_of first) said.outputs refl files
+              (have_claimed solve task abstraction choice steps graph_of finest runs first say falling improvable);
           printed = report ∙ ap report_of are ∙ reports_joined first (last ∷ [])
               ∙ ap (λ (text : List ℕ). report_of first ++ text) (append-nil last.report ∙ stop.1);
-          spent = (searched solve task abstraction choice steps graph_of finest asked runs t.claims falling t.are_of, refl, stop.0);
+          spent = (searched solve task abstraction choice steps graph_of finest runs t.claims falling t.are_of, stop.0);
         }
 
   -- what comes next has one file at most
-  one_or_none : (given : Option (List ℕ)) (run : ℕ) (choice : Choice) (weight : Weight) (plan : Option Plan) (files : List Output) → SavesOne given run task choice weight plan files
+  one_or_none : (given : Option (List ℕ)) (run : ℕ) (weight : Weight) (plan : Option Plan) (files : List Output) → SavesOne given run task choice weight plan files
       → (files ≡ []) ⊎ ((file : Output) × (files ≡ file ∷ []))
-  one_or_none None run choice weight plan files none = inl none
-  one_or_none (Some name) run choice weight plan files (file, is, are) = inr (file, are)
+  one_or_none None run weight plan files none = inl none
+  one_or_none (Some name) run weight plan files (file, is, are) = inr (file, are)
 
-  pub one_file : (choice : Choice) (claims : List PrintedClaim) (part : AnswerPart) → IsNext solve task choice steps claims part → (part.outputs ≡ []) ⊎ ((file : Output) × (part.outputs ≡ file ∷ []))
-  one_file choice claims part (inl (claim, are, of, same, text, saves)) = one_or_none solve.certificate (length claims) choice claim.weight (Some claim.plan) part.outputs saves
-  one_file choice claims part (inr (inl (none, no_plan, text, asked, saves))) = one_or_none solve.certificate 0 choice (weight_asked solve) None part.outputs saves
-  one_file choice claims part (inr (inr (spent, text, none))) = inl none
+  pub one_file : (claims : List PrintedClaim) (part : AnswerPart) → IsNext solve choice task steps claims part → (part.outputs ≡ []) ⊎ ((file : Output) × (part.outputs ≡ file ∷ []))
+  one_file claims part (inl (claim, are, of, text, saves)) = one_or_none solve.certificate (length claims) claim.weight (Some claim.plan) part.outputs saves
+  one_file claims part (inr (inl (none, no_plan, text, saves))) = one_or_none solve.certificate 0 (weight_asked solve) None part.outputs saves
+  one_file claims part (inr (inr (spent, text, none))) = inl none
 
   -- ---- by how it was found
 
-  pub broken : (said : Said) (before : List AnswerPart) (part : AnswerPart) (after : List AnswerPart) → IsFallingFound solve task steps said (before ++ part ∷ after) → Broken before part
+  pub broken : (said : Said) (before : List AnswerPart) (part : AnswerPart) (after : List AnswerPart) → IsFallingFound solve choice task steps said (before ++ part ∷ after) → Broken before part
   broken said before part after found = go found.found
     where
-      go : ((said.status ≡ 0) × IsProvedCheapest solve task found.abstraction found.choice steps (before ++ part ∷ after))
-          ⊎ (((said.status ≡ 1) × IsFallingNone solve task found.abstraction found.choice steps (before ++ part ∷ after))
-          ⊎ ((said.status ≡ 2) × IsFallingStop solve task found.abstraction found.choice steps (before ++ part ∷ after))) → Broken before part
-      go (inl (status, proved)) = broken_proved found.abstraction found.choice found.graph_of found.finest found.asked before part after proved
-      go (inr (inl (status, none))) = broken_none found.abstraction found.choice found.graph_of found.finest found.asked before part after none
-      go (inr (inr (status, stop))) = broken_stop found.abstraction found.choice found.graph_of found.finest found.asked before part after stop
+      go : ((said.status ≡ 0) × IsProvedCheapest solve task found.abstraction choice steps (before ++ part ∷ after))
+          ⊎ (((said.status ≡ 1) × IsFallingNone solve task found.abstraction choice steps (before ++ part ∷ after))
+          ⊎ ((said.status ≡ 2) × IsFallingStop solve task found.abstraction choice steps (before ++ part ∷ after))) → Broken before part
+      go (inl (status, proved)) = broken_proved found.abstraction found.graph_of found.finest before part after proved
+      go (inr (inl (status, none))) = broken_none found.abstraction found.graph_of found.finest before part after none
+      go (inr (inr (status, stop))) = broken_stop found.abstraction found.graph_of found.finest before part after stop
 
-  pub broken_among : (before : List AnswerPart) (part : AnswerPart) (after : List AnswerPart) → AreClaimParts solve task steps (before ++ part ∷ after) → Broken before part
-  broken_among before part after are = broken_first are.abstraction are.choice are.graph_of are.finest are.asked are.claims before part after are.falling are.say are.improvable
+  pub broken_among : (before : List AnswerPart) (part : AnswerPart) (after : List AnswerPart) → AreClaimParts solve choice task steps (before ++ part ∷ after) → Broken before part
+  broken_among before part after are = broken_first are.abstraction are.graph_of are.finest are.claims before part after are.falling are.say are.improvable
 
   -- the claims so far, and nothing else
-  pub ends_short : (said : Said) (parts : List AnswerPart) → said.report ≡ report_of parts → said.outputs ≡ outputs_of parts → AreClaimParts solve task steps parts → EndsShort solve steps said task
+  pub ends_short : (said : Said) (parts : List AnswerPart) → said.report ≡ report_of parts → said.outputs ≡ outputs_of parts → AreClaimParts solve choice task steps parts → EndsShort solve steps said choice task
   ends_short said parts report outputs are =
-      let t = told solve task are.abstraction are.choice steps 0 are.claims parts are.say in
+      let t = told solve task are.abstraction choice steps 0 are.claims parts are.say in
       record {
         claims = t.claims;
-        so_far = claimed_as solve task steps t.claims (report_of parts) said.report (outputs_of parts) said.outputs report outputs
-            (have_claimed solve task are.abstraction are.choice steps are.graph_of are.finest are.asked are.claims parts are.say are.falling are.improvable);
+        so_far = claimed_as solve choice task steps t.claims (report_of parts) said.report (outputs_of parts) said.outputs report outputs
+            (have_claimed solve task are.abstraction choice steps are.graph_of are.finest are.claims parts are.say are.falling are.improvable);
       }
 
-  module _ (said : Said) (parts : List AnswerPart) (found : IsFallingFound solve task steps said parts) where
+  module _ (said : Said) (parts : List AnswerPart) (found : IsFallingFound solve choice task steps said parts) where
     by_status : (Q : Type 0) → (said.status ≡ 0 → Q) → (said.status ≡ 1 → Q) → (said.status ≡ 2 → Q) → Q
     by_status Q zero one two = go found.found
       where
-        go : ((said.status ≡ 0) × IsProvedCheapest solve task found.abstraction found.choice steps parts)
-            ⊎ (((said.status ≡ 1) × IsFallingNone solve task found.abstraction found.choice steps parts)
-            ⊎ ((said.status ≡ 2) × IsFallingStop solve task found.abstraction found.choice steps parts)) → Q
+        go : ((said.status ≡ 0) × IsProvedCheapest solve task found.abstraction choice steps parts)
+            ⊎ (((said.status ≡ 1) × IsFallingNone solve task found.abstraction choice steps parts)
+            ⊎ ((said.status ≡ 2) × IsFallingStop solve task found.abstraction choice steps parts)) → Q
         go (inl h) = zero h.0
         go (inr (inl h)) = one h.0
         go (inr (inr h)) = two h.0
 
-    pub at_zero : said.status ≡ 0 → EndsProved solve steps said task
+    pub at_zero : said.status ≡ 0 → EndsProved solve steps said choice task
     at_zero e = go found.found
       where
-        go : ((said.status ≡ 0) × IsProvedCheapest solve task found.abstraction found.choice steps parts)
-            ⊎ (((said.status ≡ 1) × IsFallingNone solve task found.abstraction found.choice steps parts)
-            ⊎ ((said.status ≡ 2) × IsFallingStop solve task found.abstraction found.choice steps parts)) → EndsProved solve steps said task
-        go (inl (status, proved)) = ends_proved found.abstraction found.choice found.graph_of found.finest found.asked said parts found.report found.outputs proved
+        go : ((said.status ≡ 0) × IsProvedCheapest solve task found.abstraction choice steps parts)
+            ⊎ (((said.status ≡ 1) × IsFallingNone solve task found.abstraction choice steps parts)
+            ⊎ ((said.status ≡ 2) × IsFallingStop solve task found.abstraction choice steps parts)) → EndsProved solve steps said choice task
+        go (inl (status, proved)) = ends_proved found.abstraction found.graph_of found.finest said parts found.report found.outputs proved
         go (inr (inl (status, none))) = absurd (omega (arith, e, status))
         go (inr (inr (status, stop))) = absurd (omega (arith, e, status))
 
-    pub at_one : said.status ≡ 1 → EndsNone solve said task
+    pub at_one : said.status ≡ 1 → EndsNone solve said choice task
     at_one e = go found.found
       where
-        go : ((said.status ≡ 0) × IsProvedCheapest solve task found.abstraction found.choice steps parts)
-            ⊎ (((said.status ≡ 1) × IsFallingNone solve task found.abstraction found.choice steps parts)
-            ⊎ ((said.status ≡ 2) × IsFallingStop solve task found.abstraction found.choice steps parts)) → EndsNone solve said task
+        go : ((said.status ≡ 0) × IsProvedCheapest solve task found.abstraction choice steps parts)
+            ⊎ (((said.status ≡ 1) × IsFallingNone solve task found.abstraction choice steps parts)
+            ⊎ ((said.status ≡ 2) × IsFallingStop solve task found.abstraction choice steps parts)) → EndsNone solve said choice task
         go (inl (status, proved)) = absurd (omega (arith, e, status))
-        go (inr (inl (status, none))) = ends_none found.abstraction found.choice found.graph_of found.finest found.asked said parts found.report found.outputs none
+        go (inr (inl (status, none))) = ends_none found.abstraction found.graph_of found.finest said parts found.report found.outputs none
         go (inr (inr (status, stop))) = absurd (omega (arith, e, status))
 
-    pub at_two : said.status ≡ 2 → EndsStopped solve steps said task
+    pub at_two : said.status ≡ 2 → EndsStopped solve steps said choice task
     at_two e = go found.found
       where
-        go : ((said.status ≡ 0) × IsProvedCheapest solve task found.abstraction found.choice steps parts)
-            ⊎ (((said.status ≡ 1) × IsFallingNone solve task found.abstraction found.choice steps parts)
-            ⊎ ((said.status ≡ 2) × IsFallingStop solve task found.abstraction found.choice steps parts)) → EndsStopped solve steps said task
+        go : ((said.status ≡ 0) × IsProvedCheapest solve task found.abstraction choice steps parts)
+            ⊎ (((said.status ≡ 1) × IsFallingNone solve task found.abstraction choice steps parts)
+            ⊎ ((said.status ≡ 2) × IsFallingStop solve task found.abstraction choice steps parts)) → EndsStopped solve steps said choice task
         go (inl (status, proved)) = absurd (omega (arith, e, status))
         go (inr (inl (status, none))) = absurd (omega (arith, e, status))
-        go (inr (inr (status, stop))) = ends_stopped found.abstraction found.choice found.graph_of found.finest found.asked said parts found.report found.outputs stop
+        go (inr (inr (status, stop))) = ends_stopped found.abstraction found.graph_of found.finest said parts found.report found.outputs stop
 
     pub which : (said.status ≡ 0) ⊎ ((said.status ≡ 1) ⊎ (said.status ≡ 2))
     which = by_status ((said.status ≡ 0) ⊎ ((said.status ≡ 1) ⊎ (said.status ≡ 2))) inl (λ e. inr (inl e)) (λ e. inr (inr e))

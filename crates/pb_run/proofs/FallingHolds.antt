@@ -1,16 +1,19 @@
 -- From how a call of the program goes to what is promised of falling weights.
-use Rattle.std.proofs.Common.{◌≡◌, ◌⊎◌, inl, inr, ℕ, ◌<◌, Some, List, [], ◌∷◌, ◌++◌, Result, Ok, Err, take, drop, refl, sym, ap, subst, ◌∙◌, arith, append-nil}
+use Rattle.std.proofs.Common.{◌≡◌, ◌⊎◌, inl, inr, ℕ, ◌<◌, Option, Some, List, [], ◌∷◌, ◌++◌, Result, Ok, Err, take, drop, refl, sym, ap, subst, ◌∙◌, arith, append-nil}
 use Rattle.std.proofs.lemmas.List.{take-append-drop}
 use Rattle.pb_outside.specs.declared.shelf.Load.TheVariants.{Failed}
 use Rattle.pb_outside.specs.Calls.{Call}
 use Rattle.pb_task.specs.declared.parts.TaskParts.{TaskParts}
+use Rattle.pb_tables.specs.Tables.{TablesValue}
+use Rattle.pb_estimate.specs.Choices.{Choice}
 use Rattle.pb_command.specs.Meaning.{Reading, Refused, Read, Solve, Falling, Check, Journal, Make, FallingMeaning}
 use Rattle.pb_answer.specs.Outputs.{Output}
 use Rattle.pb_answer.specs.Loaded.{OfTexts, solve_task}
+use Rattle.pb_answer.specs.Searches.{ByAskedChoice}
 use Rattle.pb_answer.specs.Answer.{Said, IsRefused, OrRefused}
 use Rattle.pb_answer.specs.Parts.{AnswerPart, AreAnswerParts, outputs_of, report_of}
 use Rattle.pb_answer.specs.Falling.{IsProvedCheapest, IsFallingNone, IsFallingStop, IsFallingFound}
-use Rattle.pb_answer.specs.Stops.{InputMayStop, StopsGrounding}
+use Rattle.pb_answer.specs.Stops.{InputMayStop, HasTablesText, StopsSolve}
 use Rattle.pb_run.specs.Asked.{files_of}
 use Rattle.pb_run.specs.Calls.{loaded_texts, outputs_in, put_bytes, load_calls, FailToSaveAll}
 use Rattle.pb_run.specs.Answers.{AnswersReading}
@@ -36,8 +39,24 @@ module _ (falling : FallingMeaning) (n looks : ℕ) (shelf sink : List Call) whe
   Holds = FallingHolds falling it
 
   -- what holds of the task of these texts holds of that of the texts that were loaded
-  of_texts : (texts : List (List ℕ)) → loaded_texts shelf ≡ texts → (task : TaskParts) → solve_task falling.solve texts ≡ Ok task → (P : TaskParts → Type 0) → P task → OfTexts falling.solve it.texts P
-  of_texts texts same task is P holds = (task, ap (solve_task falling.solve) same ∙ is, holds)
+  of_texts : (texts : List (List ℕ)) → loaded_texts shelf ≡ texts → (P : Choice → TaskParts → Type 0) → OfTexts falling.solve texts P → OfTexts falling.solve it.texts P
+  of_texts texts same P (read, is, holds) = (read, ap (solve_task falling.solve) same ∙ is, holds)
+
+  -- what was read of a task, and the tables of a file if there are any
+  abbrev Given : Type 0
+  Given = TaskParts × Option TablesValue
+
+  -- all of a search is handed out in these parts
+  abbrev FoundOf : Said → List AnswerPart → (read : Given) → Type 0
+  FoundOf said parts read = ByAskedChoice falling.solve read (λ choice task. IsFallingFound falling.solve choice task falling.steps said parts)
+
+  -- some search of what was read is handed out
+  abbrev AnswerOf : (read : Given) → Said → Type 0
+  AnswerOf read all = ByAskedChoice falling.solve read (λ choice task. (parts : List AnswerPart) × IsFallingFound falling.solve choice task falling.steps all parts)
+
+  -- a part broke off in a search of the task that the texts spell
+  abbrev BrokenOf : (texts : List (List ℕ)) → List AnswerPart → AnswerPart → Type 0
+  BrokenOf texts before part = OfTexts falling.solve texts (λ choice task. Broken falling.solve choice task falling.steps before part)
 
   abbrev StatusesAre : Type 0
   StatusesAre = AnswersOneOf (0 ∷ 1 ∷ 2 ∷ 65 ∷ []) it
@@ -48,10 +67,13 @@ module _ (falling : FallingMeaning) (n looks : ℕ) (shelf sink : List Call) whe
 
   -- grounding of these texts was stopped, with what was said
   abbrev IsHalted : (texts : List (List ℕ)) → Said → Type 0
-  IsHalted texts said = StopsGrounding falling.solve.input falling.solve.options 0 texts said
+  IsHalted texts said = StopsSolve falling.solve texts said
 
   abbrev MayHalt : (texts : List (List ℕ)) → Type 0
   MayHalt texts = InputMayStop falling.solve.input falling.solve.options 0 texts
+
+  abbrev HasTables : (texts : List (List ℕ)) → Type 0
+  HasTables texts = HasTablesText falling.solve.input falling.solve.tables texts
 
   -- ---- statuses at which one promise is made
 
@@ -126,30 +148,33 @@ module _ (falling : FallingMeaning) (n looks : ℕ) (shelf sink : List Call) whe
   at_stop : IsHalted it.texts it.said → Holds
   at_stop stop = record {
     found = λ e. inr stop;
-    proved = λ e. absurd (omega (arith, stop.status, e));
-    none = λ e. absurd (omega (arith, stop.status, e));
+    proved = λ e. absurd (omega (arith, stop.1.status, e));
+    none = λ e. absurd (omega (arith, stop.1.status, e));
     stopped = λ e. inr stop;
-    short = λ e. absurd (omega (arith, stop.status, e));
-    unsaved = λ e. absurd (omega (arith, stop.status, e));
-    unprinted = λ e. absurd (omega (arith, stop.status, e));
-    statuses = inl (inr (inr (inl stop.status)));
+    short = λ e. absurd (omega (arith, stop.1.status, e));
+    unsaved = λ e. absurd (omega (arith, stop.1.status, e));
+    unprinted = λ e. absurd (omega (arith, stop.1.status, e));
+    statuses = inl (inr (inr (inl stop.1.status)));
   }
 
   -- all of a search is out
-  at_found : (texts : List (List ℕ)) → loaded_texts shelf ≡ texts → (task : TaskParts) → solve_task falling.solve texts ≡ Ok task → (parts : List AnswerPart) → IsFallingFound falling.solve task falling.steps it.said parts → Holds
-  at_found texts same task is parts found = record {
-    found = λ e. inl (of_texts texts same task is _ (parts, found));
-    proved = λ e. of_texts texts same task is (EndsProved falling.solve falling.steps it.said) (at_zero falling.solve task falling.steps it.said parts found e);
-    none = λ e. of_texts texts same task is (EndsNone falling.solve it.said) (at_one falling.solve task falling.steps it.said parts found e);
-    stopped = λ e. inl (of_texts texts same task is (EndsStopped falling.solve falling.steps it.said) (at_two falling.solve task falling.steps it.said parts found e));
+  at_found : (texts : List (List ℕ)) → loaded_texts shelf ≡ texts → (read : Given) → solve_task falling.solve texts ≡ Ok read → (parts : List AnswerPart) → FoundOf it.said parts read → Holds
+  at_found texts same read is parts (choice, asked, found) = record {
+    found = λ e. inl (of_it (λ by task. (all : List AnswerPart) × IsFallingFound falling.solve by task falling.steps it.said all) (parts, found));
+    proved = λ e. of_it (EndsProved falling.solve falling.steps it.said) (at_zero falling.solve choice read.0 falling.steps it.said parts found e);
+    none = λ e. of_it (EndsNone falling.solve it.said) (at_one falling.solve choice read.0 falling.steps it.said parts found e);
+    stopped = λ e. inl (of_it (EndsStopped falling.solve falling.steps it.said) (at_two falling.solve choice read.0 falling.steps it.said parts found e));
     short = λ e. absurd (other 71 e (omega arith));
     unsaved = λ e. absurd (other 73 e (omega arith));
     unprinted = λ e. absurd (other 74 e (omega arith));
-    statuses = inl (among (which falling.solve task falling.steps it.said parts found));
+    statuses = inl (among (which falling.solve choice read.0 falling.steps it.said parts found));
   }
     where
+      of_it : (P : Choice → TaskParts → Type 0) → P choice read.0 → OfTexts falling.solve it.texts P
+      of_it P holds = of_texts texts same P (read, is, (choice, asked, holds))
+
       other : (k : ℕ) → n ≡ k → 2 < k → ⊥
-      other k e past = go (which falling.solve task falling.steps it.said parts found)
+      other k e past = go (which falling.solve choice read.0 falling.steps it.said parts found)
         where
           go : (n ≡ 0) ⊎ ((n ≡ 1) ⊎ (n ≡ 2)) → ⊥
           go (inl z) = omega (arith, e, z, past)
@@ -178,8 +203,8 @@ module _ (falling : FallingMeaning) (n looks : ℕ) (shelf sink : List Call) whe
 
       go : AreFirstParts reading out.texts out.parts → IsSilent it.said ⊎ OfTexts falling.solve it.texts (EndsShort falling.solve falling.steps it.said)
       go (inl none) = inl (tell.printed ∙ ap report_of none, outputs_are ∙ ap outputs_of none)
-      go (inr (task, is, are)) = inr (of_texts out.texts texts_are task is (EndsShort falling.solve falling.steps it.said)
-          (ends_short falling.solve task falling.steps it.said out.parts tell.printed outputs_are are))
+      go (inr (read, is, (choice, asked, are))) = inr (of_texts out.texts texts_are (EndsShort falling.solve falling.steps it.said)
+          (read, is, (choice, asked, ends_short falling.solve choice read.0 falling.steps it.said out.parts tell.printed outputs_are are)))
 
   -- ---- a file isn't loaded
 
@@ -206,37 +231,42 @@ module _ (falling : FallingMeaning) (n looks : ℕ) (shelf sink : List Call) whe
         tell = all_tell a.parts a.saves sink h.hands
 
         halted : IsHalted a.texts h.said → Holds
-        halted stop = at_stop (record {
-          due = subst MayHalt (sym (texts_of tell.none_loaded)) stop.due;
-          looks = h.looks_is ∙ stop.looks;
-          status = h.status_is ∙ stop.status;
-          report = tell.printed ∙ sym (all_report reading a.texts h.said a.parts h.parts_are) ∙ stop.report;
-          outputs = outputs_of_saves ∙ tell.saved ∙ sym (all_outputs reading a.texts h.said a.parts h.parts_are) ∙ stop.outputs;
-        })
+        halted (tables, stop) = at_stop (
+          subst HasTables (sym (texts_of tell.none_loaded)) tables,
+          record {
+            due = subst MayHalt (sym (texts_of tell.none_loaded)) stop.due;
+            looks = h.looks_is ∙ stop.looks;
+            status = h.status_is ∙ stop.status;
+            report = tell.printed ∙ sym (all_report reading a.texts h.said a.parts h.parts_are) ∙ stop.report;
+            outputs = outputs_of_saves ∙ tell.saved ∙ sym (all_outputs reading a.texts h.said a.parts h.parts_are) ∙ stop.outputs;
+          },
+        )
 
-        go : (t : Result TaskParts (List ℕ)) → solve_task falling.solve a.texts ≡ t
-            → OrRefused t (λ task all. (parts : List AnswerPart) × IsFallingFound falling.solve task falling.steps all parts) h.said
-            → OfTaskOr t (AreAnswerParts h.said a.parts) (λ task. IsFallingFound falling.solve task falling.steps h.said a.parts) → Holds
-        go (Ok task) is answers found = at_found a.texts (texts_of tell.none_loaded) task is a.parts (record {
+        -- what was said is what was found
+        as_said : (choice : Choice) (task : TaskParts) → IsFallingFound falling.solve choice task falling.steps h.said a.parts → IsFallingFound falling.solve choice task falling.steps it.said a.parts
+        as_said choice task found = record {
           report = tell.printed;
           outputs = outputs_of_saves ∙ tell.saved;
           abstraction = found.abstraction;
           graph_of = found.graph_of;
           finest = found.finest;
-          choice = found.choice;
-          asked = found.asked;
           found = ends found.found;
-        })
+        }
           where
-            ends : ((h.said.status ≡ 0) × IsProvedCheapest falling.solve task found.abstraction found.choice falling.steps a.parts)
-                ⊎ (((h.said.status ≡ 1) × IsFallingNone falling.solve task found.abstraction found.choice falling.steps a.parts)
-                ⊎ ((h.said.status ≡ 2) × IsFallingStop falling.solve task found.abstraction found.choice falling.steps a.parts))
-                → ((n ≡ 0) × IsProvedCheapest falling.solve task found.abstraction found.choice falling.steps a.parts)
-                ⊎ (((n ≡ 1) × IsFallingNone falling.solve task found.abstraction found.choice falling.steps a.parts)
-                ⊎ ((n ≡ 2) × IsFallingStop falling.solve task found.abstraction found.choice falling.steps a.parts))
+            ends : ((h.said.status ≡ 0) × IsProvedCheapest falling.solve task found.abstraction choice falling.steps a.parts)
+                ⊎ (((h.said.status ≡ 1) × IsFallingNone falling.solve task found.abstraction choice falling.steps a.parts)
+                ⊎ ((h.said.status ≡ 2) × IsFallingStop falling.solve task found.abstraction choice falling.steps a.parts))
+                → ((n ≡ 0) × IsProvedCheapest falling.solve task found.abstraction choice falling.steps a.parts)
+                ⊎ (((n ≡ 1) × IsFallingNone falling.solve task found.abstraction choice falling.steps a.parts)
+                ⊎ ((n ≡ 2) × IsFallingStop falling.solve task found.abstraction choice falling.steps a.parts))
             ends (inl (status, proved)) = inl (h.status_is ∙ status, proved)
             ends (inr (inl (status, none))) = inr (inl (h.status_is ∙ status, none))
             ends (inr (inr (status, stop))) = inr (inr (h.status_is ∙ status, stop))
+
+        go : (t : Result Given (List ℕ)) → solve_task falling.solve a.texts ≡ t → OrRefused t AnswerOf h.said
+            → OfTaskOr t (AreAnswerParts h.said a.parts) (FoundOf h.said a.parts) → Holds
+        go (Ok read) is answers (choice, asked, found) =
+            at_found a.texts (texts_of tell.none_loaded) read is a.parts (choice, asked, as_said choice read.0 found)
         go (Err report) is refused parts_are = at_refusal (h.status_is ∙ refused.0)
 
         by : AnswersReading reading a.texts h.said → AreAllParts reading a.texts h.said a.parts → Holds
@@ -246,21 +276,23 @@ module _ (falling : FallingMeaning) (n looks : ℕ) (shelf sink : List Call) whe
 
     -- the part that broke off, of all parts or of the first ones; or the texts are refused or grounding was stopped, and there is one part
     by_decided : (Q : Type 0) (before : List AnswerPart) (part : AnswerPart) (after : List AnswerPart) → a.parts ≡ before ++ part ∷ after → AreDecided reading a.texts looks a.parts
-        → ((task : TaskParts) → solve_task falling.solve a.texts ≡ Ok task → Broken falling.solve task falling.steps before part → Q)
+        → (BrokenOf a.texts before part → Q)
         → ((said : Said) → solve_task falling.solve a.texts ≡ Err said.report → IsRefused said.report said → before ++ part ∷ after ≡ record { outputs = said.outputs; report = said.report } ∷ [] → Q)
         → ((said : Said) → IsHalted a.texts said → looks ≡ said.looks → before ++ part ∷ after ≡ record { outputs = said.outputs; report = said.report } ∷ [] → Q) → Q
     by_decided Q before part after parts_are decided of_task refused halted = go (subst (λ (ps : List AnswerPart). AreDecided reading a.texts looks ps) parts_are decided)
       where
-        by_task : (said : Said) (t : Result TaskParts (List ℕ)) → solve_task falling.solve a.texts ≡ t
-            → OrRefused t (λ task all. (parts : List AnswerPart) × IsFallingFound falling.solve task falling.steps all parts) said
-            → OfTaskOr t (AreAnswerParts said (before ++ part ∷ after)) (λ task. IsFallingFound falling.solve task falling.steps said (before ++ part ∷ after)) → Q
-        by_task said (Ok task) is answers found = of_task task is (broken falling.solve task falling.steps said before part after found)
+        by_found : (said : Said) (read : Given) → solve_task falling.solve a.texts ≡ Ok read → FoundOf said (before ++ part ∷ after) read → Q
+        by_found said read is (choice, asked, found) = of_task (read, is, (choice, asked, broken falling.solve choice read.0 falling.steps said before part after found))
+
+        by_task : (said : Said) (t : Result Given (List ℕ)) → solve_task falling.solve a.texts ≡ t → OrRefused t AnswerOf said
+            → OfTaskOr t (AreAnswerParts said (before ++ part ∷ after)) (FoundOf said (before ++ part ∷ after)) → Q
+        by_task said (Ok read) is answers found = by_found said read is found
         by_task said (Err report) is (status, says, saves) one =
             refused said (is ∙ ap (λ (text : List ℕ). Err text) (sym says)) (status, refl, saves) one
 
-        by_stop : (said : Said) → IsHalted a.texts said → looks ≡ said.looks → (t : Result TaskParts (List ℕ)) → solve_task falling.solve a.texts ≡ t
-            → OfTaskOr t (AreAnswerParts said (before ++ part ∷ after)) (λ task. IsFallingFound falling.solve task falling.steps said (before ++ part ∷ after)) → Q
-        by_stop said stop counted (Ok task) is found = of_task task is (broken falling.solve task falling.steps said before part after found)
+        by_stop : (said : Said) → IsHalted a.texts said → looks ≡ said.looks → (t : Result Given (List ℕ)) → solve_task falling.solve a.texts ≡ t
+            → OfTaskOr t (AreAnswerParts said (before ++ part ∷ after)) (FoundOf said (before ++ part ∷ after)) → Q
+        by_stop said stop counted (Ok read) is found = by_found said read is found
         by_stop said stop counted (Err report) is one = halted said stop counted one
 
         by : (said : Said) → AnswersReading reading a.texts said → AreAllParts reading a.texts said (before ++ part ∷ after) → looks ≡ said.looks → Q
@@ -275,7 +307,7 @@ module _ (falling : FallingMeaning) (n looks : ℕ) (shelf sink : List Call) whe
         go : AreDecided reading a.texts looks (before ++ part ∷ after) → Q
         go (inl (said, answers, are, counted)) = by said answers are counted
         go (inr (inl none)) = absurd (never before none)
-        go (inr (inr (task, is, are))) = of_task task is (broken_among falling.solve task falling.steps before part after are)
+        go (inr (inr (read, is, (choice, asked, are)))) = of_task (read, is, (choice, asked, broken_among falling.solve choice read.0 falling.steps before part after are))
 
     -- a refusal and a stop have no file and are in one part
     only_part : (before : List AnswerPart) (part : AnswerPart) (after : List AnswerPart) (said : Said) → before ++ part ∷ after ≡ record { outputs = said.outputs; report = said.report } ∷ []
@@ -294,8 +326,8 @@ module _ (falling : FallingMeaning) (n looks : ℕ) (shelf sink : List Call) whe
 
     unsaved : BreaksOffSaving reading a.texts a.parts n looks a.saves sink → Holds
     unsaved f = at_shelf f.status_is (by_decided (IsSilent it.said ⊎ OfTexts falling.solve it.texts (EndsUnsaved falling.solve falling.steps it.said)) s.before s.part s.after s.parts_are f.decided
-        (λ task is b. inr (of_texts a.texts (texts_of s.none_loaded) task is (EndsUnsaved falling.solve falling.steps it.said) (ends task b)))
-        (λ said is refusal one. absurd (no_file said refusal.2 one)) (λ said stop counted one. absurd (no_file said stop.outputs one)))
+        (λ b. inr (of_texts a.texts (texts_of s.none_loaded) (EndsUnsaved falling.solve falling.steps it.said) (b.0, b.1, (b.2.0, b.2.1, ends b.2.0 b.0.0 b.2.2))))
+        (λ said is refusal one. absurd (no_file said refusal.2 one)) (λ said stop counted one. absurd (no_file said stop.1.outputs one)))
       where
         s : SplitUnsaved a.parts a.saves sink
         s = split_unsaved a.parts a.saves sink f.hands
@@ -303,15 +335,15 @@ module _ (falling : FallingMeaning) (n looks : ℕ) (shelf sink : List Call) whe
         no_file : (said : Said) → said.outputs ≡ [] → s.before ++ s.part ∷ s.after ≡ record { outputs = said.outputs; report = said.report } ∷ [] → ⊥
         no_file said none one = subst (λ (os : List Output). FailToSaveAll s.own os) ((only_part s.before s.part s.after said one).1 ∙ none) s.fails
 
-        ends : (task : TaskParts) → Broken falling.solve task falling.steps s.before s.part → EndsUnsaved falling.solve falling.steps it.said task
-        ends task b = go (one_file falling.solve task falling.steps b.so_far.searched.choice b.claims s.part b.next)
+        ends : (choice : Choice) (task : TaskParts) → Broken falling.solve choice task falling.steps s.before s.part → EndsUnsaved falling.solve falling.steps it.said choice task
+        ends choice task b = go (one_file falling.solve choice task falling.steps b.claims s.part b.next)
           where
-            go : (s.part.outputs ≡ []) ⊎ ((file : Output) × (s.part.outputs ≡ file ∷ [])) → EndsUnsaved falling.solve falling.steps it.said task
+            go : (s.part.outputs ≡ []) ⊎ ((file : Output) × (s.part.outputs ≡ file ∷ [])) → EndsUnsaved falling.solve falling.steps it.said choice task
             go (inl none) = absurd (subst (λ (os : List Output). FailToSaveAll s.own os) none s.fails)
             go (inr (file, due)) = record {
               claims = b.claims;
               files = outputs_of s.before;
-              so_far = claimed_as falling.solve task falling.steps b.claims (report_of s.before) it.said.report (outputs_of s.before) (outputs_of s.before) s.printed refl b.so_far;
+              so_far = claimed_as falling.solve choice task falling.steps b.claims (report_of s.before) it.said.report (outputs_of s.before) (outputs_of s.before) s.printed refl b.so_far;
               part = s.part;
               next = b.next;
               file = file;
@@ -323,15 +355,15 @@ module _ (falling : FallingMeaning) (n looks : ℕ) (shelf sink : List Call) whe
 
     unput : BreaksOffPutting reading a.texts a.parts n looks a.saves sink → Holds
     unput f = at_sink f.status_is (by_decided IsUnprinted s.before s.part s.after s.parts_are f.decided
-        (λ task is b. inr (inr (of_texts a.texts (texts_of s.none_loaded) task is (EndsUnprinted falling.solve falling.steps it.said) (ends task b))))
+        (λ b. inr (inr (of_texts a.texts (texts_of s.none_loaded) (EndsUnprinted falling.solve falling.steps it.said) (b.0, b.1, (b.2.0, b.2.1, ends b.2.0 b.0.0 b.2.2)))))
         (λ said is refusal one. inl (refused said is refusal (only_part s.before s.part s.after said one)))
         (λ said stop counted one. inr (inl (stopped said stop counted (only_part s.before s.part s.after said one)))))
       where
         s : SplitUnput a.parts a.saves sink
         s = split_unput a.parts a.saves sink f.hands
 
-        ends : (task : TaskParts) → Broken falling.solve task falling.steps s.before s.part → EndsUnprinted falling.solve falling.steps it.said task
-        ends task b = record {
+        ends : (choice : Choice) (task : TaskParts) → Broken falling.solve choice task falling.steps s.before s.part → EndsUnprinted falling.solve falling.steps it.said choice task
+        ends choice task b = record {
           claims = b.claims;
           report = report_of s.before;
           files = outputs_of s.before;
@@ -357,8 +389,9 @@ module _ (falling : FallingMeaning) (n looks : ℕ) (shelf sink : List Call) whe
 
         stopped : (said : Said) → IsHalted a.texts said → looks ≡ said.looks → (s.before ≡ []) × (s.part.outputs ≡ said.outputs) × (s.part.report ≡ said.report)
             → IsStoppedInPart falling.solve it.texts it.said
-        stopped said stop counted (none, files, report) = (
+        stopped said (tables, stop) counted (none, files, report) = (
           drop s.kept s.part.report,
+          subst HasTables (sym (texts_of s.none_loaded)) tables,
           subst MayHalt (sym (texts_of s.none_loaded)) stop.due,
           counted ∙ stop.looks,
           sym (ap (λ (text : List ℕ). text ++ drop s.kept s.part.report) (s.printed ∙ ap (λ (ps : List AnswerPart). report_of ps ++ take s.kept s.part.report) none)

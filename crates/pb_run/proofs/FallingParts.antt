@@ -58,7 +58,7 @@ module _ (search : FallingValue) (parts : List AnswerPart) (has : HandedOutBefor
   abbrev Decided : Type 0
   Decided = IsLast search ⊎ (IsLast search → ⊥)
 
-  pub found : IsLast search → Says → IsFallingFound search.solve task search.steps total more
+  pub found : IsLast search → Says → IsFallingFound search.solve search.graph.choice task search.steps total more
   found last says = all_found has.before has.machine search has.run parts has.say said says last total refl refl refl
 
   -- nothing comes after a search where nothing is claimed
@@ -66,13 +66,11 @@ module _ (search : FallingValue) (parts : List AnswerPart) (has : HandedOutBefor
   no_plan_is_last none = subst (IsLastAt (weight_now search)) (sym none) tt
 
   -- if it isn't the last one, it is a claim that may be improved
-  more_claims : (IsLast search → ⊥) → Says → AreClaimParts search.solve task search.steps more
+  more_claims : (IsLast search → ⊥) → Says → AreClaimParts search.solve search.graph.choice task search.steps more
   more_claims not_last (inl (plan, plan_is, status, says, falling)) = record {
     abstraction = blocks;
     graph_of = has.run.graph_of;
     finest = has.run.finest;
-    choice = search.graph.choice;
-    asked = has.run.asked;
     claims = has.before ++ claim_now search has.machine plan ∷ [];
     falling = falling;
     say = claim_handed_out has.before has.machine search has.run parts has.say plan (part_of said) says;
@@ -82,7 +80,7 @@ module _ (search : FallingValue) (parts : List AnswerPart) (has : HandedOutBefor
   more_claims not_last (inr (inl none)) = absurd (not_last (no_plan_is_last none.0))
   more_claims not_last (inr (inr stop)) = absurd (not_last (no_plan_is_last stop.0))
 
-  pub decided : Decided → Says → AreFallingParts search.solve task search.steps more
+  pub decided : Decided → Says → AreFallingParts search.solve search.graph.choice task search.steps more
   decided (inl last) says = inl (total, found last says)
   decided (inr not_last) says = inr (more_claims not_last says)
 
@@ -116,7 +114,7 @@ module _ (search : FallingValue) (parts : List AnswerPart) (has : HandedOutBefor
   all said ending next = hands_then ending parts (part_of said ∷ []) files between files' calls mid calls' puts put puts' written so_far written' hands next
 
   abbrev Ends : ℕ → Type 0
-  Ends status = HandsOutFalling search.solve search.parts search.steps status files files' calls calls' puts puts' written written'
+  Ends status = HandsOutFalling search.solve search.graph.choice search.parts search.steps status files files' calls calls' puts puts' written written'
 
   pub ends_done : (said : Said) → SaysNow has.before has.machine search said → IsLast search → Next said Done → Ends said.status
   ends_done said says last next = record {
@@ -164,21 +162,21 @@ module _ (search : FallingValue) (parts : List AnswerPart) (has : HandedOutBefor
       → (CanHold can_hold said.outputs → can_take (length said.report) → ⊥) → EndsIfItFits search parts status can_hold can_take
   fits_not last says status broke never = inr (said, go (decided search parts has said last says))
     where
-      go : AreFallingParts search.solve search.parts search.steps (parts ++ part_of said ∷ [])
-          → ((all : Said) × IsFallingFound search.solve search.parts search.steps all (parts ++ part_of said ∷ []) × (FitsNow can_hold can_take said → status ≡ all.status))
-          ⊎ (AreClaimParts search.solve search.parts search.steps (parts ++ part_of said ∷ []) × ((status ≡ 73) ⊎ (status ≡ 74)) × (FitsNow can_hold can_take said → ⊥))
+      go : AreFallingParts search.solve search.graph.choice search.parts search.steps (parts ++ part_of said ∷ [])
+          → ((all : Said) × IsFallingFound search.solve search.graph.choice search.parts search.steps all (parts ++ part_of said ∷ []) × (FitsNow can_hold can_take said → status ≡ all.status))
+          ⊎ (AreClaimParts search.solve search.graph.choice search.parts search.steps (parts ++ part_of said ∷ []) × ((status ≡ 73) ⊎ (status ≡ 74)) × (FitsNow can_hold can_take said → ⊥))
       go (inl (all, is_found)) = inl (all, is_found, λ fit. absurd (never fit.0 fit.1))
       go (inr claims) = inr (claims, broke, λ fit. never fit.0 fit.1)
 
 -- what fits after the parts before is what fits with them
 pub ends_fit : (search : FallingValue) (parts : List AnswerPart) (can_hold can_hold' : List ℕ → ℕ → Type 0) (can_take can_take' : ℕ → Type 0) → StillFits parts can_hold can_hold' can_take can_take'
-    → (status : ℕ) → EndsIfItFits search parts status can_hold' can_take' → ClaimsIfTheyFit search.solve search.parts search.steps status can_hold can_take
+    → (status : ℕ) → EndsIfItFits search parts status can_hold' can_take' → ClaimsIfTheyFit search.solve search.graph.choice search.parts search.steps status can_hold can_take
 ends_fit search parts can_hold can_hold' can_take can_take' still status ends = go ends
   where
     now : (said : Said) → PartsFit can_hold can_take (parts ++ part_of said ∷ []) → FitsNow can_hold' can_take' said
     now said fit = next_fits can_hold can_hold' can_take can_take' parts (part_of said) still.holds still.takes fit
 
-    go : EndsIfItFits search parts status can_hold' can_take' → ClaimsIfTheyFit search.solve search.parts search.steps status can_hold can_take
+    go : EndsIfItFits search parts status can_hold' can_take' → ClaimsIfTheyFit search.solve search.graph.choice search.parts search.steps status can_hold can_take
     go (inl is) = inl is
     go (inr (said, inl (all, is_found, fits))) = inr (inl (record { said = all; parts = parts ++ part_of said ∷ []; found = is_found; if_they_fit = λ fit. fits (now said fit) }))
     go (inr (said, inr (claims, broke, never))) = inr (inr (record { broke = broke; parts = parts ++ part_of said ∷ []; parts_are = claims; do_not_fit = λ fit. never (now said fit) }))
@@ -186,7 +184,7 @@ ends_fit search parts can_hold can_hold' can_take can_take' still status ends = 
 -- memory ran out with these parts
 pub ends_without_memory : (search : FallingValue) (parts : List AnswerPart) → HandedOutBefore search parts → (files files' : Option Files) (calls calls' puts puts' : List Call) (written written' : Option (List ℕ))
     → HandsParts Done parts files files' calls calls' puts puts' written written'
-    → HandsOutFalling search.solve search.parts search.steps 71 files files' calls calls' puts puts' written written'
+    → HandsOutFalling search.solve search.graph.choice search.parts search.steps 71 files files' calls calls' puts puts' written written'
 ends_without_memory search parts has files files' calls calls' puts puts' written written' hands =
     record {
       ending = Done;
@@ -198,8 +196,6 @@ ends_without_memory search parts has files files' calls calls' puts puts' writte
           abstraction = search.graph.table.abstraction;
           graph_of = has.run.graph_of;
           finest = has.run.finest;
-          choice = search.graph.choice;
-          asked = has.run.asked;
           claims = has.before;
           falling = has.falling;
           say = has.say;
@@ -211,7 +207,7 @@ ends_without_memory search parts has files files' calls calls' puts puts' writte
 -- the same after the claim of the run in hand
 pub ends_between_claims : (search : FallingValue) (parts : List AnswerPart) → HandedOutNow search parts → (files files' : Option Files) (calls calls' puts puts' : List Call) (written written' : Option (List ℕ))
     → HandsParts Done parts files files' calls calls' puts puts' written written'
-    → HandsOutFalling search.solve search.parts search.steps 71 files files' calls calls' puts puts' written written'
+    → HandsOutFalling search.solve search.graph.choice search.parts search.steps 71 files files' calls calls' puts puts' written written'
 ends_between_claims search parts has files files' calls calls' puts puts' written written' hands =
     record {
       ending = Done;
@@ -223,8 +219,6 @@ ends_between_claims search parts has files files' calls calls' puts puts' writte
           abstraction = search.graph.table.abstraction;
           graph_of = has.run.graph_of;
           finest = has.run.finest;
-          choice = search.graph.choice;
-          asked = has.run.asked;
           claims = has.before ++ claim_now search has.machine has.plan ∷ [];
           falling = has.falling;
           say = has.say;
@@ -272,13 +266,14 @@ first_claimed search (machine, run) = record {
   say = tt;
 }
 
--- what holds of what is asked for now held of it at first
-pub of_first : (search first : FallingValue) → search.solve ≡ first.solve → search.parts ≡ first.parts → search.steps ≡ first.steps
-    → (P : SolveMeaning → TaskParts → ℕ → Type 0) → P search.solve search.parts search.steps → P first.solve first.parts first.steps
-of_first search first solve_is task_is steps_is P h =
-    subst (λ (s : SolveMeaning). P s first.parts first.steps) solve_is
-    (subst (λ (t : TaskParts). P search.solve t first.steps) task_is
-    (subst (λ (k : ℕ). P search.solve search.parts k) steps_is h))
+-- what holds of what is asked for now, and of the choice of an estimate, held of both at first
+pub of_first : (search first : FallingValue) → search.solve ≡ first.solve → search.graph.choice ≡ first.graph.choice → search.parts ≡ first.parts → search.steps ≡ first.steps
+    → (P : SolveMeaning → Choice → TaskParts → ℕ → Type 0) → P search.solve search.graph.choice search.parts search.steps → P first.solve first.graph.choice first.parts first.steps
+of_first search first solve_is choice_is task_is steps_is P h =
+    subst (λ (s : SolveMeaning). P s first.graph.choice first.parts first.steps) solve_is
+    (subst (λ (c : Choice). P search.solve c first.parts first.steps) choice_is
+    (subst (λ (t : TaskParts). P search.solve search.graph.choice t first.steps) task_is
+    (subst (λ (k : ℕ). P search.solve search.graph.choice search.parts k) steps_is h)))
 
 -- a run that isn't the last one is nearer to it
 pub comes_nearer : (steps run next_steps next_run : ℕ) → run ≤ steps → (run ≡ steps → ⊥) → next_steps ≡ steps → next_run ≡ run + 1 → next_steps - next_run < steps - run

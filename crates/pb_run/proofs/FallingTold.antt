@@ -15,7 +15,7 @@ use Rattle.pb_abstract.specs.Graph.{AbstractGraph, IsGraphOf}
 use Rattle.pb_falling.specs.Falling.{Claim, AreClaims, HaveWeights, CostsFall}
 use Rattle.pb_command.specs.Meaning.{SolveMeaning}
 use Rattle.pb_answer.specs.Outputs.{Output, output}
-use Rattle.pb_answer.specs.Searches.{weight_asked, IsChoiceAsked}
+use Rattle.pb_answer.specs.Searches.{weight_asked}
 use Rattle.pb_answer.specs.Claims.{IsCertificate}
 use Rattle.pb_answer.specs.Parts.{AnswerPart, outputs_of, report_of}
 use Rattle.pb_answer.specs.Falling.{numbered, first_setup, AreOfQuietRuns, AreFalling, MayBeImproved, SaysClaim, SayClaims}
@@ -235,12 +235,12 @@ module _ (solve : SolveMeaning) (task : TaskParts) (abstraction : AbstractGraph)
         (λ run claim weight plan bound h. bound.1) runs claims are bounded falling.hold;
   }
 
-  module _ (graph_of : IsGraphOf task abstraction) (finest : IsFinest task solve.settings.wish abstraction.projection) (asked : IsChoiceAsked solve task choice) where
-    abbrev pub searched : (runs : List Claim) (claims : List PrintedClaim) → AreFalling solve task abstraction choice steps runs → AreOfRuns runs claims → AreSearched solve task steps claims
-    searched runs claims falling are = record { abstraction = abstraction; graph_of = graph_of; finest = finest; choice = choice; asked = asked; runs = runs; falling = falling; are_of = are }
+  module _ (graph_of : IsGraphOf task abstraction) (finest : IsFinest task solve.settings.wish abstraction.projection) where
+    abbrev pub searched : (runs : List Claim) (claims : List PrintedClaim) → AreFalling solve task abstraction choice steps runs → AreOfRuns runs claims → AreSearched solve choice task steps claims
+    searched runs claims falling are = record { abstraction = abstraction; graph_of = graph_of; finest = finest; runs = runs; falling = falling; are_of = are }
 
     abbrev pub have_claimed : (runs : List Claim) (parts : List AnswerPart) (say : SayClaims solve task abstraction choice steps 0 runs parts) → AreFalling solve task abstraction choice steps runs → AllByRecursion MayBeImproved runs
-        → HaveClaimed solve task steps (told 0 runs parts say).claims (report_of parts) (outputs_of parts)
+        → HaveClaimed solve choice task steps (told 0 runs parts say).claims (report_of parts) (outputs_of parts)
     have_claimed runs parts say falling improvable =
         let t = told 0 runs parts say in
         record {
@@ -254,7 +254,7 @@ module _ (solve : SolveMeaning) (task : TaskParts) (abstraction : AbstractGraph)
     -- and one more claim after them
     pub one_more : (first : List Claim) (claim : Claim) (rest : List Claim) (before : List AnswerPart) (part : AnswerPart) (say : SayClaims solve task abstraction choice steps 0 first before)
         → SaysClaim solve task abstraction choice steps (0 + length first) claim part → AreFalling solve task abstraction choice steps (first ++ claim ∷ rest)
-        → IsOneMoreClaim solve task choice steps (told 0 first before say).claims part
+        → IsOneMoreClaim solve choice task steps (told 0 first before say).claims part
     one_more first claim rest before part say says falling =
         let t = told 0 first before say in
         let counted = of_runs_count first t.claims t.are_of in
@@ -266,7 +266,6 @@ module _ (solve : SolveMeaning) (task : TaskParts) (abstraction : AbstractGraph)
           one,
           are_claims (first ++ claim ∷ []) (t.claims ++ one ∷ []) all are (all_joined IsBounded t.claims (one ∷ []) t.bounded ((says.bounded, says.fits), tt)),
           searched (first ++ claim ∷ []) (t.claims ++ one ∷ []) all are,
-          refl,
           says.report,
           subst (λ (n : ℕ). SavesOne solve.certificate n task choice claim.weight (Some claim.plan) part.outputs) number
               (saves_one solve.certificate (0 + length first) task choice claim.weight _ _ (Some claim.plan) part.outputs says.outputs),

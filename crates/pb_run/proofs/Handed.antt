@@ -136,8 +136,8 @@ first_parts_named reading texts parts first = go reading first
     go (Refused fault) is = none (Refused fault) is
     go (Read (Solve solve)) is = none (Read (Solve solve)) is
     go (Read (Falling falling)) (inl is) = none (Read (Falling falling)) is
-    go (Read (Falling falling)) (inr (task, task_is, claims)) =
-        first_runs_named falling.solve falling.steps (outputs_of parts) (names_of_first falling.solve task falling.steps parts claims)
+    go (Read (Falling falling)) (inr (read, is, (choice, asked, claims))) =
+        first_runs_named falling.solve falling.steps (outputs_of parts) (names_of_first falling.solve choice read.0 falling.steps parts claims)
     go (Read (Check check)) is = none (Read (Check check)) is
     go (Read (Journal journal)) is = none (Read (Journal journal)) is
     go (Read (Make make)) is = none (Read (Make make)) is

@@ -1,8 +1,7 @@
 -- How long the first lines of a certificate are, up to its estimate, whatever the words ask for.
-use Rattle.std.proofs.Common.{◌≡◌, ◌≢◌, ◌⊎◌, inl, inr, ℕ, ◌^◌, ◌≤◌, ◌==◌, Bool, true, false, cond, Option, None, Some, length, refl, sym, subst, arith}
+use Rattle.std.proofs.Common.{◌≡◌, ◌≢◌, ◌⊎◌, inl, inr, ℕ, ◌+◌, ◌^◌, ◌≤◌, ◌==◌, Bool, true, false, cond, Option, None, Some, List, length, Ok, refl, sym, ap, subst, arith}
 use Rattle.pb_model.specs.Texts.{lines}
 use Rattle.pb_task.specs.declared.kind.Kind.TheVariants as kind
-use Rattle.pb_task.specs.declared.grounding.Grounding.{Grounding}
 use Rattle.pb_task.specs.declared.parts.TaskParts.{TaskParts}
 use Rattle.pb_task.specs.declared.parts.TaskParts.TheVariants.{Grid, Tiles, Strips}
 use Rattle.pb_task.specs.Groundings.{grounding_of}
@@ -11,9 +10,12 @@ use Rattle.pb_task.specs.Parts.{IsTask}
 use Rattle.pb_task.specs.Widths.{width_of}
 use Rattle.pb_task.proofs.Callers.{states_fit_their_width}
 use Rattle.pb_tables.specs.Tables.{TablesValue, AreTables}
+use Rattle.pb_table_lines.specs.Lines.{tables_text}
+use Rattle.pb_table_lines.specs.Reading.{tables_reading}
+use Rattle.pb_table_lines.specs.Laws.{TablesAreReadAsWritten}
 use Rattle.pb_finder.specs.Sizes.{ListFewImages}
 use Rattle.pb_estimate.specs.Choices.{Choice, Plain, Pattern, Tables, choice_with}
-use Rattle.pb_estimate.specs.Spelling.{spelling_of, version_of, head_of}
+use Rattle.pb_estimate.specs.Spelling.{spelling_of, head_of}
 use Rattle.pb_command.specs.Meaning.{SolveMeaning, IsSolveInRange}
 use Rattle.pb_answer.specs.Searches.{IsChoiceFor}
 use Rattle.pb_run.specs.Rooms.{HeadsAreShort}
@@ -57,23 +59,31 @@ of_other_kind (Some effort) pattern (Strips strips) other choice asked = absurd 
 
 -- ---- with tables
 
--- the version is 4, whatever the grounding
+-- The version is 4, whatever the grounding. The lines of the tables have so many bytes.
+head_by_tables : (parts : TaskParts) → IsTask parts → (tables : TablesValue) (bytes : ℕ)
+    → length (tables_text (width_of parts) tables) ≤ bytes
+    → IsHeadWithin parts (Tables tables) (77 + bytes)
+head_by_tables parts lawful tables bytes short =
+    let width = (states_fit_their_width parts lawful).1 in
+    head_with_tables_long (kind_of parts) (grounding_of parts) (width_of parts) tables bytes
+    (omega (arith, width)) short
+
 head_of_tables : (parts : TaskParts) → IsTask parts → (tables : TablesValue) → AreTables tables
     → ListFewImages tables → IsHeadWithin parts (Tables tables) (2 ^ 40)
-head_of_tables parts lawful tables are few = go (grounding_of parts)
-  where
-    go : (grounding : Grounding) → length (lines (head_of (record {
-      kind = kind_of parts;
-      version = version_of grounding (Tables tables);
-      width = width_of parts;
-      stated = record { grounding = grounding; choice = Tables tables };
-    }))) ≤ 2 ^ 40
-    go grounding =
-        let width = (states_fit_their_width parts lawful).1 in
-        let short = tables_text_is_short (width_of parts) tables width are few in
-        let all = head_with_tables_long (kind_of parts) grounding (width_of parts) tables (2 ^ 39)
-        (omega (arith, width)) short in
-        omega (arith, all)
+head_of_tables parts lawful tables are few =
+    let width = (states_fit_their_width parts lawful).1 in
+    let all = head_by_tables parts lawful tables (2 ^ 39)
+    (tables_text_is_short (width_of parts) tables width are few) in
+    omega (arith, all)
+
+-- tables of a file are stated by the text of the file
+head_of_file : TablesAreReadAsWritten → (parts : TaskParts) → IsTask parts
+    → (tables : TablesValue) (text : List ℕ) → tables_reading (width_of parts) text ≡ Ok tables
+    → IsHeadWithin parts (Tables tables) (114 + length text)
+head_of_file law parts lawful tables text reads =
+    let same = ap length ((law.alone (width_of parts) text tables).0 reads).0 in
+    let all = head_by_tables parts lawful tables (length text) (omega (arith, same)) in
+    omega (arith, all)
 
 -- ---- all of it
 
@@ -108,8 +118,8 @@ heads_by solve parts range lawful choice effort asked = go effort parts lawful a
     go (Some effort) (Strips strips) is (inr (tables, same, are, suits, few)) =
         found (Strips strips) is (inr (tables, same, are, few))
 
-pub heads_are_short : HeadsAreShort
-heads_are_short = record {
+pub heads_are_short : TablesAreReadAsWritten → HeadsAreShort
+heads_are_short law = record {
   without = λ solve parts none range lawful choice asked.
       head_by_pattern solve parts range lawful choice
       (subst (λ (effort : Option ℕ). IsChoiceFor effort solve.settings.pattern parts choice) none asked);
@@ -118,4 +128,7 @@ heads_are_short = record {
       (of_other_kind solve.effort solve.settings.pattern parts other choice asked);
   all = λ solve parts range lawful choice asked.
       heads_by solve parts range lawful choice solve.effort asked;
+  of_file = λ solve parts tables text reads lawful choice same.
+      subst (λ (c : Choice). IsHeadWithin parts c (114 + length text)) (sym same)
+      (head_of_file law parts lawful tables text reads);
 }

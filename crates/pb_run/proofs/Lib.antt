@@ -31,6 +31,7 @@ mod FallingAccepted
 mod FallingReports
 mod FallingReadings
 mod Stating
+mod StatingTables
 mod InMemory
 mod Lengths
 mod TableLengths

@@ -1,8 +1,10 @@
 -- The parts of an answer: one, or those of a search with falling weights.
-use Rattle.std.proofs.Common.{◌≡◌, inl, inr, ℕ, true, true≢false, List, [], ◌∷◌, Result, Ok, Err, refl, sym, ap, ◌∙◌, append-nil}
+use Rattle.std.proofs.Common.{◌≡◌, inl, inr, ℕ, true, true≢false, Option, List, [], ◌∷◌, Result, Ok, Err, refl, sym, ap, ◌∙◌, append-nil}
 use Rattle.pb_task.specs.declared.parts.TaskParts.{TaskParts}
 use Rattle.pb_command.specs.Meaning.{Reading, Refused, Read, Solve, Falling, Check, Journal, Make, FallingMeaning}
+use Rattle.pb_tables.specs.Tables.{TablesValue}
 use Rattle.pb_answer.specs.Loaded.{solve_task}
+use Rattle.pb_answer.specs.Searches.{ByAskedChoice}
 use Rattle.pb_answer.specs.Answer.{Said}
 use Rattle.pb_answer.specs.Parts.{AnswerPart, outputs_of, report_of, AreAnswerParts}
 use Rattle.pb_answer.specs.Falling.{IsFallingFound}
@@ -55,19 +57,23 @@ one_report : (said : Said) (parts : List AnswerPart) → AreAnswerParts said par
 one_report said parts is = sym (ap report_of is ∙ append-nil said.report)
 
 module _ (falling : FallingMeaning) (texts : List (List ℕ)) (said : Said) (parts : List AnswerPart) where
-  abbrev OfTask : Result TaskParts (List ℕ) → Type 0
-  OfTask task = OfTaskOr task (AreAnswerParts said parts) (λ (t : TaskParts). IsFallingFound falling.solve t falling.steps said parts)
+  abbrev Given : Type 0
+  Given = Result (TaskParts × Option TablesValue) (List ℕ)
 
-  task_outputs : (task : Result TaskParts (List ℕ)) → OfTask task → said.outputs ≡ outputs_of parts
-  task_outputs (Ok task) are = are.outputs
+  abbrev OfTask : Given → Type 0
+  OfTask task = OfTaskOr task (AreAnswerParts said parts) (λ (read : TaskParts × Option TablesValue). ByAskedChoice falling.solve read
+      (λ choice t. IsFallingFound falling.solve choice t falling.steps said parts))
+
+  task_outputs : (task : Given) → OfTask task → said.outputs ≡ outputs_of parts
+  task_outputs (Ok read) (choice, asked, are) = are.outputs
   task_outputs (Err report) are = one_outputs said parts are
 
   falling_outputs : AreAllParts (Read (Falling falling)) texts said parts → said.outputs ≡ outputs_of parts
   falling_outputs (inl (stop, are)) = one_outputs said parts are
   falling_outputs (inr are) = task_outputs (solve_task falling.solve texts) are
 
-  task_report : (task : Result TaskParts (List ℕ)) → OfTask task → said.report ≡ report_of parts
-  task_report (Ok task) are = are.report
+  task_report : (task : Given) → OfTask task → said.report ≡ report_of parts
+  task_report (Ok read) (choice, asked, are) = are.report
   task_report (Err report) are = one_report said parts are
 
   falling_report : AreAllParts (Read (Falling falling)) texts said parts → said.report ≡ report_of parts

@@ -21,6 +21,7 @@ use Rattle.pb_machine.specs.Settings.{AreInRange}
 use Rattle.pb_task.specs.declared.parts.TaskParts.{TaskParts}
 use Rattle.pb_task.specs.Parts.{space_of, IsTask, action_name, greatest_cost}
 use Rattle.pb_task.proofs.Callers.{tasks_are_proper}
+use Rattle.pb_tables.specs.Tables.{TablesValue}
 use Rattle.pb_estimate.specs.Choices.{Choice}
 use Rattle.pb_estimate.specs.Spelling.{spelling_of, head_of}
 use Rattle.pb_cert.specs.Found.{certificate_of, IsCertificateOf}
@@ -32,7 +33,7 @@ use Rattle.pb_answer.specs.Outputs.{Output}
 use Rattle.pb_answer.specs.Searches.{weight_asked, IsChoiceAsked}
 use Rattle.pb_answer.specs.Engines.{engine_asked, Left, FindsIn}
 use Rattle.pb_answer.specs.Claims.{IsCertificate, journal_outputs_if_any}
-use Rattle.pb_answer.specs.Answer.{Said, IsFound, OrRefused}
+use Rattle.pb_answer.specs.Answer.{Said, IsFound, IsFoundOf, OrRefused}
 use Rattle.pb_run.specs.Calls.{CanHold}
 use Rattle.pb_run.specs.Answers.{AnswersReading}
 use Rattle.pb_run.specs.InMemory.{HasRoomFor}
@@ -155,10 +156,11 @@ module _ (parts : TaskParts) (settings : Settings) (lawful : IsTask parts)
 -- ---- what is served
 
 module _ (lengths : JournalTextsAreShort) (solve : SolveMeaning) (shelf : ShelfView)
-    (sink : SinkView) (texts : List (List ℕ)) (parts : TaskParts) (longest head : ℕ)
+    (sink : SinkView) (texts : List (List ℕ)) (parts : TaskParts) (given : Option TablesValue)
+    (longest head : ℕ)
     (has : HasTextsAndLine (Read (Solve solve)) shelf sink texts) (lawful : IsTask parts)
     (range : IsSolveInRange solve) (names : NamesAreWithin parts longest)
-    (room : HasSearchRoom solve parts longest head shelf sink) where
+    (room : HasSearchRoom solve given parts longest head shelf sink) where
   abbrev Most : ℕ
   Most = most_rows parts solve.settings
 
@@ -185,7 +187,7 @@ module _ (lengths : JournalTextsAreShort) (solve : SolveMeaning) (shelf : ShelfV
       go (Some name) has_room (Some events) short =
           (room_for_less (room_of shelf name) _ (most_of_journal parts solve.settings) short has_room, tt)
 
-  certificate_fits : (choice : Choice) → IsChoiceAsked solve parts choice → (left : Left)
+  certificate_fits : (choice : Choice) → IsChoiceAsked solve given parts choice → (left : Left)
       → AreWithin parts solve.settings left → (plan : Option Plan)
       → IsSmallPlanIfAny Most plan → (outputs : List Output)
       → IsCertificate solve.certificate parts choice (weight_asked solve) left.guide left.store plan
@@ -195,7 +197,7 @@ module _ (lengths : JournalTextsAreShort) (solve : SolveMeaning) (shelf : ShelfV
       go solve.certificate room.certificate is
     where
       go : (name : Option (List ℕ))
-          → IfSome name (λ n. HeadsAreWithin solve parts head
+          → IfSome name (λ n. HeadsAreWithin solve given parts head
           × HasRoomFor shelf n (most_of_certificate parts solve.settings head))
           → IsCertificate name parts choice (weight_asked solve) left.guide left.store plan outputs
           → CanHold (HasRoomFor shelf) outputs
@@ -232,9 +234,10 @@ module _ (lengths : JournalTextsAreShort) (solve : SolveMeaning) (shelf : ShelfV
       let report = room.report in
       (has.none_fails_to_put, omega (arith, long, more, report))
 
-  found_fits : (said : Said) → IsFound solve parts said
+  found_fits : (choice : Choice) → IsChoiceAsked solve given parts choice → (said : Said)
+      → IsFound solve choice parts said
       → CanHold (HasRoom shelf) said.outputs × CanTake sink (length said.report)
-  found_fits said (inl (status, (plan, bound, says, a_plan, is_bound, none, (choice, asked, left, searched, found, outputs, certificate, saves), small), least, saved)) =
+  found_fits choice asked said (inl (status, (plan, bound, says, a_plan, is_bound, none, (left, searched, found, outputs, certificate, saves), small), least, saved)) =
       let within = quiet_is_within parts solve.settings range.settings lawful (engine_asked solve) choice left searched in
       fits said (outputs ++ journal_outputs_if_any solve.journal solve.settings left.journal)
       (plan_text parts plan bound) saves says
@@ -245,7 +248,7 @@ module _ (lengths : JournalTextsAreShort) (solve : SolveMeaning) (shelf : ShelfV
       (journal_fits left.journal
       (journal_is_short parts solve.settings range.settings lengths (engine_asked solve) choice Quiet left searched)))
       (plan_takes left within plan bound a_plan is_bound small found)
-  found_fits said (inr (inl (status, says, none, (choice, asked, left, searched, found, outputs, certificate, saves)))) =
+  found_fits choice asked said (inr (inl (status, says, none, (left, searched, found, outputs, certificate, saves)))) =
       let within = quiet_is_within parts solve.settings range.settings lawful (engine_asked solve) choice left searched in
       fits said (outputs ++ journal_outputs_if_any solve.journal solve.settings left.journal)
       none_report saves says
@@ -254,7 +257,7 @@ module _ (lengths : JournalTextsAreShort) (solve : SolveMeaning) (shelf : ShelfV
       (journal_fits left.journal
       (journal_is_short parts solve.settings range.settings lengths (engine_asked solve) choice Quiet left searched)))
       (takes (Read (Solve solve)) shelf sink texts has (length none_report) (omega arith))
-  found_fits said (inr (inr (status, says, (choice, asked, left, searched, saves)))) =
+  found_fits choice asked said (inr (inr (status, says, (left, searched, saves)))) =
       let budget = range.settings.budget.1 in
       fits said (journal_outputs_if_any solve.journal solve.settings left.journal)
       (stopped_report solve.settings.budget) saves says
@@ -264,13 +267,15 @@ module _ (lengths : JournalTextsAreShort) (solve : SolveMeaning) (shelf : ShelfV
       (stopped_long solve.settings.budget (omega (arith, budget))))
 
 pub solves_are_served : JournalTextsAreShort → SolvesAreServed
-solves_are_served lengths solve shelf sink texts parts longest head has task lawful range names room =
+solves_are_served lengths solve shelf sink texts parts given longest head has task lawful range names room =
     serves (Read (Solve solve)) shelf sink texts has refl
     (λ said answers. go said answers)
   where
     go : (said : Said) → AnswersReading (Read (Solve solve)) texts said
         → CanHold (HasRoom shelf) said.outputs × CanTake sink (length said.report)
     go said (inl answer) =
-        found_fits lengths solve shelf sink texts parts longest head has lawful range names room said
-        (subst (λ (t : Result TaskParts (List ℕ)). OrRefused t (IsFound solve) said) task answer)
+        let found : IsFoundOf solve (parts, given) said =
+        subst (λ (t : Result (TaskParts × Option TablesValue) (List ℕ)). OrRefused t (IsFoundOf solve) said) task answer in
+        found_fits lengths solve shelf sink texts parts given longest head has lawful range names room
+        found.0 found.1 said found.2
     go said (inr stop) = stop_fits (Read (Solve solve)) shelf sink texts has said stop

@@ -1,6 +1,7 @@
 -- What a saved certificate states of the estimate of its search.
 use Rattle.std.proofs.Common.{◌≡◌, ◌⊎◌, inl, inr, ℕ, ◌==◌, Bool, true, false, Option, None, Some, List, [], ◌∷◌, ◌++◌, Ok, if◌then◌else◌, codes, refl, sym, ap, subst, ◌∙◌, append_assoc}
 use Rattle.std.specs.Fmt.{decimal}
+use Rattle.std.proofs.lemmas.Option.{none-some}
 use Rattle.pb_model.specs.Plan.{Plan}
 use Rattle.pb_model.specs.Texts.{line, lines, spaced, weight_text, plan_text, rows_text}
 use Rattle.pb_task.specs.Kinds.{kind_of, kind_name}
@@ -9,19 +10,20 @@ use Rattle.pb_task.specs.declared.grounding.Grounding.TheVariants.{All, Reachabl
 use Rattle.pb_task.specs.Groundings.{grounding_of, grounding_name}
 use Rattle.pb_task.specs.Widths.{width_of}
 use Rattle.pb_task.specs.declared.parts.TaskParts.{TaskParts}
+use Rattle.pb_tables.specs.Tables.{TablesValue}
 use Rattle.pb_estimate.specs.Choices.{Choice, Plain, Pattern, choice_with}
 use Rattle.pb_estimate.specs.declared.spelling.Spelling.{Spelling}
 use Rattle.pb_estimate.specs.Spelling.{head_of, spelling_of, version_of}
 use Rattle.pb_command.specs.Meaning.{Reading, Read, Solve, SolveMeaning}
-use Rattle.pb_command.specs.declared.table.ValuedOption.TheVariants.{Estimate, Effort}
+use Rattle.pb_command.specs.declared.table.ValuedOption.TheVariants.{Estimate, Effort, Tables as TablesOption}
 use Rattle.pb_command.specs.Values.{effort_of}
 use Rattle.pb_command.specs.Options.{Argument, value_given, number_given, effort_given, solve_given, HaveOneEstimate, SolveReadsOptions, kind_word}
 use Rattle.pb_answer.specs.Outputs.{Output, output}
-use Rattle.pb_answer.specs.Loaded.{solve_task, grounding_asked}
+use Rattle.pb_answer.specs.Loaded.{input_task, grounding_asked, OfTexts}
 use Rattle.pb_answer.specs.Searches.{settings_of, weight_asked, IsChoiceFor, IsChoiceAsked}
 use Rattle.pb_answer.specs.Claims.{IsCertificate, journal_outputs_if_any, Certifies}
 use Rattle.pb_answer.specs.Answer.{Saves}
-use Rattle.pb_answer.proofs.Callers.{input_kind, input_grounding}
+use Rattle.pb_answer.proofs.Callers.{no_file, task_read, none_given, input_kind, input_grounding}
 use Rattle.pb_run.specs.Outcome.{Outcome, IfSolve}
 use Rattle.pb_run.specs.Headline.{CertificateHolds}
 use Rattle.pb_run.specs.Commands.{SolveHolds}
@@ -83,50 +85,51 @@ module _ (solve : SolveMeaning) (ran : Outcome) (name text : List ℕ)
     (named : solve.certificate ≡ Some name) (saved : IsSavedFirst ran.said name text) where
   -- the text begins with the lines of an estimate that the words ask for
   abbrev pub StatesAsked : Type 0
-  StatesAsked = (task : TaskParts) × (solve_task solve ran.texts ≡ Ok task)
-      × (choice : Choice) × IsChoiceAsked solve task choice
-      × BeginsWithLines (head_of (spelling_of task choice)) text
+  StatesAsked = OfTexts solve ran.texts
+      (λ choice task. BeginsWithLines (head_of (spelling_of task choice)) text)
 
   -- the text is that of the certificate, under its first lines
-  begins : (task : TaskParts) (plan : Option Plan) → solve_task solve ran.texts ≡ Ok task
-      → Certifies (Saves ran.said) solve task plan → StatesAsked
-  begins task plan is (choice, asked, left, searched, found, outputs, certificate, saves) =
+  begins : (task : TaskParts) (choice : Choice) (plan : Option Plan)
+      → Certifies (Saves ran.said) solve choice task plan
+      → BeginsWithLines (head_of (spelling_of task choice)) text
+  begins task choice plan (left, searched, found, outputs, certificate, saves) =
       let mine = subst (λ (n : Option (List ℕ)). IsCertificate n task choice
       (weight_asked solve) left.guide left.store plan outputs) named certificate in
       let journals = journal_outputs_if_any solve.journal (settings_of solve) left.journal in
       let all : output name text ∷ saved.0 ≡ (output name mine.0 ∷ []) ++ journals =
       sym saved.1 ∙ saves ∙ ap (λ (os : List Output). os ++ journals) mine.2 in (
-        task,
-        is,
-        choice,
-        asked,
-        (
-          _,
-          ap first_text all ∙ mine.1.text_is
-              ∙ regroup (lines (head_of (spelling_of task choice)))
-              (weight_text (weight_asked solve)) (plan_text plan) (rows_text (width_of task) mine.1.lines)
-              (line (codes "end")),
-        ),
+        _,
+        ap first_text all ∙ mine.1.text_is
+            ∙ regroup (lines (head_of (spelling_of task choice)))
+            (weight_text (weight_asked solve)) (plan_text plan) (rows_text (width_of task) mine.1.lines)
+            (line (codes "end")),
       )
 
   pub states_asked : (ran.said.status ≡ 0) ⊎ (ran.said.status ≡ 1)
       → ran.asked ≡ Read (Solve solve) → SolveHolds solve ran → CertificateHolds ran → StatesAsked
   states_asked (inl zero) is all certified =
-      let found = all.one_plan zero in begins found.0 (Some found.2.0) found.1 found.2.6
+      let found = all.one_plan zero in
+      (found.0, found.1, (found.2.0, found.2.1, begins found.0.0 found.2.0 (Some found.2.2.0) found.2.2.6))
   states_asked (inr one) is all certified =
-      let found = none_of solve ran is certified one in begins found.0 None found.1 found.2
+      let found = none_of solve ran is certified one in
+      (found.0, found.1, (found.2.0, found.2.1, begins found.0.0 found.2.0 None found.2.2))
 
   abbrev pub StatesPattern : Type 0
-  StatesPattern = (task : TaskParts) × (solve_task solve ran.texts ≡ Ok task)
+  StatesPattern = (task : TaskParts)
+      × (input_task solve.input solve.options 0 ran.texts ≡ Ok task)
       × BeginsWithLines (first_lines (kind_word solve.input) (width_of task)
       (grounding_asked solve.input solve.options) solve.settings.pattern) text
 
   -- without tables that estimate is the one by the pattern's number
-  pub states_pattern : solve.effort ≡ None → StatesAsked → StatesPattern
-  states_pattern none (task, is, choice, asked, first) =
+  pub states_pattern : solve.effort ≡ None → solve.tables ≡ None → StatesAsked → StatesPattern
+  states_pattern none without (read, reads, (choice, asked, first)) =
+      let task = read.0 in
       let pattern = solve.settings.pattern in
+      let is = task_read solve ran.texts read reads in
+      let given : read.1 ≡ None = none_given solve ran.texts read reads (no_file solve.input solve.tables without) in
       let same : choice ≡ choice_with pattern =
-      subst (λ (e : Option ℕ). IsChoiceFor e pattern task choice) none asked in
+      subst (λ (e : Option ℕ). IsChoiceFor e pattern task choice) none
+      (subst (λ (g : Option TablesValue). IsChoiceAsked solve g task choice) given asked) in
       let kinds = input_kind task solve.input solve.options 0 ran.texts is in
       let groundings = input_grounding task solve.input solve.options 0 ran.texts is in (
         task,
@@ -145,19 +148,20 @@ certificates_state_their_choice reads input name text arguments solved are one_r
     states_asked (solve_given input arguments) solved name text named saved answered asked
     (subst (λ (r : Reading). IfSolve r (λ s. SolveHolds s solved)) asked kept.solve) kept.certified
 
--- without `--estimate` there is no effort, and a pattern database may be asked for
+-- without `--estimate` and `--tables` there is no effort, and a pattern database may be asked for
 without_tables : (arguments : List Argument) → value_given Estimate arguments ≡ None
+    → value_given TablesOption arguments ≡ None
     → (effort_given arguments ≡ None) × HaveOneEstimate arguments
-without_tables arguments none = (
+without_tables arguments none without = (
   ap (λ (word : Option (List ℕ)). effort_of word (number_given Effort arguments)) none,
-  λ some. absurd (never (sym none ∙ some)),
+  (
+    λ some. absurd (none-some (codes "tables") (sym none ∙ some)),
+    λ file some. absurd (none-some file (sym without ∙ some)),
+  ),
 )
-  where
-    never : ◌≡◌ {A = Option (List ℕ)} None (Some (codes "tables")) → ⊥
-    never e = cc
 
 pub certificates_state_their_pattern : CertificatesStateTheirChoice → CertificatesStateTheirPattern
-certificates_state_their_pattern law input name text arguments solved are one_run weight names journal none named kept answered saved =
-    let plain = without_tables arguments none in
-    states_pattern (solve_given input arguments) solved name text named saved plain.0
+certificates_state_their_pattern law input name text arguments solved are one_run weight names journal none without named kept answered saved =
+    let plain = without_tables arguments none without in
+    states_pattern (solve_given input arguments) solved name text named saved plain.0 without
     (law input name text arguments solved are one_run weight names journal plain.1 named kept answered saved)

@@ -11,8 +11,8 @@ IsStop said = (said.status ≡ 2) × Says said stopped_grounding_report × Saves
 
 pub stop_says : (reading : Reading) (texts : List (List ℕ)) (said : Said) → StopsTexts reading texts said → IsStop said
 stop_says (Refused fault) texts said stop = absurd stop
-stop_says (Read (Solve solve)) texts said stop = (stop.status, stop.report, stop.outputs)
-stop_says (Read (Falling falling)) texts said stop = (stop.status, stop.report, stop.outputs)
+stop_says (Read (Solve solve)) texts said (there, stop) = (stop.status, stop.report, stop.outputs)
+stop_says (Read (Falling falling)) texts said (there, stop) = (stop.status, stop.report, stop.outputs)
 stop_says (Read (Check check)) texts said (text, there, stop) = (stop.status, stop.report, stop.outputs)
 stop_says (Read (Journal journal)) texts said (text, there, stop) = (stop.status, stop.report, stop.outputs)
 stop_says (Read (Make make)) texts said stop = absurd stop

@@ -18,14 +18,15 @@ use Rattle.pb_machine.specs.declared.event.Event.{Event}
 use Rattle.pb_machine.specs.declared.settings.Settings.{Settings}
 use Rattle.pb_model.specs.Guide.{Guide}
 use Rattle.pb_model.specs.Store.{Store}
+use Rattle.pb_tables.specs.Tables.{TablesValue}
 use Rattle.pb_estimate.specs.Choices.{Choice}
 use Rattle.pb_model.specs.Weight.{Weight}
-use Rattle.pb_answer.specs.Searches.{settings_of, weight_asked}
+use Rattle.pb_answer.specs.Searches.{settings_of, weight_asked, ByAskedChoice}
 use Rattle.pb_answer.specs.Claims.{IsCertificate, journal_outputs, journal_outputs_if_any, Certifies, Stops, Solves, PrintsPlan, PrintsLeastCost, SavesPlan, text_outputs, rewritten_outputs, Accepts, Rejects}
 use Rattle.pb_answer.specs.Journals.{AcceptsJournal, RejectsJournal}
 use Rattle.pb_answer.specs.Parts.{AnswerPart, outputs_of}
 use Rattle.pb_answer.specs.Falling.{IsFallingFound}
-use Rattle.pb_answer.specs.Answer.{Said, Says, Saves, IsSolved, IsUnsolvable, IsStopped, IsFound, IsChecked, IsRefused, OrRefused}
+use Rattle.pb_answer.specs.Answer.{Said, Says, Saves, IsSolved, IsUnsolvable, IsStopped, IsFoundOf, IsChecked, IsRefused, OrRefused}
 use Rattle.pb_run.specs.Makes.{MakesPlan, MakesNone, MakesStop}
 use Rattle.pb_run.specs.Answers.{IsMade, AnswersReading}
 use Rattle.pb_run.specs.Outcome.{Outcome, IsAnswer, IsBroken, AnswersOneOf}
@@ -36,7 +37,7 @@ use Rattle.pb_run.proofs.ByCommand.{of_refused, of_solve, of_check, of_journal, 
 use Rattle.pb_run.proofs.CallLists.{names_of, names_joined}
 use Rattle.pb_run.proofs.FallingNames.{first_runs_named}
 use Rattle.pb_run.proofs.Some.{all_are_some, some_behind, some_with}
-use Rattle.pb_answer.specs.Stops.{StopsTexts, StopsGrounding, StopsBehind}
+use Rattle.pb_answer.specs.Stops.{StopsTexts, StopsSolve, StopsBehind}
 use Rattle.pb_answer.proofs.Callers.{never_refused, names_of_found, found_status}
 use Rattle.pb_run.proofs.Stopping.{IsStop, stop_says}
 
@@ -86,48 +87,50 @@ module _ (texts : List (List ℕ)) (said : Said) where
 
   module _ (solve : SolveMeaning) (answers : AnswersReading (Read (Solve solve)) texts said) where
     abbrev IsHalted : Type 0
-    IsHalted = StopsGrounding solve.input solve.options 0 texts said
+    IsHalted = StopsSolve solve texts said
+
+    -- P holds of the task that the texts spell, and of a choice of an estimate that the words ask for
+    abbrev Of : (P : Choice → TaskParts → Said → Type 0) → Type 0
+    Of P = OfTexts solve texts (λ choice parts. P choice parts said)
 
     -- how the search ended, or that the texts are refused, or that grounding was stopped
-    by_end : (Q : Type 0) → ((parts : TaskParts) → solve_task solve texts ≡ Ok parts → IsSolved solve parts said → Q)
-        → ((parts : TaskParts) → solve_task solve texts ≡ Ok parts → IsUnsolvable solve parts said → Q)
-        → ((parts : TaskParts) → solve_task solve texts ≡ Ok parts → IsStopped solve parts said → Q)
+    by_end : (Q : Type 0) → (Of (IsSolved solve) → Q) → (Of (IsUnsolvable solve) → Q) → (Of (IsStopped solve) → Q)
         → (solve_task solve texts ≡ Err said.report → IsRefused said.report said → Q) → (IsHalted → Q) → Q
     by_end Q solved unsolvable stopped refused halted = go answers
       where
-        found : (parts : TaskParts) → solve_task solve texts ≡ Ok parts → IsFound solve parts said → Q
-        found parts is (inl h) = solved parts is h
-        found parts is (inr (inl h)) = unsolvable parts is h
-        found parts is (inr (inr h)) = stopped parts is h
+        found : (read : TaskParts × Option TablesValue) → solve_task solve texts ≡ Ok read → IsFoundOf solve read said → Q
+        found read is (choice, asked, inl h) = solved (read, is, (choice, asked, h))
+        found read is (choice, asked, inr (inl h)) = unsolvable (read, is, (choice, asked, h))
+        found read is (choice, asked, inr (inr h)) = stopped (read, is, (choice, asked, h))
 
         go : AnswersReading (Read (Solve solve)) texts said → Q
-        go (inl ends) = by_task (solve_task solve texts) (IsFound solve) ends Q found refused
+        go (inl ends) = by_task (solve_task solve texts) (IsFoundOf solve) ends Q found refused
         go (inr stop) = halted stop
 
     search_known : IsAnswer said.status
-    search_known = by_end (IsAnswer said.status) (λ parts is h. inl h.0) (λ parts is h. inr (inl h.0)) (λ parts is h. inr (inr (inl h.0))) (λ is h. inr (inr (inr (inr (inr h.0))))) (λ h. inr (inr (inl h.status)))
+    search_known = by_end (IsAnswer said.status) (λ h. inl h.2.2.0) (λ h. inr (inl h.2.2.0)) (λ h. inr (inr (inl h.2.2.0))) (λ is h. inr (inr (inr (inr (inr h.0))))) (λ h. inr (inr (inl h.1.status)))
 
-    of_zero : (P : TaskParts → Type 0) → ((parts : TaskParts) → IsSolved solve parts said → P parts) → said.status ≡ 0 → OfTexts solve texts P
-    of_zero P f zero = by_end (OfTexts solve texts P) (λ parts is h. (parts, is, f parts h))
-        (λ parts is h. absurd (omega (arith, zero, h.0))) (λ parts is h. absurd (omega (arith, zero, h.0))) (λ is h. absurd (omega (arith, zero, h.0)))
-        (λ h. absurd (omega (arith, zero, h.status)))
+    of_zero : (P : Choice → TaskParts → Type 0) → ((choice : Choice) (parts : TaskParts) → IsSolved solve choice parts said → P choice parts) → said.status ≡ 0 → OfTexts solve texts P
+    of_zero P f zero = by_end (OfTexts solve texts P) (λ h. (h.0, h.1, (h.2.0, h.2.1, f h.2.0 h.0.0 h.2.2)))
+        (λ h. absurd (omega (arith, zero, h.2.2.0))) (λ h. absurd (omega (arith, zero, h.2.2.0))) (λ is h. absurd (omega (arith, zero, h.0)))
+        (λ h. absurd (omega (arith, zero, h.1.status)))
 
-    of_one : (P : TaskParts → Type 0) → ((parts : TaskParts) → IsUnsolvable solve parts said → P parts) → said.status ≡ 1 → OfTexts solve texts P
-    of_one P f one = by_end (OfTexts solve texts P) (λ parts is h. absurd (omega (arith, one, h.0)))
-        (λ parts is h. (parts, is, f parts h)) (λ parts is h. absurd (omega (arith, one, h.0))) (λ is h. absurd (omega (arith, one, h.0)))
-        (λ h. absurd (omega (arith, one, h.status)))
+    of_one : (P : Choice → TaskParts → Type 0) → ((choice : Choice) (parts : TaskParts) → IsUnsolvable solve choice parts said → P choice parts) → said.status ≡ 1 → OfTexts solve texts P
+    of_one P f one = by_end (OfTexts solve texts P) (λ h. absurd (omega (arith, one, h.2.2.0)))
+        (λ h. (h.0, h.1, (h.2.0, h.2.1, f h.2.0 h.0.0 h.2.2))) (λ h. absurd (omega (arith, one, h.2.2.0))) (λ is h. absurd (omega (arith, one, h.0)))
+        (λ h. absurd (omega (arith, one, h.1.status)))
 
-    at_two : (Q : Type 0) → ((parts : TaskParts) → solve_task solve texts ≡ Ok parts → IsStopped solve parts said → Q) → (IsHalted → Q) → said.status ≡ 2 → Q
-    at_two Q stopped halted two = by_end Q (λ parts is h. absurd (omega (arith, two, h.0)))
-        (λ parts is h. absurd (omega (arith, two, h.0))) stopped (λ is h. absurd (omega (arith, two, h.0))) halted
+    at_two : (Q : Type 0) → (Of (IsStopped solve) → Q) → (IsHalted → Q) → said.status ≡ 2 → Q
+    at_two Q stopped halted two = by_end Q (λ h. absurd (omega (arith, two, h.2.2.0)))
+        (λ h. absurd (omega (arith, two, h.2.2.0))) stopped (λ is h. absurd (omega (arith, two, h.0))) halted
 
     search_statuses : AnswersOneOf (0 ∷ 1 ∷ 2 ∷ 65 ∷ []) (Done (Read (Solve solve)))
-    search_statuses = by_end (AnswersOneOf (0 ∷ 1 ∷ 2 ∷ 65 ∷ []) (Done (Read (Solve solve)))) (λ parts is h. inl (inl h.0)) (λ parts is h. inl (inr (inl h.0)))
-        (λ parts is h. inl (inr (inr (inl h.0)))) (λ is h. inl (inr (inr (inr (inl h.0))))) (λ h. inl (inr (inr (inl h.status))))
+    search_statuses = by_end (AnswersOneOf (0 ∷ 1 ∷ 2 ∷ 65 ∷ []) (Done (Read (Solve solve)))) (λ h. inl (inl h.2.2.0)) (λ h. inl (inr (inl h.2.2.0)))
+        (λ h. inl (inr (inr (inl h.2.2.0)))) (λ is h. inl (inr (inr (inr (inl h.0))))) (λ h. inl (inr (inr (inl h.1.status))))
 
     solve_refused : said.status ≡ 65 → solve_task solve texts ≡ Err said.report
-    solve_refused e = by_end (solve_task solve texts ≡ Err said.report) (λ parts is h. absurd (omega (arith, e, h.0)))
-        (λ parts is h. absurd (omega (arith, e, h.0))) (λ parts is h. absurd (omega (arith, e, h.0))) (λ is h. is) (λ h. absurd (omega (arith, e, h.status)))
+    solve_refused e = by_end (solve_task solve texts ≡ Err said.report) (λ h. absurd (omega (arith, e, h.2.2.0)))
+        (λ h. absurd (omega (arith, e, h.2.2.0))) (λ h. absurd (omega (arith, e, h.2.2.0))) (λ is h. is) (λ h. absurd (omega (arith, e, h.1.status)))
 
     -- ---- what is saved
 
@@ -145,8 +148,8 @@ module _ (texts : List (List ℕ)) (said : Said) where
     kept_names given settings None = tt
     kept_names given settings (Some journal) = subst (λ (ns : List (List ℕ)). AreSomeOf ns (listed given)) (sym (journal_names given settings journal)) (all_are_some (listed given))
 
-    certified_named : (parts : TaskParts) (plan : Option Plan) → Certifies (Saves said) solve parts plan → AreNamed (Read (Solve solve))
-    certified_named parts plan (choice, asked, left, searched, found, outputs, is_certificate, saves) =
+    certified_named : (choice : Choice) (parts : TaskParts) (plan : Option Plan) → Certifies (Saves said) solve choice parts plan → AreNamed (Read (Solve solve))
+    certified_named choice parts plan (left, searched, found, outputs, is_certificate, saves) =
         let journals = journal_outputs_if_any solve.journal (settings_of solve) left.journal in
         let names : names_of said.outputs ≡ listed solve.certificate ++ names_of journals =
         ap names_of saves ∙ names_joined outputs journals
@@ -154,63 +157,64 @@ module _ (texts : List (List ℕ)) (said : Said) where
         subst (λ (ns : List (List ℕ)). AreSomeOf ns (listed solve.certificate ++ listed solve.journal)) (sym names)
         (some_with (listed solve.certificate) (names_of journals) (listed solve.journal) (kept_names solve.journal (settings_of solve) left.journal))
 
-    stopped_named : (parts : TaskParts) → Stops (Saves said) solve parts → AreNamed (Read (Solve solve))
-    stopped_named parts (choice, asked, left, searched, saves) =
+    stopped_named : (choice : Choice) (parts : TaskParts) → Stops (Saves said) solve choice parts → AreNamed (Read (Solve solve))
+    stopped_named choice parts (left, searched, saves) =
         let journals = journal_outputs_if_any solve.journal (settings_of solve) left.journal in
         subst (λ (os : List Output). AreSomeOf (names_of os) (listed solve.certificate ++ listed solve.journal)) (sym saves)
         (some_behind (listed solve.certificate) (names_of journals) (listed solve.journal) (kept_names solve.journal (settings_of solve) left.journal))
 
     solve_named : AreNamed (Read (Solve solve))
-    solve_named = by_end (AreNamed (Read (Solve solve))) (λ parts is h. certified_named parts (Some h.1.0) h.1.6)
-        (λ parts is h. certified_named parts None h.3) (λ parts is h. stopped_named parts h.2) (λ is h. none_named (Read (Solve solve)) h.2)
-        (λ h. none_named (Read (Solve solve)) h.outputs)
+    solve_named = by_end (AreNamed (Read (Solve solve))) (λ h. certified_named h.2.0 h.0.0 (Some h.2.2.1.0) h.2.2.1.6)
+        (λ h. certified_named h.2.0 h.0.0 None h.2.2.3) (λ h. stopped_named h.2.0 h.0.0 h.2.2.2) (λ is h. none_named (Read (Solve solve)) h.2)
+        (λ h. none_named (Read (Solve solve)) h.1.outputs)
 
     solve_saves_none : (said.status ≡ 0 → ⊥) → (said.status ≡ 1 → ⊥) → (said.status ≡ 2 → ⊥) → said.outputs ≡ []
-    solve_saves_none not_zero not_one not_two = by_end (said.outputs ≡ []) (λ parts is h. absurd (not_zero h.0))
-        (λ parts is h. absurd (not_one h.0)) (λ parts is h. absurd (not_two h.0)) (λ is h. h.2) (λ h. h.outputs)
+    solve_saves_none not_zero not_one not_two = by_end (said.outputs ≡ []) (λ h. absurd (not_zero h.2.2.0))
+        (λ h. absurd (not_one h.2.2.0)) (λ h. absurd (not_two h.2.2.0)) (λ is h. h.2) (λ h. h.1.outputs)
 
     solve_answered : IsAnswered (Read (Solve solve)) texts said
-    solve_answered parts is = go answers
+    solve_answered read is = go answers
       where
-        ends : IsFound solve parts said → (said.status ≡ 0) ⊎ ((said.status ≡ 1) ⊎ ((said.status ≡ 2) ⊎ (said.status ≡ 71)))
-        ends (inl found) = inl found.0
-        ends (inr (inl none)) = inr (inl none.0)
-        ends (inr (inr stop)) = inr (inr (inl stop.0))
+        ends : IsFoundOf solve read said → (said.status ≡ 0) ⊎ ((said.status ≡ 1) ⊎ ((said.status ≡ 2) ⊎ (said.status ≡ 71)))
+        ends (choice, asked, inl found) = inl found.0
+        ends (choice, asked, inr (inl none)) = inr (inl none.0)
+        ends (choice, asked, inr (inr stop)) = inr (inr (inl stop.0))
 
         go : AnswersReading (Read (Solve solve)) texts said → (said.status ≡ 0) ⊎ ((said.status ≡ 1) ⊎ ((said.status ≡ 2) ⊎ (said.status ≡ 71)))
-        go (inl found) = ends (of_task (solve_task solve texts) (IsFound solve) found parts is)
-        go (inr stop) = inr (inr (inl stop.status))
+        go (inl found) = ends (of_task (solve_task solve texts) (IsFoundOf solve) found read is)
+        go (inr stop) = inr (inr (inl stop.1.status))
 
     solve_refuses : (report : List ℕ) → solve_task solve texts ≡ Err report → (said.status ≡ 65) ⊎ IsHalted
     solve_refuses report is = go answers
       where
         go : AnswersReading (Read (Solve solve)) texts said → (said.status ≡ 65) ⊎ IsHalted
-        go (inl ends) = inl (refuses (solve_task solve texts) (IsFound solve) ends report is)
+        go (inl ends) = inl (refuses (solve_task solve texts) (IsFoundOf solve) ends report is)
         go (inr stop) = inr stop
 
   -- ---- of a search with falling weights
 
   module _ (falling : FallingMeaning) (answers : AnswersReading (Read (Falling falling)) texts said) where
-    abbrev IsFallingOf : TaskParts → Said → Type 0
-    IsFallingOf task all = (parts : List AnswerPart) × IsFallingFound falling.solve task falling.steps all parts
+    abbrev IsFallingOf : (read : TaskParts × Option TablesValue) → Said → Type 0
+    IsFallingOf read all =
+        ByAskedChoice falling.solve read (λ choice task. (parts : List AnswerPart) × IsFallingFound falling.solve choice task falling.steps all parts)
 
     abbrev IsFallingHalted : Type 0
-    IsFallingHalted = StopsGrounding falling.solve.input falling.solve.options 0 texts said
+    IsFallingHalted = StopsSolve falling.solve texts said
 
     -- what was found, or that the texts are refused, or that grounding was stopped
-    by_falling : (Q : Type 0) → ((task : TaskParts) (parts : List AnswerPart) → IsFallingFound falling.solve task falling.steps said parts → Q)
+    by_falling : (Q : Type 0) → ((choice : Choice) (task : TaskParts) (parts : List AnswerPart) → IsFallingFound falling.solve choice task falling.steps said parts → Q)
         → (solve_task falling.solve texts ≡ Err said.report → IsRefused said.report said → Q) → (IsFallingHalted → Q) → Q
     by_falling Q found refused halted = go answers
       where
         go : AnswersReading (Read (Falling falling)) texts said → Q
-        go (inl ends) = by_task (solve_task falling.solve texts) IsFallingOf ends Q (λ task is h. found task h.0 h.1) refused
+        go (inl ends) = by_task (solve_task falling.solve texts) IsFallingOf ends Q (λ read is h. found h.0 read.0 h.2.0 h.2.1) refused
         go (inr stop) = halted stop
 
     abbrev IsSearched : Type 0
     IsSearched = (said.status ≡ 0) ⊎ ((said.status ≡ 1) ⊎ (said.status ≡ 2))
 
-    status_of : (task : TaskParts) (parts : List AnswerPart) → IsFallingFound falling.solve task falling.steps said parts → IsSearched
-    status_of task parts found = found_status falling.solve task falling.steps said parts found
+    status_of : (choice : Choice) (task : TaskParts) (parts : List AnswerPart) → IsFallingFound falling.solve choice task falling.steps said parts → IsSearched
+    status_of choice task parts found = found_status falling.solve choice task falling.steps said parts found
 
     searched_known : IsSearched → IsAnswer said.status
     searched_known (inl is) = inl is
@@ -218,8 +222,8 @@ module _ (texts : List (List ℕ)) (said : Said) where
     searched_known (inr (inr is)) = inr (inr (inl is))
 
     falling_known : IsAnswer said.status
-    falling_known = by_falling (IsAnswer said.status) (λ task parts found. searched_known (status_of task parts found)) (λ is h. inr (inr (inr (inr (inr h.0)))))
-        (λ h. inr (inr (inl h.status)))
+    falling_known = by_falling (IsAnswer said.status) (λ choice task parts found. searched_known (status_of choice task parts found)) (λ is h. inr (inr (inr (inr (inr h.0)))))
+        (λ h. inr (inr (inl h.1.status)))
 
     not_refused : IsSearched → said.status ≢ 65
     not_refused (inl is) e = omega (arith, is, e)
@@ -228,20 +232,20 @@ module _ (texts : List (List ℕ)) (said : Said) where
 
     falling_refused : said.status ≡ 65 → solve_task falling.solve texts ≡ Err said.report
     falling_refused e = by_falling (solve_task falling.solve texts ≡ Err said.report)
-        (λ task parts found. absurd (not_refused (status_of task parts found) e)) (λ is h. is) (λ h. absurd (omega (arith, e, h.status)))
+        (λ choice task parts found. absurd (not_refused (status_of choice task parts found) e)) (λ is h. is) (λ h. absurd (omega (arith, e, h.1.status)))
 
     falling_saves_none : said.status ≡ 65 → said.outputs ≡ []
-    falling_saves_none e = by_falling (said.outputs ≡ []) (λ task parts found. absurd (not_refused (status_of task parts found) e)) (λ is h. h.2)
-        (λ h. h.outputs)
+    falling_saves_none e = by_falling (said.outputs ≡ []) (λ choice task parts found. absurd (not_refused (status_of choice task parts found) e)) (λ is h. h.2)
+        (λ h. h.1.outputs)
 
     falling_named : AreNamed (Read (Falling falling))
     falling_named = by_falling (AreNamed (Read (Falling falling)))
-        (λ task parts found. subst (λ (os : List Output). AreSomeOf (names_of os) (saved_names (Read (Falling falling)))) (sym found.outputs)
-        (first_runs_named falling.solve falling.steps (outputs_of parts) (names_of_found falling.solve task falling.steps said parts found)))
-        (λ is h. none_named (Read (Falling falling)) h.2) (λ h. none_named (Read (Falling falling)) h.outputs)
+        (λ choice task parts found. subst (λ (os : List Output). AreSomeOf (names_of os) (saved_names (Read (Falling falling)))) (sym found.outputs)
+        (first_runs_named falling.solve falling.steps (outputs_of parts) (names_of_found falling.solve choice task falling.steps said parts found)))
+        (λ is h. none_named (Read (Falling falling)) h.2) (λ h. none_named (Read (Falling falling)) h.1.outputs)
 
     falling_answered : IsAnswered (Read (Falling falling)) texts said
-    falling_answered task is = go answers
+    falling_answered read is = go answers
       where
         ends : IsSearched → (said.status ≡ 0) ⊎ ((said.status ≡ 1) ⊎ ((said.status ≡ 2) ⊎ (said.status ≡ 71)))
         ends (inl h) = inl h
@@ -249,8 +253,8 @@ module _ (texts : List (List ℕ)) (said : Said) where
         ends (inr (inr h)) = inr (inr (inl h))
 
         go : AnswersReading (Read (Falling falling)) texts said → (said.status ≡ 0) ⊎ ((said.status ≡ 1) ⊎ ((said.status ≡ 2) ⊎ (said.status ≡ 71)))
-        go (inl answer) = let found = of_task (solve_task falling.solve texts) IsFallingOf answer task is in ends (status_of task found.0 found.1)
-        go (inr stop) = inr (inr (inl stop.status))
+        go (inl answer) = let found = of_task (solve_task falling.solve texts) IsFallingOf answer read is in ends (status_of found.0 read.0 found.2.0 found.2.1)
+        go (inr stop) = inr (inr (inl stop.1.status))
 
     falling_refuses : (report : List ℕ) → solve_task falling.solve texts ≡ Err report → (said.status ≡ 65) ⊎ IsFallingHalted
     falling_refuses report is = go answers
@@ -409,43 +413,45 @@ module _ (texts : List (List ℕ)) (said : Said) where
   pub plan : (reading : Reading) → Answered reading → PlanIsPlan (Done reading)
   plan = of_solve Answered _ at
     where
-      at : (solve : SolveMeaning) → Answered (Read (Solve solve)) → said.status ≡ 0 → OfTexts solve texts (λ parts. PrintsPlan (Says said) parts (weight_asked solve))
-      at solve answers = of_zero solve answers _ (λ parts is. (is.1.0, is.1.1, is.1.2, is.1.3, is.1.4))
+      at : (solve : SolveMeaning) → Answered (Read (Solve solve)) → said.status ≡ 0 → OfTexts solve texts (λ choice parts. PrintsPlan (Says said) parts (weight_asked solve))
+      at solve answers = of_zero solve answers (λ choice parts. PrintsPlan (Says said) parts (weight_asked solve)) (λ choice parts is. (is.1.0, is.1.1, is.1.2, is.1.3, is.1.4))
 
   pub cheapest : (reading : Reading) → Answered reading → NoneIsCheaper (Done reading)
   cheapest = of_solve Answered _ at
     where
-      at : (solve : SolveMeaning) → Answered (Read (Solve solve)) → said.status ≡ 0 → OfTexts solve texts (λ parts. PrintsLeastCost (Says said) parts (weight_asked solve))
-      at solve answers = of_zero solve answers _ (λ parts is. is.2)
+      at : (solve : SolveMeaning) → Answered (Read (Solve solve)) → said.status ≡ 0 → OfTexts solve texts (λ choice parts. PrintsLeastCost (Says said) parts (weight_asked solve))
+      at solve answers = of_zero solve answers (λ choice parts. PrintsLeastCost (Says said) parts (weight_asked solve)) (λ choice parts is. is.2)
 
   pub certified : (reading : Reading) → Answered reading → CertificateHolds (Done reading)
   certified reading answers = record { plan = of_solve Answered _ with_plan reading answers; none = of_solve Answered _ with_none reading answers }
     where
       with_plan : (solve : SolveMeaning) → Answered (Read (Solve solve)) → said.status ≡ 0 → OfTexts solve texts (SavesPlan (Says said) (Saves said) solve)
-      with_plan solve done = of_zero solve done _ (λ parts is. is.3)
+      with_plan solve done = of_zero solve done (SavesPlan (Says said) (Saves said) solve) (λ choice parts is. is.3)
 
-      with_none : (solve : SolveMeaning) → Answered (Read (Solve solve)) → said.status ≡ 1 → OfTexts solve texts (λ parts. Certifies (Saves said) solve parts None)
-      with_none solve done = of_one solve done _ (λ parts is. is.3)
+      with_none : (solve : SolveMeaning) → Answered (Read (Solve solve)) → said.status ≡ 1 → OfTexts solve texts (λ choice parts. Certifies (Saves said) solve choice parts None)
+      with_none solve done = of_one solve done (λ choice parts. Certifies (Saves said) solve choice parts None) (λ choice parts is. is.3)
 
   -- what is said of a task is said without it
-  said_alone : (solve : SolveMeaning) (text : List ℕ) → OfTexts solve texts (λ parts. Says said text) → Says said text
-  said_alone solve text h = h.2
+  said_alone : (solve : SolveMeaning) (text : List ℕ) → OfTexts solve texts (λ choice parts. Says said text) → Says said text
+  said_alone solve text h = h.2.2
 
   pub none : (reading : Reading) → Answered reading → NoneMeansNone (Done reading)
   none = of_solve Answered _ at
     where
-      at : (solve : SolveMeaning) → Answered (Read (Solve solve)) → said.status ≡ 1 → Says said none_report × OfTexts solve texts (λ parts. HasNoPlan (space_of parts))
-      at solve answers one =
-          (said_alone solve none_report (of_one solve answers (λ parts. Says said none_report) (λ parts is. is.1) one), of_one solve answers _ (λ parts is. is.2) one)
+      at : (solve : SolveMeaning) → Answered (Read (Solve solve)) → said.status ≡ 1 → Says said none_report × OfTexts solve texts (λ choice parts. HasNoPlan (space_of parts))
+      at solve answers one = (
+        said_alone solve none_report (of_one solve answers (λ choice parts. Says said none_report) (λ choice parts is. is.1) one),
+        of_one solve answers (λ choice parts. HasNoPlan (space_of parts)) (λ choice parts is. is.2) one,
+      )
 
   pub stopped : (reading : Reading) → Answered reading → StopHasCause (Done reading)
   stopped = of_solve Answered _ at
     where
       Cause : SolveMeaning → Type 0
-      Cause solve = (Says said (stopped_report solve.settings.budget) × OfTexts solve texts (Stops (Saves said) solve)) ⊎ StopsGrounding solve.input solve.options 0 texts said
+      Cause solve = (Says said (stopped_report solve.settings.budget) × OfTexts solve texts (Stops (Saves said) solve)) ⊎ StopsSolve solve texts said
 
       at : (solve : SolveMeaning) → Answered (Read (Solve solve)) → said.status ≡ 2 → Cause solve
-      at solve answers two = at_two solve answers (Cause solve) (λ parts is h. inl (h.1, (parts, is, h.2))) (λ stop. inr stop) two
+      at solve answers two = at_two solve answers (Cause solve) (λ h. inl (h.2.2.1, (h.0, h.1, (h.2.0, h.2.1, h.2.2.2)))) (λ stop. inr stop) two
 
   -- ---- command by command
 
@@ -453,7 +459,7 @@ module _ (texts : List (List ℕ)) (said : Said) where
   solved reading given = of_solve Answered _ at reading given
     where
       at : (solve : SolveMeaning) → Answered (Read (Solve solve)) → SolveHolds solve (Done reading)
-      at solve answers = record { one_plan = of_zero solve answers (Solves (Says said) (Saves said) solve) (λ parts is. is.1); statuses = search_statuses solve answers }
+      at solve answers = record { one_plan = of_zero solve answers (Solves (Says said) (Saves said) solve) (λ choice parts is. is.1); statuses = search_statuses solve answers }
 
   pub checked_text : (reading : Reading) → Answered reading → ChecksHold (Done reading)
   checked_text reading given = of_check Answered _ at reading given
@@ -575,8 +581,8 @@ module _ (texts : List (List ℕ)) (said : Said) where
 -- want of memory is an answer to all
 pub memory_answers : (reading : Reading) (texts : List (List ℕ)) (said : Said) → said.status ≡ 71 → IsAnswered reading texts said
 memory_answers (Refused fault) texts said is = inr is
-memory_answers (Read (Solve solve)) texts said is = λ parts task. inr (inr (inr is))
-memory_answers (Read (Falling falling)) texts said is = λ parts task. inr (inr (inr is))
+memory_answers (Read (Solve solve)) texts said is = λ read task. inr (inr (inr is))
+memory_answers (Read (Falling falling)) texts said is = λ read task. inr (inr (inr is))
 memory_answers (Read (Check check)) texts said is = λ parts certificate verdict task valid. inr (inr is)
 memory_answers (Read (Journal journal)) texts said is = λ parts text events task legal. inr (inr is)
 memory_answers (Read (Make make)) texts said is = inr (inr (inr is))

@@ -3,8 +3,9 @@
 use Rattle.std.specs.Prelude.{◌≡◌, ◌⊎◌, ℕ, List, []}
 use Rattle.pb_command.specs.Meaning.{Reading, Refused, Read, Solve, Falling, Check, Journal, Make, MakeMeaning}
 use Rattle.pb_command.specs.Causes.{IsPrinted}
+use Rattle.pb_answer.specs.Searches.{ByAskedChoice}
 use Rattle.pb_answer.specs.Loaded.{solve_task, check_task, journal_task}
-use Rattle.pb_answer.specs.Answer.{Said, Says, Saves, IsFound, IsChecked, IsJudged, OrRefused}
+use Rattle.pb_answer.specs.Answer.{Said, Says, Saves, IsFoundOf, IsChecked, IsJudged, OrRefused}
 use Rattle.pb_answer.specs.Parts.{AnswerPart}
 use Rattle.pb_answer.specs.Falling.{IsFallingFound}
 use Rattle.pb_answer.specs.Stops.{OrStopped}
@@ -24,11 +25,11 @@ abbrev pub AnswersReading : Reading → (texts : List (List ℕ)) → Said → T
 AnswersReading (Refused fault) texts said =
     (said.status ≡ 64) × IsPrinted fault said.report × Saves said []
 AnswersReading (Read (Solve solve)) texts said =
-    OrStopped (Read (Solve solve)) texts (OrRefused (solve_task solve texts) (IsFound solve)) said
+    OrStopped (Read (Solve solve)) texts (OrRefused (solve_task solve texts) (IsFoundOf solve)) said
 AnswersReading (Read (Falling falling)) texts said =
     OrStopped (Read (Falling falling)) texts (OrRefused (solve_task falling.solve texts)
-    (λ task all. (parts : List AnswerPart)
-    × IsFallingFound falling.solve task falling.steps all parts)) said
+    (λ read all. ByAskedChoice falling.solve read (λ choice task. (parts : List AnswerPart)
+    × IsFallingFound falling.solve choice task falling.steps all parts))) said
 AnswersReading (Read (Check check)) texts said =
     OrStopped (Read (Check check)) texts
     (OrRefused (check_task check texts) (λ task. IsChecked check task.0 task.1)) said

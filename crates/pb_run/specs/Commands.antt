@@ -90,9 +90,11 @@ pub record MakeHolds (make : MakeMeaning) (it : Outcome) : Type 0 where
 
 -- - `words`: words that are no command line are refused with the text of that. No other words are:
 --   the other records have no status 64.
--- - `input`: texts are refused with status 65 and their report if and only if one is too long or
---   they spell no task. Grounding may be stopped before a refusal that would come later.
--- - `spelled`: texts that spell a task by the rules of their format are not refused.
+-- - `input`: texts are refused with status 65 and their report if and only if one is too long, or
+--   they spell no task, or no tables that suit it where a file of them is named. Grounding may be
+--   stopped before a refusal that would come later.
+-- - `spelled`: texts that spell a task by the rules of their format, and tables that suit it where a
+--   file of them is named, are not refused.
 -- - `unsaved`: a refusal saves no file.
 pub record RefusalHolds (it : Outcome) : Type 0 where
   pub words : IfRefused it.asked (λ fault. ((it.said.status ≡ 64)

@@ -21,12 +21,12 @@ use Rattle.pb_falling.specs.Falling.{weight_at, Claim}
 use Rattle.pb_report.specs.Texts.{stopped_grounding_report}
 use Rattle.pb_command.specs.Meaning.{SolveMeaning, FallingMeaning}
 use Rattle.pb_answer.specs.Outputs.{Output, output}
-use Rattle.pb_answer.specs.Searches.{weight_asked, IsChoiceAsked}
+use Rattle.pb_answer.specs.Searches.{weight_asked}
 use Rattle.pb_answer.specs.Loaded.{OfTexts, solve_task, IsErr}
 use Rattle.pb_answer.specs.Answer.{Said, Says, Saves}
 use Rattle.pb_answer.specs.Parts.{AnswerPart}
 use Rattle.pb_answer.specs.Falling.{numbered, AreFalling, EndsAfter, IsFallingFound}
-use Rattle.pb_answer.specs.Stops.{InputMayStop, StopsGrounding}
+use Rattle.pb_answer.specs.Stops.{InputMayStop, HasTablesText, StopsSolve}
 use Rattle.pb_run.specs.Outcome.{Outcome, IfFalling, AnswersOneOf}
 
 -- ---- claims
@@ -127,69 +127,66 @@ AreOfRuns (run ∷ runs) (claim ∷ claims) =
 
 -- These are claims of one search, as the words ask for it. Each run goes on with the rows of the
 -- one before. The blocks are those of the task, and the finest that are no more than the words wish
--- for. All runs go by one choice of an estimate.
-pub record AreSearched (solve : SolveMeaning) (task : TaskParts) (steps : ℕ)
+-- for. All runs go by this choice of an estimate.
+pub record AreSearched (solve : SolveMeaning) (choice : Choice) (task : TaskParts) (steps : ℕ)
     (claims : List PrintedClaim) : Type 0 where
   pub abstraction : AbstractGraph
   pub graph_of : IsGraphOf task abstraction
   pub finest : IsFinest task solve.settings.wish abstraction.projection
-  pub choice : Choice
-  pub asked : IsChoiceAsked solve task choice
   pub runs : List Claim
   pub falling : AreFalling solve task abstraction choice steps runs
   pub are_of : AreOfRuns runs claims
 
 -- One more run of the same search, by this choice of an estimate, used up the budget. All its runs
 -- together made exactly as many expansions as that allows.
-abbrev pub SpendBudget : SolveMeaning → TaskParts → Choice → (steps : ℕ) → List PrintedClaim
+abbrev pub SpendBudget : SolveMeaning → Choice → TaskParts → (steps : ℕ) → List PrintedClaim
     → Type 0
-SpendBudget solve task choice steps claims =
-    (of : AreSearched solve task steps claims) × (of.choice ≡ choice)
-    × EndsAfter solve task of.abstraction of.choice steps of.runs Budget
+SpendBudget solve choice task steps claims =
+    (of : AreSearched solve choice task steps claims)
+    × EndsAfter solve task of.abstraction choice steps of.runs Budget
 
 -- ---- the claims so far, and what comes after them
 
 -- These claims were printed and their certificates saved, and nothing else. Each may be improved.
-pub record HaveClaimed (solve : SolveMeaning) (task : TaskParts) (steps : ℕ)
+pub record HaveClaimed (solve : SolveMeaning) (choice : Choice) (task : TaskParts) (steps : ℕ)
     (claims : List PrintedClaim) (report : List ℕ) (files : List Output) : Type 0 where
   pub are : AreClaimsOf (space_of task) (weight_asked solve) steps claims
-  pub searched : AreSearched solve task steps claims
+  pub searched : AreSearched solve choice task steps claims
   pub improvable : AllByRecursion MayBeCheaper claims
   pub printed : report ≡ claims_text (action_name task) claims
-  pub certified : SavesEach solve.certificate task searched.choice claims files
+  pub certified : SavesEach solve.certificate task choice claims files
 
 -- after these claims, of a search by this choice of an estimate, the part says one more, and its
 -- certificate is the part's file
-abbrev pub IsOneMoreClaim : SolveMeaning → TaskParts → Choice → (steps : ℕ) → List PrintedClaim
+abbrev pub IsOneMoreClaim : SolveMeaning → Choice → TaskParts → (steps : ℕ) → List PrintedClaim
     → AnswerPart → Type 0
-IsOneMoreClaim solve task choice steps claims part =
+IsOneMoreClaim solve choice task steps claims part =
     (claim : PrintedClaim)
     × AreClaimsOf (space_of task) (weight_asked solve) steps (claims ++ claim ∷ [])
-    × (searched : AreSearched solve task steps (claims ++ claim ∷ [])) × (searched.choice ≡ choice)
+    × AreSearched solve choice task steps (claims ++ claim ∷ [])
     × (part.report ≡ printed_text (action_name task) claim)
     × SavesOne solve.certificate (length claims) task choice claim.weight (Some claim.plan)
     part.outputs
 
 -- there is no claim, and the part says that there is no plan, with the certificate of that
-abbrev pub IsNoPlan : SolveMeaning → TaskParts → Choice → List PrintedClaim → AnswerPart → Type 0
-IsNoPlan solve task choice claims part =
+abbrev pub IsNoPlan : SolveMeaning → Choice → TaskParts → List PrintedClaim → AnswerPart → Type 0
+IsNoPlan solve choice task claims part =
     (claims ≡ []) × HasNoPlan (space_of task) × (part.report ≡ none_report)
-    × IsChoiceAsked solve task choice
     × SavesOne solve.certificate 0 task choice (weight_asked solve) None part.outputs
 
 -- after these claims the part says that the budget was used up, and has no file
-abbrev pub IsStop : SolveMeaning → TaskParts → Choice → (steps : ℕ) → List PrintedClaim
+abbrev pub IsStop : SolveMeaning → Choice → TaskParts → (steps : ℕ) → List PrintedClaim
     → AnswerPart → Type 0
-IsStop solve task choice steps claims part =
-    SpendBudget solve task choice steps claims × (part.report ≡ stopped_report solve.settings.budget)
+IsStop solve choice task steps claims part =
+    SpendBudget solve choice task steps claims × (part.report ≡ stopped_report solve.settings.budget)
     × (part.outputs ≡ [])
 
 -- what comes after these claims, in a search by this choice of an estimate
-abbrev pub IsNext : SolveMeaning → TaskParts → Choice → (steps : ℕ) → List PrintedClaim
+abbrev pub IsNext : SolveMeaning → Choice → TaskParts → (steps : ℕ) → List PrintedClaim
     → AnswerPart → Type 0
-IsNext solve task choice steps claims part =
-    IsOneMoreClaim solve task choice steps claims part
-    ⊎ (IsNoPlan solve task choice claims part ⊎ IsStop solve task choice steps claims part)
+IsNext solve choice task steps claims part =
+    IsOneMoreClaim solve choice task steps claims part
+    ⊎ (IsNoPlan solve choice task claims part ⊎ IsStop solve choice task steps claims part)
 
 -- ---- by the status
 
@@ -199,37 +196,36 @@ IsNext solve task choice steps claims part =
 --   have a name, each claim's own is saved.
 -- - `improvable`: it ends after the first claim of which the bound is the cost.
 -- - `proved`, `least`: that is the last claim. No plan is cheaper.
-pub record EndsProved (solve : SolveMeaning) (steps : ℕ) (said : Said) (task : TaskParts) : Type 0
-  where
-    pub claims : List PrintedClaim
-    pub last : PrintedClaim
-    pub are : AreClaimsOf (space_of task) (weight_asked solve) steps (claims ++ last ∷ [])
-    pub searched : AreSearched solve task steps (claims ++ last ∷ [])
-    pub printed : Says said (claims_text (action_name task) (claims ++ last ∷ []))
-    pub certified : SavesEach solve.certificate task searched.choice (claims ++ last ∷ [])
-        said.outputs
-    pub improvable : AllByRecursion MayBeCheaper claims
-    pub proved : last.bound ≡ last.plan.cost
-    pub least : (plan : Plan) → IsPlan (space_of task) plan → last.plan.cost ≤ plan.cost
+pub record EndsProved (solve : SolveMeaning) (steps : ℕ) (said : Said) (choice : Choice)
+    (task : TaskParts) : Type 0 where
+  pub claims : List PrintedClaim
+  pub last : PrintedClaim
+  pub are : AreClaimsOf (space_of task) (weight_asked solve) steps (claims ++ last ∷ [])
+  pub searched : AreSearched solve choice task steps (claims ++ last ∷ [])
+  pub printed : Says said (claims_text (action_name task) (claims ++ last ∷ []))
+  pub certified : SavesEach solve.certificate task choice (claims ++ last ∷ [])
+      said.outputs
+  pub improvable : AllByRecursion MayBeCheaper claims
+  pub proved : last.bound ≡ last.plan.cost
+  pub least : (plan : Plan) → IsPlan (space_of task) plan → last.plan.cost ≤ plan.cost
 
 -- Status 1: `none` is printed and nothing else, and the task has no plan. If certificates have a
 -- name, `NAME.0` is the certificate of that.
-pub record EndsNone (solve : SolveMeaning) (said : Said) (task : TaskParts) : Type 0 where
+pub record EndsNone (solve : SolveMeaning) (said : Said) (choice : Choice) (task : TaskParts)
+    : Type 0 where
   pub printed : Says said none_report
   pub no_plan : HasNoPlan (space_of task)
-  pub choice : Choice
-  pub asked : IsChoiceAsked solve task choice
   pub certified : SavesOne solve.certificate 0 task choice (weight_asked solve) None said.outputs
 
 -- Status 2: after the claims so far, if any, the budget is printed, which all runs together used
 -- up. There is a certificate of each claim and no other.
-pub record EndsStopped (solve : SolveMeaning) (steps : ℕ) (said : Said) (task : TaskParts) : Type 0
-  where
-    pub claims : List PrintedClaim
-    pub report : List ℕ
-    pub so_far : HaveClaimed solve task steps claims report said.outputs
-    pub printed : Says said (report ++ stopped_report solve.settings.budget)
-    pub spent : SpendBudget solve task so_far.searched.choice steps claims
+pub record EndsStopped (solve : SolveMeaning) (steps : ℕ) (said : Said) (choice : Choice)
+    (task : TaskParts) : Type 0 where
+  pub claims : List PrintedClaim
+  pub report : List ℕ
+  pub so_far : HaveClaimed solve choice task steps claims report said.outputs
+  pub printed : Says said (report ++ stopped_report solve.settings.budget)
+  pub spent : SpendBudget solve choice task steps claims
 
 -- nothing is printed or saved
 abbrev pub IsSilent : Said → Type 0
@@ -237,10 +233,10 @@ IsSilent said = Says said [] × Saves said []
 
 -- Status 71: memory ran out. The claims so far are out whole, each printed and its certificate
 -- saved, and nothing else.
-pub record EndsShort (solve : SolveMeaning) (steps : ℕ) (said : Said) (task : TaskParts) : Type 0
-  where
-    pub claims : List PrintedClaim
-    pub so_far : HaveClaimed solve task steps claims said.report said.outputs
+pub record EndsShort (solve : SolveMeaning) (steps : ℕ) (said : Said) (choice : Choice)
+    (task : TaskParts) : Type 0 where
+  pub claims : List PrintedClaim
+  pub so_far : HaveClaimed solve choice task steps claims said.report said.outputs
 
 -- nothing of the file was saved, or a first part of it
 abbrev pub IsBegun : (begun : List Output) → (file : Output) → Type 0
@@ -250,30 +246,30 @@ IsBegun begun file =
 
 -- Status 73: the shelf failed to save the file of the part in hand. The claims before it are out
 -- whole. Of this part nothing is printed, and of its file at most a first part is saved.
-pub record EndsUnsaved (solve : SolveMeaning) (steps : ℕ) (said : Said) (task : TaskParts) : Type 0
-  where
-    pub claims : List PrintedClaim
-    pub files : List Output
-    pub so_far : HaveClaimed solve task steps claims said.report files
-    pub part : AnswerPart
-    pub next : IsNext solve task so_far.searched.choice steps claims part
-    pub file : Output
-    pub due : part.outputs ≡ file ∷ []
-    pub begun : List Output
-    pub is_begun : IsBegun begun file
-    pub outputs : Saves said (files ++ begun)
+pub record EndsUnsaved (solve : SolveMeaning) (steps : ℕ) (said : Said) (choice : Choice)
+    (task : TaskParts) : Type 0 where
+  pub claims : List PrintedClaim
+  pub files : List Output
+  pub so_far : HaveClaimed solve choice task steps claims said.report files
+  pub part : AnswerPart
+  pub next : IsNext solve choice task steps claims part
+  pub file : Output
+  pub due : part.outputs ≡ file ∷ []
+  pub begun : List Output
+  pub is_begun : IsBegun begun file
+  pub outputs : Saves said (files ++ begun)
 
 -- Status 74: the sink failed to take the text of the part in hand. The claims before it are out
 -- whole. The file of this part is saved whole too, if it has one, and of its text a first part is
 -- printed.
-pub record EndsUnprinted (solve : SolveMeaning) (steps : ℕ) (said : Said) (task : TaskParts)
-    : Type 0 where
+pub record EndsUnprinted (solve : SolveMeaning) (steps : ℕ) (said : Said) (choice : Choice)
+    (task : TaskParts) : Type 0 where
   pub claims : List PrintedClaim
   pub report : List ℕ
   pub files : List Output
-  pub so_far : HaveClaimed solve task steps claims report files
+  pub so_far : HaveClaimed solve choice task steps claims report files
   pub part : AnswerPart
-  pub next : IsNext solve task so_far.searched.choice steps claims part
+  pub next : IsNext solve choice task steps claims part
   pub outputs : Saves said (files ++ part.outputs)
   pub kept : List ℕ
   pub rest : List ℕ
@@ -290,7 +286,8 @@ IsRefusedInPart solve texts said =
 -- the line of that a first part is printed, and nothing is saved.
 abbrev pub IsStoppedInPart : SolveMeaning → (texts : List (List ℕ)) → Said → Type 0
 IsStoppedInPart solve texts said =
-    (rest : List ℕ) × InputMayStop solve.input solve.options 0 texts × (said.looks ≡ most_looks)
+    (rest : List ℕ) × HasTablesText solve.input solve.tables texts
+    × InputMayStop solve.input solve.options 0 texts × (said.looks ≡ most_looks)
     × (stopped_grounding_report ≡ said.report ++ rest) × Saves said []
 
 -- ---- all that is promised
@@ -303,15 +300,15 @@ IsStoppedInPart solve texts said =
 -- - `statuses`: only 0, 1, 2 and 65, or 71, 73, 74 if nothing is answered.
 pub record FallingHolds (falling : FallingMeaning) (it : Outcome) : Type 0 where
   pub found : (it.said.status ≡ 0) ⊎ ((it.said.status ≡ 1) ⊎ (it.said.status ≡ 2))
-      → OfTexts falling.solve it.texts (λ task. (parts : List AnswerPart)
-      × IsFallingFound falling.solve task falling.steps it.said parts)
-      ⊎ StopsGrounding falling.solve.input falling.solve.options 0 it.texts it.said
+      → OfTexts falling.solve it.texts (λ choice task. (parts : List AnswerPart)
+      × IsFallingFound falling.solve choice task falling.steps it.said parts)
+      ⊎ StopsSolve falling.solve it.texts it.said
   pub proved : it.said.status ≡ 0
       → OfTexts falling.solve it.texts (EndsProved falling.solve falling.steps it.said)
   pub none : it.said.status ≡ 1 → OfTexts falling.solve it.texts (EndsNone falling.solve it.said)
   pub stopped : it.said.status ≡ 2
       → OfTexts falling.solve it.texts (EndsStopped falling.solve falling.steps it.said)
-      ⊎ StopsGrounding falling.solve.input falling.solve.options 0 it.texts it.said
+      ⊎ StopsSolve falling.solve it.texts it.said
   pub short : it.said.status ≡ 71 → IsSilent it.said
       ⊎ OfTexts falling.solve it.texts (EndsShort falling.solve falling.steps it.said)
   pub unsaved : it.said.status ≡ 73 → IsSilent it.said

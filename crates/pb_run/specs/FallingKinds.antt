@@ -16,7 +16,7 @@ use Rattle.pb_falling.specs.Falling.{weight_at}
 use Rattle.pb_command.specs.Meaning.{FallingMeaning}
 use Rattle.pb_answer.specs.Spelled.{OfGrid, OfTiles}
 use Rattle.pb_answer.specs.Named.{OfTrees, NoneBelow, NoneCheaperByNames, HasNoNamedPlan}
-use Rattle.pb_answer.specs.Stops.{StopsGrounding}
+use Rattle.pb_answer.specs.Stops.{StopsSolve}
 use Rattle.pb_run.specs.Outcome.{Outcome, IfFalling}
 use Rattle.pb_run.specs.Kinds.{weight_of_words, IfMap, IfBoard}
 use Rattle.pb_run.specs.FallingHeadline.{PrintedClaim, claims_text, AreClaimsOf, MayBeCheaper, IsRefusedInPart, IsStoppedInPart}
@@ -207,7 +207,7 @@ pub record FallingNamedHolds (falling : FallingMeaning) (it : Outcome) : Type 0 
   pub stopped : it.said.status ≡ 2 → OfTrees falling.solve.input 0 it.texts
       (PrintsNamedClaims it.said.report (weight_of_words falling.solve) falling.steps
       (stopped_report falling.solve.settings.budget))
-      ⊎ StopsGrounding falling.solve.input falling.solve.options 0 it.texts it.said
+      ⊎ StopsSolve falling.solve it.texts it.said
   pub short : it.said.status ≡ 71 → (it.said.report ≡ [])
       ⊎ OfTrees falling.solve.input 0 it.texts
       (PrintsNamedClaims it.said.report (weight_of_words falling.solve) falling.steps [])

@@ -17,7 +17,7 @@ use Rattle.pb_answer.specs.Answer.{Said}
 use Rattle.pb_run.specs.Course.{Does}
 use Rattle.pb_run.specs.Outcome.{Outcome, outcome_by}
 use Rattle.pb_run.specs.Commands.{CheckHolds}
-use Rattle.pb_run.specs.Laws.{Keeps, AcceptsUnlessStopped, AcceptsIt}
+use Rattle.pb_run.specs.Laws.{Keeps, task_texts, AcceptsUnlessStopped, AcceptsIt}
 use Rattle.pb_run.specs.FallingHeadline.{PrintedClaim, claims_text, CostsNeverRise, AreClaimsOf, FallingHolds, FallingsHold}
 use Rattle.pb_run.specs.FallingKinds.{FallingMapsHold, FallingBoardsHold, FallingNamedHold}
 
@@ -58,7 +58,7 @@ SavedClaimsAreAccepted =
     → ran.asked ≡ Read (Falling falling) → check.input ≡ falling.solve.input
     → check.options ≡ falling.solve.options
     → SavesWhole ran.said.status → IsSaved ran.said file
-    → checked.texts ≡ file.text ∷ ran.texts
+    → checked.texts ≡ file.text ∷ task_texts falling.solve.input ran.texts
     → FallingHolds falling ran → CheckHolds check checked
     → AcceptsUnlessStopped check.input check.options checked
 
@@ -93,7 +93,7 @@ ClaimsAreAcceptedByWords =
     → ran.asked ≡ reading_of_words (codes "solve" ∷ words_of arguments) → FallingsHold ran
     → Keeps (codes "check" ∷ words_of others) checked
     → SavesWhole ran.said.status → IsSaved ran.said saved
-    → checked.texts ≡ saved.text ∷ ran.texts
+    → checked.texts ≡ saved.text ∷ task_texts input ran.texts
     → AcceptsIt checked
 
 -- ---- texts

@@ -5,6 +5,7 @@ use Rattle.pb_outside.specs.Calls.{Call, KeepsTakes}
 use Rattle.pb_model.specs.Plan.{Plan}
 use Rattle.pb_machine.specs.Machine.{Machine}
 use Rattle.pb_task.specs.declared.parts.TaskParts.{TaskParts}
+use Rattle.pb_estimate.specs.Choices.{Choice}
 use Rattle.pb_falling.specs.Falling.{Claim}
 use Rattle.pb_command.specs.Meaning.{SolveMeaning}
 use Rattle.pb_answer.specs.declared.status.Status.{Status}
@@ -22,58 +23,62 @@ use Rattle.pb_run.specs.declared.output.Ending.TheVariants.{Done, NotSaved, NotP
 -- ---- all that is handed out
 
 -- the parts that are decided: all of a search, or the claims of its first runs
-abbrev pub AreFallingParts : SolveMeaning → TaskParts → (steps : ℕ) → List AnswerPart → Type 0
-AreFallingParts solve task steps parts =
-    ((said : Said) × IsFallingFound solve task steps said parts)
-    ⊎ AreClaimParts solve task steps parts
+abbrev pub AreFallingParts : SolveMeaning → Choice → TaskParts → (steps : ℕ) → List AnswerPart
+    → Type 0
+AreFallingParts solve choice task steps parts =
+    ((said : Said) × IsFallingFound solve choice task steps said parts)
+    ⊎ AreClaimParts solve choice task steps parts
 
 -- How it ends with parts that were handed out so far: the search has come to its end, memory ran
 -- out between two claims, or a file of the part in hand wasn't saved or its piece not put.
-abbrev pub EndsFalling : SolveMeaning → TaskParts → (steps : ℕ) → Ending → List AnswerPart
-    → (status : ℕ) → Type 0
-EndsFalling solve task steps Done parts status =
-    ((said : Said) × IsFallingFound solve task steps said parts × (status ≡ said.status))
-    ⊎ ((status ≡ 71) × AreClaimParts solve task steps parts)
-EndsFalling solve task steps NotSaved parts status =
-    (status ≡ 73) × AreFallingParts solve task steps parts
-EndsFalling solve task steps NotPrinted parts status =
-    (status ≡ 74) × AreFallingParts solve task steps parts
+abbrev pub EndsFalling : SolveMeaning → Choice → TaskParts → (steps : ℕ) → Ending
+    → List AnswerPart → (status : ℕ) → Type 0
+EndsFalling solve choice task steps Done parts status =
+    ((said : Said) × IsFallingFound solve choice task steps said parts × (status ≡ said.status))
+    ⊎ ((status ≡ 71) × AreClaimParts solve choice task steps parts)
+EndsFalling solve choice task steps NotSaved parts status =
+    (status ≡ 73) × AreFallingParts solve choice task steps parts
+EndsFalling solve choice task steps NotPrinted parts status =
+    (status ≡ 74) × AreFallingParts solve choice task steps parts
 
 -- what is claimed after the runs of a search was handed out, part by part
-pub record HandsOutFalling (solve : SolveMeaning) (task : TaskParts) (steps status : ℕ)
+pub record HandsOutFalling (solve : SolveMeaning) (choice : Choice) (task : TaskParts)
+    (steps status : ℕ)
     (files files' : Option Files) (shelf shelf' sink sink' : List Call)
     (written written' : Option (List ℕ)) : Type 0 where
   pub ending : Ending
   pub parts : List AnswerPart
   pub hands : HandsParts ending parts files files' shelf shelf' sink sink' written written'
-  pub ends : EndsFalling solve task steps ending parts status
+  pub ends : EndsFalling solve choice task steps ending parts status
 
 -- ---- what fits
 
 -- this is found, and the status is its own if its parts fit
-pub record FoundIfItFits (solve : SolveMeaning) (task : TaskParts) (steps status : ℕ)
+pub record FoundIfItFits (solve : SolveMeaning) (choice : Choice) (task : TaskParts)
+    (steps status : ℕ)
     (can_hold : List ℕ → ℕ → Type 0) (can_take : ℕ → Type 0) : Type 0 where
   pub said : Said
   pub parts : List AnswerPart
-  pub found : IsFallingFound solve task steps said parts
+  pub found : IsFallingFound solve choice task steps said parts
   pub if_they_fit : PartsFit can_hold can_take parts → status ≡ said.status
 
 -- it broke off, and the claims of first runs don't fit
-pub record ClaimsDoNotFit (solve : SolveMeaning) (task : TaskParts) (steps status : ℕ)
+pub record ClaimsDoNotFit (solve : SolveMeaning) (choice : Choice) (task : TaskParts)
+    (steps status : ℕ)
     (can_hold : List ℕ → ℕ → Type 0) (can_take : ℕ → Type 0) : Type 0 where
   pub broke : (status ≡ 73) ⊎ (status ≡ 74)
   pub parts : List AnswerPart
-  pub parts_are : AreClaimParts solve task steps parts
+  pub parts_are : AreClaimParts solve choice task steps parts
   pub do_not_fit : PartsFit can_hold can_take parts → ⊥
 
 -- Unless memory ran out, all of a search was handed out if the shelf can hold the files of all
 -- parts and the sink can take their pieces. Or it broke off at a claim that doesn't fit.
-abbrev pub ClaimsIfTheyFit : SolveMeaning → TaskParts → (steps status : ℕ)
+abbrev pub ClaimsIfTheyFit : SolveMeaning → Choice → TaskParts → (steps status : ℕ)
     → (can_hold : List ℕ → ℕ → Type 0) → (can_take : ℕ → Type 0) → Type 0
-ClaimsIfTheyFit solve task steps status can_hold can_take =
+ClaimsIfTheyFit solve choice task steps status can_hold can_take =
     (status ≡ 71)
-    ⊎ (FoundIfItFits solve task steps status can_hold can_take
-    ⊎ ClaimsDoNotFit solve task steps status can_hold can_take)
+    ⊎ (FoundIfItFits solve choice task steps status can_hold can_take
+    ⊎ ClaimsDoNotFit solve choice task steps status can_hold can_take)
 
 -- ---- on the way
 
@@ -113,9 +118,11 @@ abbrev pub EndsIfItFits : FallingValue → (parts : List AnswerPart) → (status
 EndsIfItFits search parts status can_hold can_take =
     (status ≡ 71)
     ⊎ ((said : Said) × (((all : Said)
-    × IsFallingFound search.solve search.parts search.steps all (parts ++ part_of said ∷ [])
+    × IsFallingFound search.solve search.graph.choice search.parts search.steps all
+    (parts ++ part_of said ∷ [])
     × (FitsNow can_hold can_take said → status ≡ all.status))
-    ⊎ (AreClaimParts search.solve search.parts search.steps (parts ++ part_of said ∷ [])
+    ⊎ (AreClaimParts search.solve search.graph.choice search.parts search.steps
+    (parts ++ part_of said ∷ [])
     × ((status ≡ 73) ⊎ (status ≡ 74)) × (FitsNow can_hold can_take said → ⊥))))
 
 -- After the claim of a run: if there is a status, all is handed out or it broke off. Else the
@@ -125,8 +132,8 @@ abbrev pub AfterRun : FallingValue → (parts : List AnswerPart) → Option Stat
     → (written written' : Option (List ℕ)) → (can_take can_take' : ℕ → Type 0) → Type 0
 AfterRun search parts (Some status) files files' shelf shelf' sink sink' written written'
     can_take can_take' =
-    HandsOutFalling search.solve search.parts search.steps (number_of status) files files' shelf
-    shelf' sink sink' written written'
+    HandsOutFalling search.solve search.graph.choice search.parts search.steps (number_of status)
+    files files' shelf shelf' sink sink' written written'
 AfterRun search parts None files files' shelf shelf' sink sink' written written'
     can_take can_take' =
     (said : Said) × HandsParts Done (parts ++ part_of said ∷ []) files files' shelf shelf' sink sink'

@@ -1,6 +1,6 @@
 -- What one call of the program saves, another one accepts: by what the words of both ask for, and
 -- by the words themselves. A premise by the name of a clause is what that clause of `run` promises.
-use Rattle.std.specs.Prelude.{false, ◌≡◌, ◌⊎◌, ℕ, ◌≤◌, ◌==◌, Bool, None, Some, List, [], ◌∷◌, ◌++◌, Ok, length, codes, if◌then◌else◌}
+use Rattle.std.specs.Prelude.{false, ◌≡◌, ◌⊎◌, ℕ, ◌≤◌, ◌==◌, Bool, None, Some, List, [], ◌∷◌, ◌++◌, Ok, length, take, codes, slice_get, if◌then◌else◌}
 use Rattle.std.specs.Fmt.{decimal}
 use Rattle.std.specs.List.{AllByRecursion}
 use Rattle.pb_model.specs.Texts.{lines, spaced}
@@ -9,21 +9,19 @@ use Rattle.pb_task.specs.declared.grounding.Grounding.{Grounding}
 use Rattle.pb_task.specs.declared.grounding.Grounding.TheVariants.{All, Reachable}
 use Rattle.pb_task.specs.Groundings.{grounding_name}
 use Rattle.pb_task.specs.Widths.{width_of}
-use Rattle.pb_estimate.specs.Choices.{Choice}
 use Rattle.pb_estimate.specs.Spelling.{spelling_of, head_of}
 use Rattle.pb_command.specs.declared.command.InputOptions.{InputOptions}
-use Rattle.pb_command.specs.Values.{InputNames}
+use Rattle.pb_command.specs.Values.{InputNames, StripsNames, Strips}
 use Rattle.pb_command.specs.Meaning.{Read, Solve, SolveMeaning, CheckMeaning, JournalMeaning, reading_of_words}
 use Rattle.pb_command.specs.declared.command.Engine.TheVariants.{Leases}
 use Rattle.pb_command.specs.declared.table.ValuedOption.{ValuedOption}
-use Rattle.pb_command.specs.declared.table.ValuedOption.TheVariants.{Row, Num, Den, Pattern, Estimate, Certificate, Journal as JournalOption}
+use Rattle.pb_command.specs.declared.table.ValuedOption.TheVariants.{Row, Num, Den, Pattern, Estimate, Tables, Certificate, Journal as JournalOption}
 use Rattle.pb_command.specs.declared.table.FlagOption.{FlagOption}
 use Rattle.pb_command.specs.declared.table.FlagOption.TheVariants.{Swamp, Reachable as ReachableFlag}
-use Rattle.pb_command.specs.Options.{Argument, words_of, placed_words, value_given, number_given, flag_given, AreDistinct, IsArgumentOf, is_of_check, is_of_journal, is_flag_of_check, is_flag_of_journal, kind_word, file_words, options_given, AreOfSolve, HaveTwoNames, HaveKeptJournal, HaveOneRun, HaveOneEstimate, HasNewName, effort_given}
+use Rattle.pb_command.specs.Options.{Argument, words_of, placed_words, value_given, number_given, flag_given, AreDistinct, IsArgumentOf, is_of_check, is_of_journal, is_flag_of_check, is_flag_of_journal, kind_word, file_words, options_given, AreOfSolve, HaveTwoNames, HaveKeptJournal, HaveOneRun, HaveOneEstimate, HasNewName, solve_given}
 use Rattle.pb_journal.specs.Lengths.{most_bytes}
 use Rattle.pb_answer.specs.Outputs.{Output, output}
 use Rattle.pb_answer.specs.Loaded.{OfTexts, input_task, grounding_asked}
-use Rattle.pb_answer.specs.Searches.{IsChoiceFor}
 use Rattle.pb_answer.specs.Journals.{IsJournalOf}
 use Rattle.pb_answer.specs.Answer.{Said}
 use Rattle.pb_answer.specs.Stops.{StopsBehind, StopsTexts}
@@ -46,6 +44,11 @@ AcceptsUnlessStopped input options it =
     (it.said.status ≡ 0)
     ⊎ (StopsBehind input options it.texts it.said ⊎ IsBroken it.said.status)
 
+-- The first texts that a call loaded, those of its task. The text of a file of tables comes after
+-- them, and a call that judges doesn't load it.
+abbrev pub task_texts : InputNames → (texts : List (List ℕ)) → List (List ℕ)
+task_texts input texts = take (length (file_words input)) texts
+
 -- A call searched a task, answered a plan or none, and saved a certificate under a name. Another
 -- call checks the text of that certificate, which was loaded whole, for the same input, row, swamp
 -- and grounding. It accepts it, unless its grounding is stopped or it answers nothing: this follows
@@ -57,7 +60,7 @@ SavedCertificatesAreAccepted =
     → check.options ≡ solve.options
     → solve.certificate ≡ Some name
     → (solved.said.status ≡ 0) ⊎ (solved.said.status ≡ 1)
-    → IsSavedFirst solved.said name text → checked.texts ≡ text ∷ solved.texts
+    → IsSavedFirst solved.said name text → checked.texts ≡ text ∷ task_texts solve.input solved.texts
     → SolveHolds solve solved → CertificateHolds solved → CheckHolds check checked
     → AcceptsUnlessStopped check.input check.options checked
 
@@ -72,7 +75,7 @@ SavedJournalsAreAccepted =
     → solved.asked ≡ Read (Solve solve) → journal.input ≡ solve.input
     → journal.options ≡ record solve.options { swamp = false } → solve.journal ≡ Some name
     → (solved.said.status ≡ 0) ⊎ ((solved.said.status ≡ 1) ⊎ (solved.said.status ≡ 2))
-    → IsSavedLast solved.said name text → judged.texts ≡ text ∷ solved.texts
+    → IsSavedLast solved.said name text → judged.texts ≡ text ∷ task_texts solve.input solved.texts
     → SolveHolds solve solved → CertificateHolds solved → StopHasCause solved
     → JournalHolds journal judged
     → AcceptsUnlessStopped journal.input journal.options judged
@@ -87,7 +90,7 @@ SavedJournalsAreShort =
     → (solved.said.status ≡ 0) ⊎ ((solved.said.status ≡ 1) ⊎ (solved.said.status ≡ 2))
     → IsSavedLast solved.said name text
     → SolveHolds solve solved → CertificateHolds solved → StopHasCause solved
-    → OfTexts solve solved.texts (λ parts. (events : ℕ) × IsJournalOf parts text events
+    → OfTexts solve solved.texts (λ choice parts. (events : ℕ) × IsJournalOf parts text events
     × (length text ≤ most_bytes events))
 
 -- ---- by the words
@@ -145,7 +148,7 @@ CertificatesAreAcceptedByWords =
     → Keeps (codes "solve" ∷ words_of arguments) solved
     → Keeps (codes "check" ∷ words_of others) checked
     → (solved.said.status ≡ 0) ⊎ (solved.said.status ≡ 1)
-    → IsSavedFirst solved.said name text → checked.texts ≡ text ∷ solved.texts
+    → IsSavedFirst solved.said name text → checked.texts ≡ text ∷ task_texts input solved.texts
     → AcceptsIt checked
 
 -- A call with the words `solve ..`, with `--trace NAME` among them, answered a plan, none or a
@@ -161,7 +164,7 @@ JournalsAreAcceptedByWords =
     → Keeps (codes "solve" ∷ words_of arguments) solved
     → Keeps (codes "journal" ∷ words_of others) judged
     → (solved.said.status ≡ 0) ⊎ ((solved.said.status ≡ 1) ⊎ (solved.said.status ≡ 2))
-    → IsSavedLast solved.said name text → judged.texts ≡ text ∷ solved.texts
+    → IsSavedLast solved.said name text → judged.texts ≡ text ∷ task_texts input solved.texts
     → AcceptsIt judged
 
 -- ---- what a certificate states
@@ -202,7 +205,7 @@ CertificatesStateTheirPattern =
     → AreOfSolve input arguments → HaveOneRun arguments
     → number_given Den arguments ≤ number_given Num arguments
     → HaveTwoNames arguments → HaveKeptJournal arguments
-    → value_given Estimate arguments ≡ None
+    → value_given Estimate arguments ≡ None → value_given Tables arguments ≡ None
     → value_given Certificate arguments ≡ Some name
     → Keeps (codes "solve" ∷ words_of arguments) solved
     → (solved.said.status ≡ 0) ⊎ (solved.said.status ≡ 1)
@@ -211,8 +214,8 @@ CertificatesStateTheirPattern =
     × BeginsWithLines (first_lines (kind_word input) (width_of parts)
     (grounding_asked input (options_given arguments)) (number_given Pattern arguments)) text
 
--- The same with or without `--estimate tables`. Its first lines, up to the estimate, are those of a
--- choice of an estimate that the words ask for.
+-- The same with `--estimate tables` or `--tables FILE` among them, or without. Its first lines, up to
+-- the estimate, are those of a choice of an estimate that the words ask for.
 abbrev pub CertificatesStateTheirChoice : Type 0
 CertificatesStateTheirChoice =
     (input : InputNames) (name text : List ℕ) (arguments : List Argument) (solved : Outcome)
@@ -223,7 +226,29 @@ CertificatesStateTheirChoice =
     → Keeps (codes "solve" ∷ words_of arguments) solved
     → (solved.said.status ≡ 0) ⊎ (solved.said.status ≡ 1)
     → IsSavedFirst solved.said name text
-    → (parts : TaskParts) × (input_task input (options_given arguments) 0 solved.texts ≡ Ok parts)
-    × (choice : Choice)
-    × IsChoiceFor (effort_given arguments) (number_given Pattern arguments) parts choice
-    × BeginsWithLines (head_of (spelling_of parts choice)) text
+    → OfTexts (solve_given input arguments) solved.texts
+    (λ choice parts. BeginsWithLines (head_of (spelling_of parts choice)) text)
+
+-- With `--tables FILE` among them, for STRIPS: behind the lines for the kind, the width and the
+-- grounding, all of FILE follows as it was loaded.
+abbrev pub CertificatesStateTheirFile : Type 0
+CertificatesStateTheirFile =
+    (names : StripsNames) (name file stated text : List ℕ) (arguments : List Argument)
+    (solved : Outcome)
+    → AreOfSolve (Strips names) arguments → HaveOneRun arguments
+    → number_given Den arguments ≤ number_given Num arguments
+    → HaveTwoNames arguments → HaveKeptJournal arguments → HaveOneEstimate arguments
+    → value_given Tables arguments ≡ Some file
+    → value_given Certificate arguments ≡ Some name
+    → Keeps (codes "solve" ∷ words_of arguments) solved
+    → (solved.said.status ≡ 0) ⊎ (solved.said.status ≡ 1)
+    → slice_get solved.texts 2 ≡ Some stated
+    → IsSavedFirst solved.said name text
+    → (parts : TaskParts)
+    × (input_task (Strips names) (options_given arguments) 0 solved.texts ≡ Ok parts)
+    × ((rest : List ℕ) × (text ≡ lines (codes "pbnf-certificate 4"
+    ∷ spaced (codes "kind") (kind_word (Strips names))
+    ∷ spaced (codes "width") (decimal (width_of parts))
+    ∷ spaced (codes "grounding")
+    (grounding_name (grounding_asked (Strips names) (options_given arguments))) ∷ [])
+    ++ (stated ++ rest)))

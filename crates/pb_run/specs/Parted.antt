@@ -1,9 +1,9 @@
 -- In which parts an answer is handed out. Of each part the files are saved, and then its piece of
 -- the report is put.
 use Rattle.std.specs.Prelude.{◌≡◌, ◌⊎◌, ℕ, Bool, true, false, List, [], Result, Ok, Err}
-use Rattle.pb_task.specs.declared.parts.TaskParts.{TaskParts}
 use Rattle.pb_command.specs.Meaning.{Reading, Refused, Read, Solve, Falling, Check, Journal, Make}
-use Rattle.pb_answer.specs.Loaded.{solve_task}
+use Rattle.pb_answer.specs.Searches.{ByAskedChoice}
+use Rattle.pb_answer.specs.Loaded.{solve_task, OfTexts}
 use Rattle.pb_answer.specs.Answer.{Said}
 use Rattle.pb_answer.specs.Parts.{AnswerPart, AreAnswerParts}
 use Rattle.pb_answer.specs.Falling.{IsFallingFound, AreClaimParts}
@@ -20,9 +20,9 @@ asks_one_part (Read (Check check)) = true
 asks_one_part (Read (Journal journal)) = true
 asks_one_part (Read (Make make)) = true
 
--- what P says of a task, or else Q
-abbrev pub OfTaskOr : Result TaskParts (List ℕ) → (Q : Type 0) → (P : TaskParts → Type 0) → Type 0
-OfTaskOr (Ok task) Q P = P task
+-- what P says of what was read, or else Q
+abbrev pub OfTaskOr : {A : Type 0} → Result A (List ℕ) → (Q : Type 0) → (P : A → Type 0) → Type 0
+OfTaskOr (Ok read) Q P = P read
 OfTaskOr (Err report) Q P = Q
 
 -- The parts of an answer to these texts: all files and the whole report, or those of a search with
@@ -31,7 +31,8 @@ abbrev pub AreAllParts : Reading → (texts : List (List ℕ)) → Said → List
 AreAllParts (Read (Falling falling)) texts said parts =
     (StopsTexts (Read (Falling falling)) texts said × AreAnswerParts said parts)
     ⊎ OfTaskOr (solve_task falling.solve texts) (AreAnswerParts said parts)
-    (λ task. IsFallingFound falling.solve task falling.steps said parts)
+    (λ read. ByAskedChoice falling.solve read
+    (λ choice task. IsFallingFound falling.solve choice task falling.steps said parts))
 AreAllParts (Read (Solve solve)) texts said parts = AreAnswerParts said parts
 AreAllParts (Read (Check check)) texts said parts = AreAnswerParts said parts
 AreAllParts (Read (Journal journal)) texts said parts = AreAnswerParts said parts
@@ -45,8 +46,8 @@ AreAllParts (Refused fault) texts said parts = AreAnswerParts said parts
 abbrev pub AreFirstParts : Reading → (texts : List (List ℕ)) → List AnswerPart → Type 0
 AreFirstParts (Read (Falling falling)) texts parts =
     (parts ≡ [])
-    ⊎ ((task : TaskParts) × (solve_task falling.solve texts ≡ Ok task)
-    × AreClaimParts falling.solve task falling.steps parts)
+    ⊎ OfTexts falling.solve texts
+    (λ choice task. AreClaimParts falling.solve choice task falling.steps parts)
 AreFirstParts (Read (Solve solve)) texts parts = parts ≡ []
 AreFirstParts (Read (Check check)) texts parts = parts ≡ []
 AreFirstParts (Read (Journal journal)) texts parts = parts ≡ []

@@ -2,7 +2,7 @@
 -- a `journal` of a legal one, and a `make` need little room. A `solve` needs room for the rows and
 -- the events that its budget allows. Those of one search are far fewer, and `fits` of
 -- `AnswersIfServed` says what these need.
-use Rattle.std.specs.Prelude.{◌≡◌, ◌≢◌, ℕ, ◌+◌, ◌*◌, ◌^◌, ◌<◌, ◌≤◌, None, Some, IfSome, List, [], length, Ok}
+use Rattle.std.specs.Prelude.{◌≡◌, ◌≢◌, ℕ, ◌+◌, ◌*◌, ◌^◌, ◌<◌, ◌≤◌, Option, None, Some, IfSome, List, [], length, Ok}
 use Rattle.pb_model.specs.Texts.{lines}
 use Rattle.pb_machine.specs.declared.settings.Settings.{Settings}
 use Rattle.pb_outside.specs.Memory.{ShelfView, SinkView, file_of, HasFile, HasRoom, CanTake}
@@ -11,6 +11,8 @@ use Rattle.pb_task.specs.Parts.{space_of, IsTask, action_name}
 use Rattle.pb_task.specs.declared.kind.Kind.TheVariants as kind
 use Rattle.pb_task.specs.Kinds.{kind_of}
 use Rattle.pb_task.specs.Widths.{width_of}
+use Rattle.pb_tables.specs.Tables.{TablesValue}
+use Rattle.pb_table_lines.specs.Reading.{tables_reading}
 use Rattle.pb_estimate.specs.Choices.{Choice}
 use Rattle.pb_estimate.specs.Spelling.{spelling_of, head_of}
 use Rattle.pb_yard.specs.Length.{most_events}
@@ -99,29 +101,34 @@ NamesAreWithin parts longest =
     → length (action_name parts action) ≤ longest
 
 -- By no choice of an estimate that the words ask for do the first lines of a certificate, up to the
--- estimate, have more bytes than this.
-abbrev pub HeadsAreWithin : SolveMeaning → TaskParts → (head : ℕ) → Type 0
-HeadsAreWithin solve parts head =
-    (choice : Choice) → IsChoiceAsked solve parts choice
+-- estimate, have more bytes than this. The tables of a file are given here, if the words name one.
+abbrev pub HeadsAreWithin : SolveMeaning → (given : Option TablesValue) → TaskParts → (head : ℕ)
+    → Type 0
+HeadsAreWithin solve given parts head =
+    (choice : Choice) → IsChoiceAsked solve given parts choice
     → length (lines (head_of (spelling_of parts choice))) ≤ head
 
 -- For these lines 114 bytes are enough if tables are not asked for, or not looked for: the task is a
--- map or a board. Else 2^40 bytes are enough, whatever tables are found.
+-- map or a board. Else 2^40 bytes are enough, whatever tables are found. With the tables of a file
+-- 114 bytes are enough beside those of the file.
 pub record HeadsAreShort : Type 0 where
   pub without : (solve : SolveMeaning) (parts : TaskParts) → solve.effort ≡ None
-      → IsSolveInRange solve → IsTask parts → HeadsAreWithin solve parts 114
+      → IsSolveInRange solve → IsTask parts → HeadsAreWithin solve None parts 114
   pub other_kinds : (solve : SolveMeaning) (parts : TaskParts) → kind_of parts ≢ kind.Strips
-      → IsSolveInRange solve → IsTask parts → HeadsAreWithin solve parts 114
+      → IsSolveInRange solve → IsTask parts → HeadsAreWithin solve None parts 114
   pub all : (solve : SolveMeaning) (parts : TaskParts) → IsSolveInRange solve → IsTask parts
-      → HeadsAreWithin solve parts (2 ^ 40)
+      → HeadsAreWithin solve None parts (2 ^ 40)
+  pub of_file : (solve : SolveMeaning) (parts : TaskParts) (tables : TablesValue) (text : List ℕ)
+      → tables_reading (width_of parts) text ≡ Ok tables → IsTask parts
+      → HeadsAreWithin solve (Some tables) parts (114 + length text)
 
 -- There is room for whatever a search of this task can leave: for its certificate and its journal,
 -- each if it has a name, and for its report. The first lines of its certificate have at most so many
 -- bytes.
-pub record HasSearchRoom (solve : SolveMeaning) (parts : TaskParts) (longest head : ℕ)
-    (shelf : ShelfView) (sink : SinkView) : Type 0 where
+pub record HasSearchRoom (solve : SolveMeaning) (given : Option TablesValue) (parts : TaskParts)
+    (longest head : ℕ) (shelf : ShelfView) (sink : SinkView) : Type 0 where
   pub certificate : IfSome solve.certificate
-      (λ name. HeadsAreWithin solve parts head
+      (λ name. HeadsAreWithin solve given parts head
       × HasRoomFor shelf name (most_of_certificate parts solve.settings head))
   pub journal : IfSome solve.journal
       (λ name. HasRoomFor shelf name (most_of_journal parts solve.settings))
@@ -132,9 +139,9 @@ pub record HasSearchRoom (solve : SolveMeaning) (parts : TaskParts) (longest hea
 abbrev pub SolvesAreServed : Type 0
 SolvesAreServed =
     (solve : SolveMeaning) (shelf : ShelfView) (sink : SinkView) (texts : List (List ℕ))
-    (parts : TaskParts) (longest head : ℕ)
+    (parts : TaskParts) (given : Option TablesValue) (longest head : ℕ)
     → HasTextsAndLine (Read (Solve solve)) shelf sink texts
-    → solve_task solve texts ≡ Ok parts → IsTask parts → IsSolveInRange solve
-    → NamesAreWithin parts longest → HasSearchRoom solve parts longest head shelf sink
+    → solve_task solve texts ≡ Ok (parts, given) → IsTask parts → IsSolveInRange solve
+    → NamesAreWithin parts longest → HasSearchRoom solve given parts longest head shelf sink
     → CanServe (Read (Solve solve)) (Some (file_of shelf)) (HasFile shelf) (HasRoom shelf)
     (CanTake sink)

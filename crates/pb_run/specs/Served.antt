@@ -1,6 +1,7 @@
 -- Completeness: what is answered if the shelf and the sink can do what is asked of them.
 use Rattle.std.specs.Prelude.{◌≡◌, ◌⊎◌, ℕ, ⊤, Option, None, Some, List, [], ◌∷◌, ◌++◌, length, Ok, IfSome}
 use Rattle.pb_task.specs.declared.parts.TaskParts.{TaskParts}
+use Rattle.pb_tables.specs.Tables.{TablesValue}
 use Rattle.pb_check.specs.declared.fault.Verdict.{Verdict}
 use Rattle.pb_check.specs.Shown.{IsAccepted}
 use Rattle.pb_command.specs.Meaning.{Reading, Refused, Read, Solve, Falling, Check, Journal, Make}
@@ -44,10 +45,10 @@ CanHandOut reading texts can_hold can_take =
 abbrev pub IsAnswered : Reading → (texts : List (List ℕ)) → Said → Type 0
 IsAnswered (Refused fault) texts said = (said.status ≡ 64) ⊎ (said.status ≡ 71)
 IsAnswered (Read (Solve solve)) texts said =
-    (parts : TaskParts) → solve_task solve texts ≡ Ok parts
+    (read : TaskParts × Option TablesValue) → solve_task solve texts ≡ Ok read
     → (said.status ≡ 0) ⊎ ((said.status ≡ 1) ⊎ ((said.status ≡ 2) ⊎ (said.status ≡ 71)))
 IsAnswered (Read (Falling falling)) texts said =
-    (parts : TaskParts) → solve_task falling.solve texts ≡ Ok parts
+    (read : TaskParts × Option TablesValue) → solve_task falling.solve texts ≡ Ok read
     → (said.status ≡ 0) ⊎ ((said.status ≡ 1) ⊎ ((said.status ≡ 2) ⊎ (said.status ≡ 71)))
 IsAnswered (Read (Check check)) texts said =
     (parts : TaskParts) (certificate : List ℕ) (verdict : Verdict)

@@ -30,13 +30,13 @@ pub fn hand_out_claims<'a, R: Threads + Wait + Sync, H: Shelf, K: Sink, G: Gate>
     gate: &G,
 ) -> Status
     requires { (machine : Machine) × IsFalling [] machine first }
-    ensures hands { HandsOutFalling first.entry.solve first.entry.parts first.entry.steps
-        (number_of result) (H.files shelf.old) (H.files shelf.new) (H.calls shelf.old)
+    ensures hands { HandsOutFalling first.entry.solve first.entry.graph.choice first.entry.parts
+        first.entry.steps (number_of result) (H.files shelf.old) (H.files shelf.new) (H.calls shelf.old)
         (H.calls shelf.new) (K.calls out.old) (K.calls out.new) (K.written out.old)
         (K.written out.new) }
     ensures fits { IsSome (H.files shelf.old)
-        → ClaimsIfTheyFit first.entry.solve first.entry.parts first.entry.steps
-        (number_of result) (H.can_hold shelf.old) (K.can_take out.old) }
+        → ClaimsIfTheyFit first.entry.solve first.entry.graph.choice first.entry.parts
+        first.entry.steps (number_of result) (H.can_hold shelf.old) (K.can_take out.old) }
     ensures shelf_fault { number_of result ≡ 73 → Rose (H.faults shelf.old) (H.faults shelf.new) }
     ensures sink_fault { number_of result ≡ 74 → Rose (K.faults out.old) (K.faults out.new) }
     ensures shelf_later { H.faults shelf.old ≤ H.faults shelf.new }

@@ -42,6 +42,7 @@ pub fn lend_solve<'l, 'w: 'l>(solve: &SolveCommand<'w>) -> SolveCommand<'l>
         settings: solve.settings,
         engine: solve.engine,
         effort: solve.effort,
+        tables: lend_name(solve.tables),
         certificate: lend_name(solve.certificate),
         journal: lend_name(solve.journal),
     }

@@ -3,69 +3,82 @@ use crate::words::compare;
 
 // Options may stand anywhere after the command. Those that aren't given have their defaults. A line
 // has the row, the workers, the weight, the budget, the lot, the blocks, the pattern database, the
-// engine, the effort for tables, `--plain`, `--swamp`, the grounding and the names of certificate
-// and journal. With `--falling` the number of steps stands before it.
+// engine, the effort for tables, the file of tables, `--plain`, `--swamp`, the grounding and the
+// names of certificate and journal. With `--falling` the number of steps stands before it.
 const COMMANDS: &str = "\
 > solve grid m --row 1000000 s --budget=1099511627776 --lot 1 --blocks=4096 --cert c \
 --workers 64 --swamp --num=1000 --plain --den 999 --trace=t --pattern 12 --engine pbnf
-solve grid m s: 1000000 64 1000/999 1099511627776 1 4096 12 pbnf None true true all \
+solve grid m s: 1000000 64 1000/999 1099511627776 1 4096 12 pbnf None None true true all \
 Some(\"c\") Some(\"t\")
 > solve tiles --row 7 b --budget=1 --cert c
-solve tiles b: 7 1 1/1 1 256 256 0 pbnf None false false all Some(\"c\") None
+solve tiles b: 7 1 1/1 1 256 256 0 pbnf None None false false all Some(\"c\") None
 > solve strips d --row 7 p --blocks=16 --lot 1 --cert c
-solve strips d p: 7 1 1/1 16777216 1 16 0 pbnf None false false all Some(\"c\") None
+solve strips d p: 7 1 1/1 16777216 1 16 0 pbnf None None false false all Some(\"c\") None
 > solve grid m s
-solve grid m s: 0 1 1/1 16777216 256 256 0 pbnf None false false all None None
+solve grid m s: 0 1 1/1 16777216 256 256 0 pbnf None None false false all None None
 > solve grid m s --lot 1
-solve grid m s: 0 1 1/1 16777216 1 256 0 pbnf None false false all None None
+solve grid m s: 0 1 1/1 16777216 1 256 0 pbnf None None false false all None None
 > solve grid m s --lot=1048576
-solve grid m s: 0 1 1/1 16777216 1048576 256 0 pbnf None false false all None None
+solve grid m s: 0 1 1/1 16777216 1048576 256 0 pbnf None None false false all None None
 > solve tiles b --blocks 16
-solve tiles b: 0 1 1/1 16777216 256 16 0 pbnf None false false all None None
+solve tiles b: 0 1 1/1 16777216 256 16 0 pbnf None None false false all None None
 > solve tiles --blocks=4096 b
-solve tiles b: 0 1 1/1 16777216 256 4096 0 pbnf None false false all None None
+solve tiles b: 0 1 1/1 16777216 256 4096 0 pbnf None None false false all None None
 > solve tiles --blocks=17 b --lot=2
-solve tiles b: 0 1 1/1 16777216 2 17 0 pbnf None false false all None None
+solve tiles b: 0 1 1/1 16777216 2 17 0 pbnf None None false false all None None
 > solve tiles --pattern=3 b
-solve tiles b: 0 1 1/1 16777216 256 256 3 pbnf None false false all None None
+solve tiles b: 0 1 1/1 16777216 256 256 3 pbnf None None false false all None None
 > solve strips d --pattern 0 p
-solve strips d p: 0 1 1/1 16777216 256 256 0 pbnf None false false all None None
+solve strips d p: 0 1 1/1 16777216 256 256 0 pbnf None None false false all None None
 > solve tiles b --engine hda
-solve tiles b: 0 1 1/1 16777216 256 256 0 hda None false false all None None
+solve tiles b: 0 1 1/1 16777216 256 256 0 hda None None false false all None None
 > solve --engine=hda grid m s --cert c --workers 4
-solve grid m s: 0 4 1/1 16777216 256 256 0 hda None false false all Some(\"c\") None
+solve grid m s: 0 4 1/1 16777216 256 256 0 hda None None false false all Some(\"c\") None
 > solve strips --engine pbnf d p --trace j
-solve strips d p: 0 1 1/1 16777216 256 256 0 pbnf None false false all None Some(\"j\")
+solve strips d p: 0 1 1/1 16777216 256 256 0 pbnf None None false false all None Some(\"j\")
 > solve tiles b --falling 1
-falling 1 solve tiles b: 0 1 1/1 16777216 256 256 0 pbnf None false false all None None
+falling 1 solve tiles b: 0 1 1/1 16777216 256 256 0 pbnf None None false false all None None
 > solve --falling=20 grid m --num 3 s --cert c --swamp
-falling 20 solve grid m s: 0 1 3/1 16777216 256 256 0 pbnf None false true all Some(\"c\") None
+falling 20 solve grid m s: 0 1 3/1 16777216 256 256 0 pbnf None None false true all Some(\"c\") None
 > solve strips d --engine pbnf --falling +07 p --workers 4 --plain
-falling 7 solve strips d p: 0 4 1/1 16777216 256 256 0 pbnf None true false all None None
+falling 7 solve strips d p: 0 4 1/1 16777216 256 256 0 pbnf None None true false all None None
 > solve strips d p --reachable
-solve strips d p: 0 1 1/1 16777216 256 256 0 pbnf None false false reachable None None
+solve strips d p: 0 1 1/1 16777216 256 256 0 pbnf None None false false reachable None None
 > solve --reachable strips --plain d --pattern 3 --engine=hda p --swamp
-solve strips d p: 0 1 1/1 16777216 256 256 3 hda None true true reachable None None
+solve strips d p: 0 1 1/1 16777216 256 256 3 hda None None true true reachable None None
 > solve grid --falling 2 m s --reachable --cert c
-falling 2 solve grid m s: 0 1 1/1 16777216 256 256 0 pbnf None false false reachable \
+falling 2 solve grid m s: 0 1 1/1 16777216 256 256 0 pbnf None None false false reachable \
 Some(\"c\") None
 > solve strips d p --estimate tables
-solve strips d p: 0 1 1/1 16777216 256 256 0 pbnf Some(10) false false all None None
+solve strips d p: 0 1 1/1 16777216 256 256 0 pbnf Some(10) None false false all None None
 > solve --effort 1 strips d --estimate=tables p --pattern 0 --engine hda
-solve strips d p: 0 1 1/1 16777216 256 256 0 hda Some(1) false false all None None
+solve strips d p: 0 1 1/1 16777216 256 256 0 hda Some(1) None false false all None None
 > solve strips --estimate tables d p --cert c --effort=20 --trace j --reachable
-solve strips d p: 0 1 1/1 16777216 256 256 0 pbnf Some(20) false false reachable Some(\"c\") \
+solve strips d p: 0 1 1/1 16777216 256 256 0 pbnf Some(20) None false false reachable Some(\"c\") \
 Some(\"j\")
 > solve grid m s --estimate tables --effort +07
-solve grid m s: 0 1 1/1 16777216 256 256 0 pbnf Some(7) false false all None None
+solve grid m s: 0 1 1/1 16777216 256 256 0 pbnf Some(7) None false false all None None
 > solve tiles b --estimate tables
-solve tiles b: 0 1 1/1 16777216 256 256 0 pbnf Some(10) false false all None None
+solve tiles b: 0 1 1/1 16777216 256 256 0 pbnf Some(10) None false false all None None
 > solve strips d p --effort 5
-solve strips d p: 0 1 1/1 16777216 256 256 0 pbnf None false false all None None
+solve strips d p: 0 1 1/1 16777216 256 256 0 pbnf None None false false all None None
 > solve tiles b --effort 20 --pattern 3
-solve tiles b: 0 1 1/1 16777216 256 256 3 pbnf None false false all None None
+solve tiles b: 0 1 1/1 16777216 256 256 3 pbnf None None false false all None None
 > solve strips --falling 3 d p --effort 2 --num 5 --estimate tables
-falling 3 solve strips d p: 0 1 5/1 16777216 256 256 0 pbnf Some(2) false false all None None
+falling 3 solve strips d p: 0 1 5/1 16777216 256 256 0 pbnf Some(2) None false false all None None
+> solve strips d p --tables t
+solve strips d p: 0 1 1/1 16777216 256 256 0 pbnf None Some(\"t\") false false all None None
+> solve --tables=t strips d --pattern 0 p --engine hda
+solve strips d p: 0 1 1/1 16777216 256 256 0 hda None Some(\"t\") false false all None None
+> solve strips d p --effort 3 --tables t
+solve strips d p: 0 1 1/1 16777216 256 256 0 pbnf None Some(\"t\") false false all None None
+> solve grid m --tables t s
+solve grid m s: 0 1 1/1 16777216 256 256 0 pbnf None Some(\"t\") false false all None None
+> solve tiles b --tables= --cert c
+solve tiles b: 0 1 1/1 16777216 256 256 0 pbnf None Some(\"\") false false all Some(\"c\") None
+> solve strips --falling 2 d --tables tables p --reachable
+falling 2 solve strips d p: 0 1 1/1 16777216 256 256 0 pbnf None Some(\"tables\") false false \
+reachable None None
 ";
 
 // The words are tested in a fixed order. The first test that fails gives the answer.
@@ -243,6 +256,30 @@ words weight
 > solve strips d --pattern 3 --estimate tables
 Files
 words files
+> solve strips d p --tables t --pattern 1
+Estimate
+words estimate
+> solve --pattern=12 grid m s --tables=t --effort 3
+Estimate
+words estimate
+> solve strips d p --estimate tables --tables t
+Estimate
+words estimate
+> solve tiles --tables t b --pattern 0 --estimate=tables
+Estimate
+words estimate
+> solve strips d p --tables t --falling 2 --pattern 3
+Estimate
+words estimate
+> solve tiles b --falling 2 --trace j --tables t --estimate tables
+Falling
+words falling
+> solve tiles b --tables t --engine hda --trace j --pattern 3
+Engine
+words engine
+> solve tiles b --cert j --trace j --pattern 3 --tables t
+Names
+words names
 > solve strips d p --estimate table
 Form
 error: invalid value 'table' for '--estimate <estimate>'
@@ -299,6 +336,20 @@ error: invalid value 'much' for '--effort <effort>': invalid digit found in stri
 > solve strips d p --effort 2 --estimate tables --effort 2
 Form
 error: the argument '--effort <effort>' cannot be used multiple times
+
+Usage: solve [OPTIONS] <KIND> <FIRST_FILE> [SECOND_FILE]
+> solve strips d p --tables t --tables t
+Form
+error: the argument '--tables <tables>' cannot be used multiple times
+
+Usage: solve [OPTIONS] <KIND> <FIRST_FILE> [SECOND_FILE]
+> solve strips d p --tables
+Form
+error: a value is required for '--tables <tables>' but none was supplied
+> solve strips d p --tables t --estimate other
+Form
+error: invalid value 'other' for '--estimate <estimate>'
+  [possible values: tables]
 
 Usage: solve [OPTIONS] <KIND> <FIRST_FILE> [SECOND_FILE]
 > solve grid m --den 2

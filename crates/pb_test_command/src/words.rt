@@ -37,13 +37,14 @@ fn solve_text(alloc: Global, command: &SolveCommand<'_>) -> Result<String, Alloc
     let (row, workers, num, den) = (options.row, settings.workers, settings.num, settings.den);
     let (budget, lot, blocks) = (settings.budget, settings.lot, settings.wish);
     let (pattern, engine) = (settings.pattern, engine_text(command.engine));
-    let effort = command.effort;
+    let (effort, tables) = (command.effort, command.tables);
     let numbers = format!(in alloc;
-        "{row} {workers} {num}/{den} {budget} {lot} {blocks} {pattern} {engine} {effort:?}"
+        "{row} {workers} {num}/{den} {budget} {lot} {blocks} {pattern}"
     )?;
+    let search = format!(in alloc; "{numbers} {engine} {effort:?} {tables:?}")?;
     let (plain, swamp, grounding) = (settings.plain, options.swamp, options.grounding.name());
     let (saved, noted) = (command.certificate, command.journal);
-    format!(in alloc; "solve {input}: {numbers} {plain} {swamp} {grounding} {saved:?} {noted:?}\n")
+    format!(in alloc; "solve {input}: {search} {plain} {swamp} {grounding} {saved:?} {noted:?}\n")
 }
 
 fn falling_text(alloc: Global, command: &FallingCommand<'_>) -> Result<String, AllocError> {
@@ -218,6 +219,13 @@ Form
 error: unexpected argument '--effort' found
 
   tip: to pass '--effort' as a value, use '-- --effort'
+
+Usage: check <KIND> <CERTIFICATE> <FIRST_FILE> <SECOND_FILE>
+> check strips c d p --tables t
+Form
+error: unexpected argument '--tables' found
+
+  tip: to pass '--tables' as a value, use '-- --tables'
 
 Usage: check <KIND> <CERTIFICATE> <FIRST_FILE> <SECOND_FILE>
 > check tiles c b --engine hda

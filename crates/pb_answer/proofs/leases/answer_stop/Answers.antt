@@ -5,5 +5,6 @@ use Rattle.pb_answer.proofs.leases.answer_stop.Goals as goal
 
 pub report_stop-requires : goal.report_stop-requires
 report_stop-requires c =
-    stops (solve_meant c.args.solve.now) c.requires.engine c.args.task.now c.requires.stopped.0
-    c.requires.stopped.1 c.args.graph.now (journals_of c.save_journal-journal.result) c.save_journal-journal.ensures c.requires.stopped.2
+    stops (solve_meant c.args.solve.now) c.requires.engine c.args.task.now c.args.choice.now
+    c.args.graph.now (journals_of c.save_journal-journal.result) c.save_journal-journal.ensures
+    c.requires.stopped

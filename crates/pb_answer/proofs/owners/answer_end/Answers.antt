@@ -5,5 +5,4 @@ use Rattle.pb_answer.proofs.owners.answer_end.Goals as goal
 pub report_end-requires-clause-quiet : goal.report_end-requires-clause-quiet
 report_end-requires-clause-quiet c =
     quiet_rows (solve_meant c.args.solve.now) c.requires.engine c.args.task.now c.args.choice.now
-    c.requires.asked c.args.owners.now
-    c.requires.quiet
+    c.args.owners.now c.requires.quiet

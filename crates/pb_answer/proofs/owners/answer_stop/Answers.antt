@@ -4,5 +4,5 @@ use Rattle.pb_answer.proofs.owners.answer_stop.Goals as goal
 
 pub report_stop-requires : goal.report_stop-requires
 report_stop-requires c =
-    stops (solve_meant c.args.solve.now) c.requires.engine c.args.task.now c.requires.stopped.0
-    c.requires.stopped.1 c.args._owners.now c.requires.stopped.2
+    stops (solve_meant c.args.solve.now) c.requires.engine c.args.task.now c.args.choice.now
+    c.args._owners.now c.requires.stopped

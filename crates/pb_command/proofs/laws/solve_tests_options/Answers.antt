@@ -1,7 +1,7 @@
 use Rattle.std.proofs.Common.{◌∙◌}
 use Rattle.pb_command.specs.declared.table.ValuedOption.TheVariants.{Engine, Certificate, Journal}
 use Rattle.pb_command.specs.Options.{value_given, falling_given, solve_given}
-use Rattle.pb_command.proofs.SolveReading.{solve_is_tested, low_weight, one_name, same_names, other_engine, two_names, lost_journal, pattern_of_estimate_refused}
+use Rattle.pb_command.proofs.SolveReading.{solve_is_tested, low_weight, one_name, same_names, other_engine, two_names, lost_journal, pattern_of_estimate_refused, pattern_beside_file_refused, estimate_beside_file_refused}
 use Rattle.pb_command.proofs.laws.solve_tests_options.Goals as goal
 
 pub returns-clause-weight : goal.returns-clause-weight
@@ -18,3 +18,9 @@ returns-clause-engine c = λ input name arguments are weight names e f. solve_is
 
 pub returns-clause-estimate : goal.returns-clause-estimate
 returns-clause-estimate c = pattern_of_estimate_refused
+
+pub returns-clause-file : goal.returns-clause-file
+returns-clause-file c = pattern_beside_file_refused
+
+pub returns-clause-both : goal.returns-clause-both
+returns-clause-both c = estimate_beside_file_refused

@@ -11,6 +11,7 @@ use Rattle.pb_run.proofs.claims.hand_out_claims.Goals as goal
 pub runs-init : goal.runs-init
 runs-init g c = record {
   solve = refl;
+  choice = refl;
   task = refl;
   steps = refl;
   claimed = (
@@ -27,8 +28,8 @@ pub returns-in-Some-clause-hands : goal.returns-in-Some-clause-hands
 returns-in-Some-clause-hands g c =
     let inv = c.runs.invariant in
     let after = c.in-Some.ensures.after inv.claimed.0 (g.H.Shelf.files c.args.shelf.now) (g.H.Shelf.calls c.args.shelf.now) (g.K.Sink.calls c.args.out.now) (g.K.Sink.written c.args.out.now) inv.claimed.1 inv.claimed.2 in
-    of_first c.runs.search c.args.first inv.solve inv.task inv.steps
-    (λ solve task steps. HandsOutFalling solve task steps (number_of c.in-Some.status) (g.H.Shelf.files c.args.shelf.now) (g.H.Shelf.files c.hand_out_claim.new.shelf)
+    of_first c.runs.search c.args.first inv.solve inv.choice inv.task inv.steps
+    (λ solve choice task steps. HandsOutFalling solve choice task steps (number_of c.in-Some.status) (g.H.Shelf.files c.args.shelf.now) (g.H.Shelf.files c.hand_out_claim.new.shelf)
     (g.H.Shelf.calls c.args.shelf.now) (g.H.Shelf.calls c.hand_out_claim.new.shelf) (g.K.Sink.calls c.args.out.now) (g.K.Sink.calls c.hand_out_claim.new.out)
     (g.K.Sink.written c.args.out.now) (g.K.Sink.written c.hand_out_claim.new.out)) after
 
@@ -37,8 +38,8 @@ returns-in-Some-clause-fits g c known =
     let inv = c.runs.invariant in
     let still = known_still inv.claimed.0 (g.H.Shelf.files c.args.shelf.now) (g.H.Shelf.files c.runs.shelf) (g.H.Shelf.calls c.args.shelf.now) (g.H.Shelf.calls c.runs.shelf)
     (g.K.Sink.calls c.args.out.now) (g.K.Sink.calls c.runs.out) (g.K.Sink.written c.args.out.now) (g.K.Sink.written c.runs.out) inv.claimed.2 known in
-    of_first c.runs.search c.args.first inv.solve inv.task inv.steps
-    (λ solve task steps. ClaimsIfTheyFit solve task steps (number_of c.in-Some.status) (g.H.Shelf.can_hold c.args.shelf.now) (g.K.Sink.can_take c.args.out.now))
+    of_first c.runs.search c.args.first inv.solve inv.choice inv.task inv.steps
+    (λ solve choice task steps. ClaimsIfTheyFit solve choice task steps (number_of c.in-Some.status) (g.H.Shelf.can_hold c.args.shelf.now) (g.K.Sink.can_take c.args.out.now))
     (ends_fit c.runs.search inv.claimed.0 (g.H.Shelf.can_hold c.args.shelf.now) (g.H.Shelf.can_hold c.runs.shelf) (g.K.Sink.can_take c.args.out.now) (g.K.Sink.can_take c.runs.out) inv.claimed.3
     (number_of c.in-Some.status) (c.in-Some.ensures.fits inv.claimed.0 inv.claimed.1 still))
 
@@ -52,8 +53,8 @@ pub returns-in-Err-clause-hands : goal.returns-in-Err-clause-hands
 returns-in-Err-clause-hands g c =
     let inv = c.runs.invariant in
     let after = c.in_default.ensures.after inv.claimed.0 (g.H.Shelf.files c.args.shelf.now) (g.H.Shelf.calls c.args.shelf.now) (g.K.Sink.calls c.args.out.now) (g.K.Sink.written c.args.out.now) inv.claimed.1 inv.claimed.2 in
-    of_first c.runs.search c.args.first inv.solve inv.task inv.steps
-    (λ solve task steps. HandsOutFalling solve task steps 71 (g.H.Shelf.files c.args.shelf.now) (g.H.Shelf.files c.hand_out_claim.new.shelf)
+    of_first c.runs.search c.args.first inv.solve inv.choice inv.task inv.steps
+    (λ solve choice task steps. HandsOutFalling solve choice task steps 71 (g.H.Shelf.files c.args.shelf.now) (g.H.Shelf.files c.hand_out_claim.new.shelf)
     (g.H.Shelf.calls c.args.shelf.now) (g.H.Shelf.calls c.hand_out_claim.new.shelf) (g.K.Sink.calls c.args.out.now) (g.K.Sink.calls c.hand_out_claim.new.out)
     (g.K.Sink.written c.args.out.now) (g.K.Sink.written c.hand_out_claim.new.out))
     (ends_between_claims c.runs.search (inv.claimed.0 ++ part_of after.0 ∷ []) after.2 (g.H.Shelf.files c.args.shelf.now) (g.H.Shelf.files c.hand_out_claim.new.shelf)
@@ -76,6 +77,7 @@ runs-preserved g c =
     let goes = c.in-Ok.ensures.falling after.2.before after.2.machine after.2.run in
     record {
       solve = c.in-Ok.ensures.solve ∙ inv.solve;
+      choice = goes.choice ∙ inv.choice;
       task = c.in-Ok.ensures.task ∙ inv.task;
       steps = c.in-Ok.ensures.steps ∙ inv.steps;
       claimed = (

@@ -9,6 +9,7 @@ use Rattle.pb_run.proofs.claims.hand_out_claims.Given as goal
 abbrev pub invariant-runs : goal.invariant-runs
 invariant-runs g l = record {
   solve : l.search.solve ≡ l.initial.search.solve;
+  choice : l.search.graph.choice ≡ l.initial.search.graph.choice;
   task : l.search.parts ≡ l.initial.search.parts;
   steps : l.search.steps ≡ l.initial.search.steps;
   claimed : (parts : List AnswerPart) × HandedOutBefore l.search parts

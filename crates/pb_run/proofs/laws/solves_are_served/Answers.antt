@@ -6,4 +6,4 @@ pub returns-clause-served : goal.returns-clause-served
 returns-clause-served c = solves_are_served c.journal_texts_are_short.ensures
 
 pub returns-clause-heads : goal.returns-clause-heads
-returns-clause-heads c = heads_are_short
+returns-clause-heads c = heads_are_short c.tables_are_read_as_written.ensures

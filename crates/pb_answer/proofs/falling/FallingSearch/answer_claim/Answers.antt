@@ -1,21 +1,23 @@
-use Rattle.std.proofs.Common.{◌≡◌, Some, [], ◌++◌, refl, ap, sym, ◌∙◌, subst}
+use Rattle.std.proofs.Common.{◌≡◌, true, Some, [], ◌++◌, refl, ap, sym, ◌∙◌, subst}
 use Rattle.std.specs.Arc.{arc_value}
 use Rattle.pb_model.specs.Plan.{Plan, IsBound}
 use Rattle.pb_task.specs.declared.parts.TaskParts.{TaskParts}
 use Rattle.pb_task.specs.Parts.{space_of}
 use Rattle.pb_estimate.specs.Choices.{Choice}
+use Rattle.pb_estimate.specs.Estimates.{suits}
 use Rattle.pb_lists.specs.Store.{IsQuietEnd}
 use Rattle.pb_abstract.specs.Graph.{home_of}
 use Rattle.pb_lease.specs.Begins.{home_store}
 use Rattle.pb_report.specs.Texts.{AreActions, claim_text}
 use Rattle.pb_command.specs.Causes.{solve_meant}
-use Rattle.pb_answer.specs.Searches.{weight_asked, IsChoiceAsked}
+use Rattle.pb_answer.specs.Searches.{weight_asked}
 use Rattle.pb_answer.specs.Ended.{guide_by}
 use Rattle.pb_answer.specs.Answer.{Said, certificates_of}
 use Rattle.pb_answer.specs.Falling.{asked_of_run}
 use Rattle.pb_answer.specs.FallingRuns.{FallingValue, weight_now, IsFalling, SaysClaimNow}
 use Rattle.pb_answer.proofs.FallingLast.{claim_is_quiet}
-use Rattle.pb_answer.proofs.FallingSaid.{asked_here, certified, end_here, plan_actions, claim_said}
+use Rattle.pb_answer.proofs.FallingRuns.{suits_here}
+use Rattle.pb_answer.proofs.FallingSaid.{certified, end_here, plan_actions, claim_said}
 use Rattle.pb_answer.proofs.falling.FallingSearch.answer_claim.Goals as goal
 
 pub of_claim-requires : goal.of_claim-requires
@@ -41,16 +43,13 @@ certify-requires-clause-end c =
     (home_store c.self.inside.graph)) (sym c.choice.ensures.choice)
     (end_here c.requires.after.0 c.requires.after.1 _ f quiet))
 
-pub certify-requires-clause-asked : goal.certify-requires-clause-asked
-certify-requires-clause-asked c =
+pub certify-requires-clause-suits : goal.certify-requires-clause-suits
+certify-requires-clause-suits c =
     let f = subst (λ (v : FallingValue). IsFalling c.requires.after.0 c.requires.after.1 v)
     (sym c.self.view_is) c.requires.after.2 in
-    let solve = solve_meant c.words-words.result in
-    let words = subst (λ (v : FallingValue). solve ≡ asked_of_run v.solve v.steps v.run)
-    (sym c.self.view_is) c.words-words.ensures in
-    subst (λ (p : TaskParts). IsChoiceAsked solve p c.choice.result.now) (sym c.deref-2.ensures)
-    (subst (λ (choice : Choice). IsChoiceAsked solve (arc_value c.self.inside.task) choice)
-    (sym c.choice.ensures.choice) (asked_here c.requires.after.0 c.requires.after.1 _ f solve words))
+    subst (λ (p : TaskParts). suits p c.choice.result.now ≡ true) (sym c.deref-2.ensures)
+    (subst (λ (choice : Choice). suits (arc_value c.self.inside.task) choice ≡ true)
+    (sym c.choice.ensures.choice) (suits_here c.requires.after.0 c.requires.after.1 _ f))
 
 pub returns : goal.returns
 returns c before machine falling =

@@ -1,17 +1,15 @@
-use Rattle.std.proofs.Common.{◌≡◌, true, None, [], sym, ◌∙◌, subst}
+use Rattle.std.proofs.Common.{◌≡◌, None, [], ap, sym, ◌∙◌, subst}
 use Rattle.std.proofs.lemmas.Result.{IfOk-weaker}
 use Rattle.std.specs.Arc.{arc_value}
 use Rattle.pb_machine.specs.Machine.{Machine}
 use Rattle.pb_task.specs.declared.parts.TaskParts.{TaskParts}
 use Rattle.pb_estimate.specs.Choices.{Choice}
-use Rattle.pb_estimate.specs.Estimates.{suits}
 use Rattle.pb_abstract.specs.Projection.{IsFinest}
 use Rattle.pb_abstract.specs.Graph.{IsGraphOf}
+use Rattle.pb_lease.specs.GraphValue.{GraphValue}
 use Rattle.pb_search.specs.Ends.{IsLeftBySearch}
 use Rattle.pb_command.specs.Causes.{solve_meant}
-use Rattle.pb_answer.specs.Searches.{IsChoiceAsked}
 use Rattle.pb_answer.specs.FallingRuns.{FallingValue, IsFalling}
-use Rattle.pb_answer.proofs.Asked.{asked_suits}
 use Rattle.pb_answer.proofs.FallingBegins.{IsMade, quiet_rows_of, all_made, first_falls}
 use Rattle.pb_answer.proofs.falling.FallingSearch.start.Goals as goal
 
@@ -22,10 +20,14 @@ after_run-requires-clause-quiet g c = λ quiet.
     (c.in_ok-graph.ensures.task ∙ sym c.in_ok-task.ensures.cases) best.best best.small
 
 pub search-requires-clause-suits : goal.search-requires-clause-suits
-search-requires-clause-suits g c κs within =
-    subst (λ (p : TaskParts). suits p c.in_ok-choice.choice ≡ true) c.deref.ensures
-    (asked_suits (solve_meant c.args.falling.solve) c.deref.result.now c.in_ok-choice.choice
-    c.requires.solve c.in_ok-choice.ensures)
+search-requires-clause-suits g c κs within = c.requires.suits
+
+pub returns-clause-choice : goal.returns-clause-choice
+returns-clause-choice g c =
+    IfOk-weaker c.after_run.result (λ (s : FallingValue). s.graph ≡ c.in_ok-graph.graph)
+    (λ (s : FallingValue). s.graph.choice ≡ c.args.choice)
+    (λ s is. ap (λ (v : GraphValue). v.choice) is ∙ c.in_ok-graph.ensures.choice)
+    c.after_run.ensures.graph
 
 pub returns-clause-falling : goal.returns-clause-falling
 returns-clause-falling g c =
@@ -37,14 +39,11 @@ returns-clause-falling g c =
     let task : graph.task ≡ parts = c.in_ok-graph.ensures.task ∙ its in
     IfOk-weaker c.after_run.result (IsMade solve parts steps 0 graph None)
     (λ (s : FallingValue). (machine : Machine) × IsFalling [] machine s)
-    (first_falls solve steps c.requires parts graph c.abstraction-lawful.ensures.lawful task
+    (first_falls solve steps c.requires.range parts graph c.abstraction-lawful.ensures.lawful task
     (subst (λ (p : TaskParts). IsGraphOf p graph.table.abstraction) its c.in_ok-graph.ensures.blocks)
     (subst (λ (p : TaskParts). IsFinest p solve.settings.wish graph.table.abstraction.projection) its
     c.in_ok-graph.ensures.finest)
     c.in_ok-graph.ensures.settings
-    (subst (λ (choice : Choice). IsChoiceAsked solve parts choice) (sym c.in_ok-graph.ensures.choice)
-    (subst (λ (p : TaskParts). IsChoiceAsked solve p c.in_ok-choice.choice)
-    (c.deref.ensures ∙ its) c.in_ok-choice.ensures))
     c.in_ok-graph.ensures.past
     c.in_ok-graph.ensures.ended
     (λ quiet. let best = c.in_ok-graph.ensures.quiet quiet in
