@@ -97,9 +97,14 @@ def change_tables(random, text):
     lines = versions.tables_of(text)
     if not lines:
         return change_text(random, text)
+    return versions.with_tables(text, change_file_of_tables(random, lines))
+
+
+def change_file_of_tables(random, lines):
+    """The lines that state tables, with one value, image, atom, count or line changed."""
     ways = [change_value, change_value, change_value, change_image, change_image, drop_image,
             drop_image, add_image, change_lines, change_number, change_text]
-    return versions.with_tables(text, random.choice(ways)(random, lines))
+    return random.choice(ways)(random, lines)
 
 
 def change_line_of_tables(random, lines, form, change):

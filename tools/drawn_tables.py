@@ -2,7 +2,8 @@
 
 A table has the least costs of the task cut to one to four atoms. Where there are several tables, an
 earlier one leaves for the later ones what it doesn't need of each action's cost. A trap has the
-images from which such a cut task has no way to a goal. `changes.py` spoils them.
+images from which such a cut task has no way to a goal. `changes.py` spoils them. The same lines are
+a file of tables for `solve --tables`.
 """
 
 import itertools
@@ -17,8 +18,7 @@ MOST_ATOMS = 4  # that a table or a trap tracks
 def with_drawn_tables(random, checker, task, text):
     """The certificate of a STRIPS task with drawn tables and traps for its estimate. Some closed
     rows that may be cut are cut, and often the weight is raised until all cut rows may be."""
-    lines = lines_of(task.digits, *drawn_lists(random, task))
-    text = versions.with_tables(text, lines)
+    text = versions.with_tables(text, drawn_file(random, task))
     estimate = checker.Certificate(text).tables.estimate
     lines, first, count = changes.rows_of(text)
     rows = [(row.split(b" "), estimate(int(row.split(b" ")[0], 16)))
@@ -33,6 +33,11 @@ def with_drawn_tables(random, checker, task, text):
     lines[first:first + count] = [b" ".join(row) for row, _ in rows]
     lines[changes.weight_of(text)] = b"weight %d 1" % num
     return b"\n".join(lines)
+
+
+def drawn_file(random, task):
+    """The text of a file of tables: drawn tables and traps that suit the task."""
+    return lines_of(task.digits, *drawn_lists(random, task))
 
 
 def lines_of(digits, sums, tables, traps):

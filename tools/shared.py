@@ -12,6 +12,7 @@ import subprocess
 import sys
 import time
 
+import drawn_tables
 from changes import change_certificate, change_text, changed, cut  # noqa: F401 (the tools' names)
 
 ROOT = pathlib.Path(__file__).resolve().parent.parent
@@ -104,12 +105,22 @@ def drawn_pattern(random):
     return str(random.choice([0] * 8 + [1, 2, 3, 3, 4, 6, 9, 12]))
 
 
-def drawn_estimate(random, task):
-    """Words of `solve` for the estimate: a pattern number, in half of the cases none, or tables.
-    For maps and boards tables change nothing."""
-    if random.random() < 0.7:
+FILE_OF_TABLES = "tables"  # its name in a task's folder
+
+
+def drawn_estimate(random, task, folder="."):
+    """Words of `solve` for the estimate: a pattern number, in half of the cases none, tables that
+    are looked for, or drawn ones that suit the task, in a file of this folder. For maps and boards
+    tables change nothing, and there is no such file."""
+    way = random.random()
+    if way < 0.6:
         return ["--pattern", drawn_pattern(random)]
-    return ["--estimate", "tables", *drawn_effort(random, task)]
+    if way < 0.8:
+        return ["--estimate", "tables", *drawn_effort(random, task)]
+    if task.kind == "strips":  # (of a task that is refused they aren't looked at)
+        text = b"" if task.has_too_many_atoms() else drawn_tables.drawn_file(random, task.read())
+        (pathlib.Path(folder) / FILE_OF_TABLES).write_bytes(text)
+    return ["--tables", FILE_OF_TABLES, *drawn_effort(random, task) * (random.random() < 0.1)]
 
 
 def drawn_effort(random, task):

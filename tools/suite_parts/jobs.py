@@ -43,6 +43,9 @@ def column_of(word: str) -> Column:
     for word in words:
         if word.split("=")[0] in GIVEN_BY_SUITE:
             raise Faulty(f"--column {name}: {word} is given by the suite itself")
+        if word.split("=")[0] == "--tables":
+            raise Faulty(f"--column {name}: a file of tables is for one problem, and a column for "
+                         "all; --estimate tables looks for tables")
     return Column(name, words)
 
 

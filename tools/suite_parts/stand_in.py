@@ -1,8 +1,8 @@
 #!/usr/bin/env python3
 """A stand-in for the built program in the tests of tools/suite: `solve` by a plain A* over the tasks
 of the second checker, with certificate and journal, and `check` by that checker. It knows
-`--pattern` and `--reachable`. With `--estimate tables` its certificate states no table, and with
-`--falling` it claims the same plan at each weight.
+`--pattern`, `--reachable` and `--tables`. With `--estimate tables` its certificate states no table,
+and with `--falling` it claims the same plan at each weight.
 
 Some lots make it behave badly on purpose: 2001 never ends, 2002 takes memory without end, 2003 ends
 by a signal, 2004 saves a certificate with another cost, 2005 never ends after a claim, 2006 stops
@@ -19,9 +19,11 @@ import sys
 import time
 
 sys.dont_write_bytecode = True
-sys.path.insert(0, str(pathlib.Path(__file__).resolve().parent.parent.parent / "checker"))
+TOOLS = pathlib.Path(__file__).resolve().parent.parent
+sys.path[:0] = [str(TOOLS), str(TOOLS.parent / "checker")]
 
 import pbnf_check  # noqa: E402
+import table_files  # noqa: E402
 
 STEPS = ("up", "down", "left", "right")
 ENDLESS, GREEDY, KILLED, WRONG, LATE, UNGROUNDED = range(2001, 2007)
@@ -41,6 +43,7 @@ def options_of(words):
     parser.add_argument("--engine")
     parser.add_argument("--estimate", choices=("tables",))
     parser.add_argument("--effort", type=int, default=10)
+    parser.add_argument("--tables")
     parser.add_argument("--cert")
     parser.add_argument("--trace")
     try:
@@ -83,16 +86,23 @@ def plan_to(state, parents):
     return actions[::-1]
 
 
-def has_tables(task, options):
-    """Whether the estimate is that of tables: there are none, so it is 0."""
-    return task.kind == "strips" and options.estimate == "tables"
+NO_TABLES = b"estimate tables 1 0 0\n"
+
+
+def tables_asked(task, options):
+    """The lines of the tables that the estimate goes by, or None. Where tables are looked for, none
+    are found, and each estimate is 0."""
+    if task.kind != "strips" or not options.estimate and options.tables is None:
+        return None
+    return NO_TABLES if options.estimate else pathlib.Path(options.tables).read_bytes()
 
 
 def certificate_of(task, options, weight, plan, cost, rows, closed):
     pattern, lines = options.pattern, [f"kind {task.kind}", f"width {task.digits}"]
-    if has_tables(task, options):
+    tables = tables_asked(task, options)
+    if tables is not None:
         lines.insert(0, "pbnf-certificate 4")
-        lines += [f"grounding {task.grounding}", "estimate tables 1 0 0"]
+        lines += [f"grounding {task.grounding}", *tables.decode().splitlines()]
     elif task.grounding == "all":
         lines.insert(0, f"pbnf-certificate {3 if pattern else 2}")
         lines += [f"pattern {pattern}"] * (pattern > 0)
@@ -113,6 +123,8 @@ def solve(options):
     try:
         task = pbnf_check.KINDS[options.kind][0](options.row, *texts, swamp=options.swamp,
                                                  reachable=options.reachable)
+        lines = tables_asked(task, options)
+        tables = None if lines is None else table_files.read(pbnf_check, task, lines)
     except pbnf_check.Refused as refused:
         print("input", *refused.args)
         return 65
@@ -120,8 +132,7 @@ def solve(options):
     if options.lot == UNGROUNDED:
         print("stopped grounding")
         return 2
-    estimate = (lambda _: 0) if has_tables(task, options) else pbnf_check.estimate_by(
-        task, options.pattern)
+    estimate = pbnf_check.estimate_by(task, options.pattern, tables)
     found = search(task, options.budget, estimate)
     if found is None:
         print(f"stopped budget {options.budget}")

@@ -96,6 +96,12 @@ class Folders(Case):
         self.assertEqual(run.returncode, 64)
         self.assertIn("a run has 4 workers, and there are 2 places", run.stderr)
 
+    def test_a_file_of_tables_is_for_one_problem(self) -> None:
+        for option in ("--tables t", "--tables=t"):
+            run = self.run_suite(BOARD, "--column", f"file={option}")
+            self.assertEqual(run.returncode, 64)
+            self.assertIn("a file of tables is for one problem, and a column for all", run.stderr)
+
     def test_faulty_words(self) -> None:
         for words in (["run"], ["run", BOARD], ["nonsense"], ["show"], [
                 "run", BOARD, "--out", self.out, "--seconds", "never"], [
