@@ -23,11 +23,11 @@ use Rattle.pb_table_lines.proofs.States.{state_word_is}
 use Rattle.pb_table_lines.proofs.Loops.{images_of}
 use Rattle.pb_table_lines.proofs.Readable.{front_taken, front_dropped, line_then, IsSmall, HasDigits, listing_of, CanBeListed, Fit, TrapFit, trap_listings, tables_again, reading_again}
 
-bind_ok : {A B : Type 0} (r : Result A ℕ) (f : A → Result B ℕ) (y : B) → (r >>= f) ≡ Ok y → (x : A) × (r ≡ Ok x) × (f x ≡ Ok y)
+pub bind_ok : {A B : Type 0} (r : Result A ℕ) (f : A → Result B ℕ) (y : B) → (r >>= f) ≡ Ok y → (x : A) × (r ≡ Ok x) × (f x ≡ Ok y)
 bind_ok (Ok x) f y e = (x, refl, e)
 bind_ok (Err d) f y e = absurd cc
 
-wanted_ok : {A : Type 0} (line : ℕ) (o : Option A) (x : A) → wanted line o ≡ Ok x → o ≡ Some x
+pub wanted_ok : {A : Type 0} (line : ℕ) (o : Option A) (x : A) → wanted line o ≡ Ok x → o ≡ Some x
 wanted_ok line None x e = absurd cc
 wanted_ok {A} line (Some y) x e = ap (λ (z : A). Some z) (go y x e)
   where

@@ -111,7 +111,7 @@ values_again line (value ∷ values) small =
     ∙ ap (λ (w : List ℕ). values_in (length values) line w >>= λ others. fine (value ∷ others)) (behind_word_again (decimal value) values none)
     ∙ ap (λ r. r >>= λ others. fine (value ∷ others)) (values_again line values (All-tail IsSmall value values small))
 
-values_none : (values : List ℕ) → All IsSmall values → has_none 10 (values_text values) ≡ true
+pub values_none : (values : List ℕ) → All IsSmall values → has_none 10 (values_text values) ≡ true
 values_none [] small = refl
 values_none (value ∷ values) small =
     let first : value ≤ 2 ^ 40 = All-head IsSmall value values small in

@@ -24,18 +24,18 @@ whole_both one two is (inl none) =
 whole_both one two is (inr (front, last)) =
     inr (one ++ front, ap (λ (r : List ℕ). one ++ r) last ∙ sym (append_assoc one front (10 ∷ [])))
 
-feeds_line : (first rest : List ℕ) → has_none 10 first ≡ true
+pub feeds_line : (first rest : List ℕ) → has_none 10 first ≡ true
     → line_feeds (first ++ 10 ∷ rest) ≡ suc (line_feeds rest)
 feeds_line first rest none = one_feed (first ++ 10 ∷ rest) first rest (part_again 10 first rest none)
 
-same_first : (text first rest : List ℕ) (x : List ℕ × List ℕ) → part 10 text ≡ Some x
+pub same_first : (text first rest : List ℕ) (x : List ℕ × List ℕ) → part 10 text ≡ Some x
     → text ≡ first ++ 10 ∷ rest → has_none 10 first ≡ true → x.0 ≡ first
 same_first text first rest x is text_is none =
     let there : part 10 text ≡ Some (first, rest) =
     ap (part 10) text_is ∙ part_again 10 first rest none in
     ap (λ (p : List ℕ × List ℕ). p.0) (same_Some x (first, rest) (sym is ∙ there))
 
-no_first : (text first rest : List ℕ) → part 10 text ≡ None → text ≡ first ++ 10 ∷ rest
+pub no_first : (text first rest : List ℕ) → part 10 text ≡ None → text ≡ first ++ 10 ∷ rest
     → has_none 10 first ≡ true → ⊥
 no_first text first rest is text_is none =
     let there : part 10 text ≡ Some (first, rest) =

@@ -14,10 +14,10 @@ use Rattle.pb_table_lines.proofs.TableReaders.{tables_reader}
 
 -- ---- a reader stops where a text is cut off
 
-feeds_cons : (b : ℕ) (bs : List ℕ) → line_feeds (b ∷ bs) ≡ cond (eqb b 10) 1 0 + line_feeds bs
+pub feeds_cons : (b : ℕ) (bs : List ℕ) → line_feeds (b ∷ bs) ≡ cond (eqb b 10) 1 0 + line_feeds bs
 feeds_cons b bs = sum_by-cons (λ (c : ℕ). cond (eqb c 10) 1 0) b bs
 
-feeds_both : (xs ys : List ℕ) → line_feeds (xs ++ ys) ≡ line_feeds xs + line_feeds ys
+pub feeds_both : (xs ys : List ℕ) → line_feeds (xs ++ ys) ≡ line_feeds xs + line_feeds ys
 feeds_both [] ys = let none : line_feeds [] ≡ 0 = refl in omega (arith, none)
 feeds_both (x ∷ xs) ys =
     let a = feeds_cons x (xs ++ ys) in

@@ -98,7 +98,7 @@ split n from word =
     ∙ behind n (take 16 (drop from word)) (drop 16 (drop from word))
     ∙ ap (λ (ys : List ℕ). option_and_then (λ m. hex_after m ys) (hex_after n (take 16 (drop from word)))) (drop-drop 16 from word)
 
-sixteen_long : (from : ℕ) (word : List ℕ) → from + 16 ≤ length word → length (take 16 (drop from word)) ≡ 16
+pub sixteen_long : (from : ℕ) (word : List ℕ) → from + 16 ≤ length word → length (take 16 (drop from word)) ≡ 16
 sixteen_long from word within =
     let left : length (drop from word) ≡ length word - from = length-drop from word in
     length-take-le 16 (drop from word) (omega (arith, left, within))
@@ -146,7 +146,7 @@ all_read total left word words none so_far =
 
 -- ---- the digits of the highest word
 
-highest : (words : List ℕ) (last v : ℕ) → last + 1 ≡ length words → number_of (drop last (set words last v)) ≡ v
+pub highest : (words : List ℕ) (last v : ℕ) → last + 1 ≡ length words → number_of (drop last (set words last v)) ≡ v
 highest words last v is =
     let none : drop (last + 1) words ≡ [] = drop_of_length-le words (omega (arith, is)) in
     ap number_of (drop-set words last v (omega (arith, is))) ∙ ap (λ (ws : List ℕ). number_of ws * 2 ^ 64 + v) none ∙ (let e : 0 * 2 ^ 64 + v ≡ v = omega arith in e)
