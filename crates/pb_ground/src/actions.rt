@@ -33,6 +33,15 @@ pub struct ActionInstance {
     pub cost: u64,
 }
 
+/// A task with what its instances need: what tests their static atoms, and the numbers of others.
+#[derive(Clone, Copy)]
+struct IndexedTask<'a> {
+    lifted: &'a Lifted,
+    statics: &'a Statics,
+    /// The ground atoms that have numbers.
+    atoms: &'a Atoms,
+}
+
 /// How many ground actions there may be.
 const LIMIT: usize = 65_536;
 
@@ -81,29 +90,27 @@ fn add_rows(
 /// Adds the ground actions of a schema. `TooManyActions`: there would be more than may be.
 fn add_actions(
     alloc: Global,
-    statics: &Statics,
-    lifted: &Lifted,
-    atoms: &Atoms,
+    task: &IndexedTask,
     i: usize,
     schema: &Schema,
     actions: &mut Listed<ActionInstance>,
     looks: &mut Looks,
 ) -> Result<(), GroundError>
-    requires statics { AreStatics statics.now lifted.now }
+    requires statics { AreStatics task.now.statics.now task.now.lifted.now }
     requires few { length actions.old ≤ 65536 }
     ensures added { OnOk result (actions.new ≡ actions.old
-        ++ actions_of lifted.now atoms.now i schema.now) }
+        ++ actions_of task.now.lifted.now task.now.atoms.now i schema.now) }
     ensures few { OnOk result (length actions.new ≤ 65536) }
-    ensures full { IfErr result (TellsFull 65536 (actions.old ++ actions_of lifted.now atoms.now i
-        schema.now)) }
+    ensures full { IfErr result (TellsFull 65536 (actions.old
+        ++ actions_of task.now.lifted.now task.now.atoms.now i schema.now)) }
     ensures stopped { IfErr result (TellsStop looks.new) }
     ensures since { looks.new.since ≡ looks.old.since }
     ensures rising { looks.old.taken ≤ looks.new.taken }
 {
-    let numbers = static_numbers(alloc, statics, schema.pre.as_slice())?;
+    let numbers = static_numbers(alloc, task.statics, schema.pre.as_slice())?;
     let search = Search {
-        statics,
-        lifted,
+        statics: task.statics,
+        lifted: task.lifted,
         atoms: schema.pre.as_slice(),
         tested: numbers.as_slice(),
         kinds: schema.params.as_slice(),
@@ -111,7 +118,7 @@ fn add_actions(
         limit: LIMIT - actions.as_slice().len(),
     };
     let rows = instances(alloc, &search, looks)?;
-    add_rows(alloc, atoms, i, schema, rows.as_slice(), actions)?;
+    add_rows(alloc, task.atoms, i, schema, rows.as_slice(), actions)?;
     Ok(())
 }
 
@@ -151,9 +158,14 @@ pub fn actions_in(
     // `Statics::of` goes over all atoms of `:init`; each of them takes a look before that.
     look_at_all(task.init.as_slice(), looks)?;
     let statics = Statics::of(alloc, task)?;
+    let indexed = IndexedTask {
+        lifted: task,
+        statics: &statics,
+        atoms,
+    };
     let mut actions = Listed::new(alloc);
     for (i, schema) in schemas.iter().enumerate() {
-        add_actions(alloc, &statics, task, atoms, i, schema, &mut actions, looks)?;
+        add_actions(alloc, &indexed, i, schema, &mut actions, looks)?;
     }
     Ok(actions)
 }
