@@ -11,7 +11,7 @@ ghost use Rattle.pb_ground.specs.Atoms.{ground_atoms};
 ghost use Rattle.pb_strips.specs.Refusals.{first_fault, Tells, TellsStop, IsNoFault, IsWithinLimits};
 
 use crate::error::StripsError;
-use crate::parts::parts_of;
+use crate::parts::{GroundTask, parts_of};
 use pb_ground::{Atoms, Looks, ground_actions, ground_atoms, is_never};
 use pb_lifted::{Lifted, resolve};
 use pb_pddl::{Domain, Problem};
@@ -40,17 +40,14 @@ fn task_by(
 {
     let actions = ground_actions(alloc, lifted, atoms, looks)?;
     let never = is_never(alloc, lifted)?;
-    let actions = actions.as_slice();
-    let parts = parts_of(
-        alloc,
-        domain,
-        problem,
-        Grounding::All,
+    let ground = GroundTask {
         lifted,
+        grounding: Grounding::All,
         atoms,
-        actions,
+        actions: actions.as_slice(),
         never,
-    )?;
+    };
+    let parts = parts_of(alloc, domain, problem, &ground)?;
     Ok(Task::of_strips(parts))
 }
 

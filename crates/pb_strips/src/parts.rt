@@ -62,36 +62,43 @@ fn packed_actions(
     Ok(all)
 }
 
-/// The task of a domain and a problem, from its grounding, its atoms and actions, and whether it has
-/// no goal state: whichever atoms these are the task for.
+/// A lifted task that is grounded.
+#[derive(Clone, Copy)]
+pub(crate) struct GroundTask<'a> {
+    pub(crate) lifted: &'a Lifted,
+    /// Which atoms and actions these are.
+    pub(crate) grounding: Grounding,
+    pub(crate) atoms: &'a Atoms,
+    pub(crate) actions: &'a [ActionInstance],
+    /// Whether it has no goal state, whichever of the atoms hold.
+    pub(crate) never: bool,
+}
+
+/// The task of a domain and a problem, from its ground task: whichever atoms these are the task for.
 pub(crate) fn parts_of(
     alloc: Global,
     domain: &Domain,
     problem: &Problem,
-    grounding: Grounding,
-    lifted: &Lifted,
-    atoms: &Atoms,
-    actions: &[ActionInstance],
-    never: bool,
+    task: &GroundTask,
 ) -> Result<StripsParts, AllocError>
-    requires lifted { lifted.now ≡ lifted_of domain.now problem.now }
-    requires few { length atoms.now ≤ most_atoms }
-    requires actions { All (HasAtoms most_atoms) actions.now }
+    requires lifted { task.now.lifted.now ≡ lifted_of domain.now problem.now }
+    requires few { length task.now.atoms.now ≤ most_atoms }
+    requires actions { All (HasAtoms most_atoms) task.now.actions.now }
     ensures { IfOk result (λ parts. (kept : Facts)
-        → actions.now ≡ kept_actions lifted.now kept atoms.now
-        → never ≡ kept_never lifted.now kept
-        → parts ≡ strips_by domain.now problem.now grounding kept atoms.now) }
+        → task.now.actions.now ≡ kept_actions task.now.lifted.now kept task.now.atoms.now
+        → task.now.never ≡ kept_never task.now.lifted.now kept
+        → parts ≡ strips_by domain.now problem.now task.now.grounding kept task.now.atoms.now) }
 {
-    let first = start(alloc, lifted, atoms)?;
-    let wanted = goal(alloc, lifted, atoms)?;
-    let actions = packed_actions(alloc, domain, problem, actions)?;
+    let first = start(alloc, task.lifted, task.atoms)?;
+    let wanted = goal(alloc, task.lifted, task.atoms)?;
+    let actions = packed_actions(alloc, domain, problem, task.actions)?;
     Ok(StripsParts {
         // Nothing is cut off: by `few` there are at most `MOST_ATOMS`.
-        atoms: atoms.as_slice().len() as u32,
+        atoms: task.atoms.as_slice().len() as u32,
         actions,
         start: set_of(first.as_slice()),
         goal: set_of(wanted.as_slice()),
-        never,
-        grounding,
+        never: task.never,
+        grounding: task.grounding,
     })
 }

@@ -14,7 +14,7 @@ ghost use Rattle.pb_strips.specs.Grounding.{reached_strips};
 ghost use Rattle.pb_strips.specs.Refusals.{TellsReached, TellsStop, IsNoFault};
 
 use crate::error::StripsError;
-use crate::parts::parts_of;
+use crate::parts::{GroundTask, parts_of};
 use pb_ground::Looks;
 use pb_lifted::{Lifted, resolve};
 use pb_pddl::{Domain, Problem};
@@ -40,18 +40,14 @@ fn task_by(
     requires never { reached.now.never ≡ kept_never lifted.now (is_reached lifted.now) }
     ensures { IfOk result (λ task. task ≡ Strips (reached_strips domain.now problem.now)) }
 {
-    let atoms = &reached.atoms;
-    let actions = reached.actions.as_slice();
-    let parts = parts_of(
-        alloc,
-        domain,
-        problem,
-        Grounding::Reachable,
+    let ground = GroundTask {
         lifted,
-        atoms,
-        actions,
-        reached.never,
-    )?;
+        grounding: Grounding::Reachable,
+        atoms: &reached.atoms,
+        actions: reached.actions.as_slice(),
+        never: reached.never,
+    };
+    let parts = parts_of(alloc, domain, problem, &ground)?;
     Ok(Task::of_strips(parts))
 }
 

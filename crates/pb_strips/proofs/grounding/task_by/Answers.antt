@@ -33,7 +33,7 @@ parts_of-requires-clause-actions c =
     let lifted = c.args.lifted.now in
     let atoms = c.args.atoms.now in
     let few : length atoms ≤ most_atoms = subst (λ (xs : List GroundAtom). length xs ≤ most_atoms) (sym c.requires.atoms) c.requires.few in
-    subst (λ (xs : List ActionInstance). All (HasAtoms most_atoms) xs) (sym (c.as_slice-actions.ensures ∙ c.in_ok-actions.ensures.actions))
+    subst (λ (xs : List ActionInstance). All (HasAtoms most_atoms) xs) (sym (c.as_slice.ensures ∙ c.in_ok-actions.ensures.actions))
     (have_below (length atoms) most_atoms (ground_actions lifted atoms) few (actions_have lifted (keep_all lifted) atoms 0 lifted.actions))
 
 pub of_strips-requires : goal.of_strips-requires
@@ -43,7 +43,7 @@ of_strips-requires c =
     subst IsStrips
     (sym
     (all_parts c.args.domain.now c.args.problem.now lifted c.args.atoms.now c.in_ok-parts.parts c.requires.lifted c.requires.atoms
-    (c.in_ok-parts.ensures (keep_all lifted) (c.as_slice-actions.ensures ∙ c.in_ok-actions.ensures.actions) c.in_ok-never.ensures)))
+    (c.in_ok-parts.ensures (keep_all lifted) (c.as_slice.ensures ∙ c.in_ok-actions.ensures.actions) c.in_ok-never.ensures)))
     (is_strips c.args.domain.now c.args.problem.now groundings.All (keep_all task) (ground_atoms task) c.requires.resolved (few_atoms lifted task c.requires.lifted c.requires.few)
     (few_actions lifted task c.args.atoms.now c.requires.lifted c.requires.atoms c.in_ok-actions.ensures.few))
 
@@ -59,7 +59,7 @@ returns-clause-task c =
     c.of_strips.ensures
     ∙ ap (λ (parts : StripsParts). Strips parts)
     (all_parts c.args.domain.now c.args.problem.now c.args.lifted.now c.args.atoms.now c.in_ok-parts.parts c.requires.lifted c.requires.atoms
-    (c.in_ok-parts.ensures (keep_all c.args.lifted.now) (c.as_slice-actions.ensures ∙ c.in_ok-actions.ensures.actions) c.in_ok-never.ensures))
+    (c.in_ok-parts.ensures (keep_all c.args.lifted.now) (c.as_slice.ensures ∙ c.in_ok-actions.ensures.actions) c.in_ok-never.ensures))
 
 pub returns-in_err-actions-clause-stopped : goal.returns-in_err-actions-clause-stopped
 returns-in_err-actions-clause-stopped c =

@@ -18,7 +18,7 @@ pub parts_of-requires-clause-actions : goal.parts_of-requires-clause-actions
 parts_of-requires-clause-actions c =
     let lifted = c.args.lifted.now in
     let atoms = c.args.reached.now.atoms in
-    subst (λ (xs : List ActionInstance). All (HasAtoms most_atoms) xs) (sym (c.as_slice-actions.ensures ∙ c.requires.actions))
+    subst (λ (xs : List ActionInstance). All (HasAtoms most_atoms) xs) (sym (c.as_slice.ensures ∙ c.requires.actions))
     (have_below (length atoms) most_atoms (kept_actions lifted (is_reached lifted) atoms) c.requires.few (actions_have lifted (is_reached lifted) atoms 0 lifted.actions))
 
 pub of_strips-requires : goal.of_strips-requires
@@ -29,7 +29,7 @@ of_strips-requires c =
     let few : length (kept_actions task (is_reached lifted) atoms) ≤ 65536 =
     subst (λ (l : Lifted). length (kept_actions l (is_reached lifted) atoms) ≤ 65536) c.requires.lifted
     (subst (λ (all : List ActionInstance). length all ≤ 65536) c.requires.actions c.requires.few_actions) in
-    subst IsStrips (sym (c.in_ok-parts.ensures (is_reached lifted) (c.as_slice-actions.ensures ∙ c.requires.actions) c.requires.never))
+    subst IsStrips (sym (c.in_ok-parts.ensures (is_reached lifted) (c.as_slice.ensures ∙ c.requires.actions) c.requires.never))
     (is_strips c.args.domain.now c.args.problem.now Reachable (is_reached lifted) atoms c.requires.resolved c.requires.few few)
 
 pub returns : goal.returns
@@ -38,4 +38,4 @@ returns c =
     c.of_strips.ensures
     ∙ ap (λ (parts : StripsParts). Strips parts)
     (reached_parts c.args.domain.now c.args.problem.now lifted c.args.reached.now.atoms c.in_ok-parts.parts c.requires.resolved c.requires.lifted c.requires.atoms
-    (c.in_ok-parts.ensures (is_reached lifted) (c.as_slice-actions.ensures ∙ c.requires.actions) c.requires.never))
+    (c.in_ok-parts.ensures (is_reached lifted) (c.as_slice.ensures ∙ c.requires.actions) c.requires.never))
