@@ -8,9 +8,9 @@ use Rattle.pb_tables.specs.Below.{first_below, some_if, greatest_below}
 use Rattle.pb_tables.specs.Images.{both, may_act, image_after, place_in}
 use Rattle.pb_tables.specs.Tables.{TableValue, IsTable, table_at, value_at, value_in, drop_at, drop_of, drops_of}
 use Rattle.pb_tables.specs.Order.{IsWritten}
-use Rattle.pb_tables.specs.Looking.{IsFirst, image_step}
+use Rattle.pb_tables.specs.Looking.{IsFirst}
 use Rattle.pb_tables.specs.Suits.{is_unpaid, unpaid_in, unpaid_of, sums_unpaid}
-use Rattle.pb_tables.proofs.Searches.{found_first, none_first, is_if, none_if, if_some, if_none, greatest_bound, sum_bound}
+use Rattle.pb_tables.proofs.Searches.{found_first, none_first, is_if, none_if, greatest_bound, sum_bound}
 use Rattle.pb_tables.proofs.Imaging.{place_is}
 use Rattle.pb_tables.proofs.Estimating.{table_is, value_small, values_inside}
 use Rattle.pb_tables.proofs.Firsts.{stays_there}
@@ -23,20 +23,16 @@ greatest_more count value =
     subst (λ n. greatest_below n value ≡ max (greatest_below count value) (value count)) next refl
 
 module _ (count sums : ℕ) (act : GroundAction) (table : TableValue) (sum place : ℕ) where
-  pub drop_where : (next : ℕ) → image_step count table.tracked act (slice_index table.listed place) ≡ Some next
-      → drop_at count sums act table sum place ≡ value_at sums table.values sum place - value_in sums table.values sum (place_in table.listed next)
-  drop_where next e =
-      let image = slice_index table.listed place in
-      let parts : (may_act count table.tracked act image ≡ true) × (image_after count table.tracked act image ≡ next) =
-      if_some (may_act count table.tracked act image) (image_after count table.tracked act image) next e in
-      ap (λ (b : Bool). if b then value_at sums table.values sum place - value_in sums table.values sum (place_in table.listed (image_after count table.tracked act image)) else 0) parts.0
-      ∙ ap (λ (i : ℕ). value_at sums table.values sum place - value_in sums table.values sum (place_in table.listed i)) parts.1
+  pub drop_where : (to : Option ℕ) → may_act count table.tracked act (slice_index table.listed place) ≡ true
+      → to ≡ place_in table.listed (image_after count table.tracked act (slice_index table.listed place))
+      → drop_at count sums act table sum place ≡ value_at sums table.values sum place - value_in sums table.values sum to
+  drop_where to may there =
+      ap (λ (b : Bool). if b then value_at sums table.values sum place - value_in sums table.values sum (place_in table.listed (image_after count table.tracked act (slice_index table.listed place))) else 0) may
+      ∙ ap (λ (o : Option ℕ). value_at sums table.values sum place - value_in sums table.values sum o) (sym there)
 
-  pub no_drop_where : image_step count table.tracked act (slice_index table.listed place) ≡ None → drop_at count sums act table sum place ≡ 0
-  no_drop_where e =
-      let image = slice_index table.listed place in
-      ap (λ (b : Bool). if b then value_at sums table.values sum place - value_in sums table.values sum (place_in table.listed (image_after count table.tracked act image)) else 0)
-      (if_none (may_act count table.tracked act image) (image_after count table.tracked act image) e)
+  pub no_drop_where : may_act count table.tracked act (slice_index table.listed place) ≡ false → drop_at count sums act table sum place ≡ 0
+  no_drop_where may =
+      ap (λ (b : Bool). if b then value_at sums table.values sum place - value_in sums table.values sum (place_in table.listed (image_after count table.tracked act (slice_index table.listed place))) else 0) may
 
   pub drop_small : IsTable sums table → drop_at count sums act table sum place ≤ 2 ^ 40
   drop_small is = go (may_act count table.tracked act (slice_index table.listed place)) where

@@ -5,6 +5,7 @@ use Rattle.std.proofs.Math.ListN.{get_or-eq_default}
 use Rattle.std.proofs.lemmas.Bool.{false≢true, cases_lt}
 use Rattle.std.proofs.lemmas.Nat.Bits.{bit_at_above, bit_at_cat_low, bit_at_cat_high}
 use Rattle.std.proofs.lemmas.List.{get_or-set_other, get_or-set_same}
+use Rattle.std.proofs.lemmas.Nat.{and_le_r}
 use Rattle.pb_packed.specs.Words.{number_of, AreWords}
 use Rattle.pb_task.specs.Strips.{has_atom}
 use Rattle.pb_task.proofs.Callers.{both_atoms, any_atom, no_atom, common_all, all_common}
@@ -65,40 +66,53 @@ none_kept false = refl
 
 -- ---- words that are changed one after another
 
-pub taken_out : (count : ℕ) (before after set : List ℕ) → AreWords count before → AreWords count after → AreWords (length set) set
-    → ((k : ℕ) → k < length set → get_or after k 0 ≡ bit_and (get_or before k 0) (bit_not w64 (get_or set k 0)))
-    → ((k : ℕ) → length set ≤ k → get_or after k 0 ≡ get_or before k 0)
-    → (atom : ℕ) → has_atom (number_of after) atom ≡ (has_atom (number_of before) atom && not (has_atom (number_of set) atom))
-taken_out count before after set b a s done rest =
-    every (λ atom. has_atom (number_of after) atom ≡ (has_atom (number_of before) atom && not (has_atom (number_of set) atom))) at where
-      word : (k i : ℕ) → i < 64 → (k < length set) ⊎ (length set ≤ k) → has_atom (get_or after k 0) i ≡ (has_atom (get_or before k 0) i && not (has_atom (get_or set k 0) i))
-      word k i less (inl inside) =
-          ap (λ w. has_atom w i) (done k inside) ∙ both_atoms (get_or before k 0) (bit_not w64 (get_or set k 0)) i
-          ∙ ap (λ t. has_atom (get_or before k 0) i && t) (no_atom w64 (get_or set k 0) i (word_small (length set) k set s) less)
-      word k i less (inr past) =
-          ap (λ w. has_atom w i) (rest k past) ∙ sym (kept (has_atom (get_or before k 0) i)) ∙ ap (λ t. has_atom (get_or before k 0) i && not t) (sym (nothing_at set k i past))
+-- the word of a place after an action
+abbrev pub changed_at : (held adds deletes tracked : List ℕ) (k : ℕ) → ℕ
+changed_at held adds deletes tracked k =
+    bit_and (bit_or (get_or adds k 0) (bit_and (get_or held k 0) (bit_not w64 (get_or deletes k 0)))) (get_or tracked k 0)
 
-      at : (k i : ℕ) → i < 64 → has_atom (number_of after) (64 * k + i) ≡ (has_atom (number_of before) (64 * k + i) && not (has_atom (number_of set) (64 * k + i)))
-      at k i less =
-          word_has count k i after a less ∙ word k i less (cases_lt k (length set))
-          ∙ ap (λ t. t && not (has_atom (get_or set k 0) i)) (sym (word_has count k i before b less))
-          ∙ ap (λ t. has_atom (number_of before) (64 * k + i) && not t) (sym (word_has (length set) k i set s less))
+pub changed_to : (after held adds deletes tracked : List ℕ) → length held ≤ length after → AreWords (length after) after → AreWords (length held) held
+    → AreWords 16 adds → AreWords 16 deletes → AreWords 16 tracked → number_of adds < 2 ^ (64 * length after)
+    → ((k : ℕ) → k < length after → get_or after k 0 ≡ changed_at held adds deletes tracked k)
+    → (atom : ℕ) → has_atom (number_of after) atom
+    ≡ ((has_atom (number_of adds) atom || (has_atom (number_of held) atom && not (has_atom (number_of deletes) atom))) && has_atom (number_of tracked) atom)
+changed_to after held adds deletes tracked room f h a d t fits done =
+    every (λ atom. has_atom (number_of after) atom
+    ≡ ((has_atom (number_of adds) atom || (has_atom (number_of held) atom && not (has_atom (number_of deletes) atom))) && has_atom (number_of tracked) atom))
+    (λ k i less. at k i less (cases_lt k (length after))) where
+      at : (k i : ℕ) → i < 64 → (k < length after) ⊎ (length after ≤ k) → has_atom (number_of after) (64 * k + i)
+          ≡ ((has_atom (number_of adds) (64 * k + i) || (has_atom (number_of held) (64 * k + i) && not (has_atom (number_of deletes) (64 * k + i)))) && has_atom (number_of tracked) (64 * k + i))
+      at k i less (inl inside) =
+          let added = has_atom (get_or adds k 0) i in
+          let before = has_atom (get_or held k 0) i in
+          let deleted = has_atom (get_or deletes k 0) i in
+          let left = bit_and (get_or held k 0) (bit_not w64 (get_or deletes k 0)) in
+          word_has (length after) k i after f less ∙ ap (λ w. has_atom w i) (done k inside)
+          ∙ both_atoms (bit_or (get_or adds k 0) left) (get_or tracked k 0) i
+          ∙ ap (λ b. b && has_atom (get_or tracked k 0) i) (any_atom (get_or adds k 0) left i)
+          ∙ ap (λ b. (added || b) && has_atom (get_or tracked k 0) i) (both_atoms (get_or held k 0) (bit_not w64 (get_or deletes k 0)) i)
+          ∙ ap (λ b. (added || (before && b)) && has_atom (get_or tracked k 0) i) (no_atom w64 (get_or deletes k 0) i (word_small 16 k deletes d) less)
+          ∙ ap (λ b. (b || (before && not deleted)) && has_atom (get_or tracked k 0) i) (sym (word_has 16 k i adds a less))
+          ∙ ap (λ b. (has_atom (number_of adds) (64 * k + i) || (b && not deleted)) && has_atom (get_or tracked k 0) i) (sym (word_has (length held) k i held h less))
+          ∙ ap (λ b. (has_atom (number_of adds) (64 * k + i) || (has_atom (number_of held) (64 * k + i) && not b)) && has_atom (get_or tracked k 0) i) (sym (word_has 16 k i deletes d less))
+          ∙ ap (λ b. (has_atom (number_of adds) (64 * k + i) || (has_atom (number_of held) (64 * k + i) && not (has_atom (number_of deletes) (64 * k + i)))) && b) (sym (word_has 16 k i tracked t less))
+      at k i less (inr past) =
+          let deleted = has_atom (number_of deletes) (64 * k + i) in
+          let kept_atom = has_atom (number_of tracked) (64 * k + i) in
+          let no_add : has_atom (number_of adds) (64 * k + i) ≡ false = not_above (number_of adds) (64 * length after) (64 * k + i) fits (omega (arith, past)) in
+          let not_held : has_atom (number_of held) (64 * k + i) ≡ false = word_has (length held) k i held h less ∙ nothing_at held k i (omega (arith, past, room)) in
+          word_has (length after) k i after f less ∙ nothing_at after k i past
+          ∙ sym (ap (λ b. (b || (has_atom (number_of held) (64 * k + i) && not deleted)) && kept_atom) no_add ∙ ap (λ b. (b && not deleted) && kept_atom) not_held)
 
-pub put_into : (count : ℕ) (before after set : List ℕ) → AreWords count before → AreWords count after → AreWords (length set) set
-    → ((k : ℕ) → k < length set → get_or after k 0 ≡ bit_or (get_or set k 0) (get_or before k 0))
-    → ((k : ℕ) → length set ≤ k → get_or after k 0 ≡ get_or before k 0)
-    → (atom : ℕ) → has_atom (number_of after) atom ≡ (has_atom (number_of set) atom || has_atom (number_of before) atom)
-put_into count before after set b a s done rest =
-    every (λ atom. has_atom (number_of after) atom ≡ (has_atom (number_of set) atom || has_atom (number_of before) atom)) at where
-      word : (k i : ℕ) → (k < length set) ⊎ (length set ≤ k) → has_atom (get_or after k 0) i ≡ (has_atom (get_or set k 0) i || has_atom (get_or before k 0) i)
-      word k i (inl inside) = ap (λ w. has_atom w i) (done k inside) ∙ any_atom (get_or set k 0) (get_or before k 0) i
-      word k i (inr past) = ap (λ w. has_atom w i) (rest k past) ∙ ap (λ t. t || has_atom (get_or before k 0) i) (sym (nothing_at set k i past))
+-- words that are small are words
+pub are_words : (words : List ℕ) → ((k : ℕ) → k < length words → get_or words k 0 < 2 ^ 64) → AreWords (length words) words
+are_words [] small = tt
+are_words (w ∷ ws) small = (small 0 (omega arith), are_words ws (λ k less. small (suc k) (omega (arith, less))))
 
-      at : (k i : ℕ) → i < 64 → has_atom (number_of after) (64 * k + i) ≡ (has_atom (number_of set) (64 * k + i) || has_atom (number_of before) (64 * k + i))
-      at k i less =
-          word_has count k i after a less ∙ word k i (cases_lt k (length set))
-          ∙ ap (λ t. t || has_atom (get_or before k 0) i) (sym (word_has (length set) k i set s less))
-          ∙ ap (λ t. has_atom (number_of set) (64 * k + i) || t) (sym (word_has count k i before b less))
+pub changed_small : (held adds deletes tracked : List ℕ) (k : ℕ) → AreWords 16 tracked → changed_at held adds deletes tracked k < 2 ^ 64
+changed_small held adds deletes tracked k t =
+    let left = bit_or (get_or adds k 0) (bit_and (get_or held k 0) (bit_not w64 (get_or deletes k 0))) in
+    omega (arith, and_le_r left (get_or tracked k 0), word_small 16 k tracked t)
 
 pub kept_in : (count : ℕ) (before after set : List ℕ) → length set ≡ length before → AreWords count before → AreWords count after → AreWords (length set) set
     → ((k : ℕ) → k < length set → get_or after k 0 ≡ bit_and (get_or before k 0) (get_or set k 0))

@@ -22,6 +22,15 @@ abbrev pub AreAscending : List ℕ → Type 0
 AreAscending numbers =
     (j k : ℕ) → j < k → k < length numbers → slice_index numbers j < slice_index numbers k
 
+-- those before a place are less than a number
+abbrev pub AreLess : (place : ℕ) → List ℕ → (number : ℕ) → Type 0
+AreLess place numbers number = (j : ℕ) → j < place → slice_index numbers j < number
+
+-- those from a place on are greater than a number
+abbrev pub AreGreater : (place : ℕ) → List ℕ → (number : ℕ) → Type 0
+AreGreater place numbers number =
+    (j : ℕ) → place ≤ j → j < length numbers → number < slice_index numbers j
+
 -- this is the place of the number among these, if it is one of them
 abbrev pub IsPlaceOf : Option ℕ → (numbers : List ℕ) → (number : ℕ) → Type 0
 IsPlaceOf place numbers number =

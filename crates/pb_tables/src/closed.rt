@@ -8,7 +8,7 @@ ghost use Rattle.pb_tables.specs.Order.{IsWritten, AreWritten, AreTrapsWritten};
 ghost use Rattle.pb_tables.specs.Looking.{IsEffect, IsFirst};
 ghost use Rattle.pb_tables.specs.Suits.{is_dear_goal, table_fault, trap_fault, tables_step_fault, traps_step_fault};
 
-use crate::effect::{Effect, effect_of, leads_out, touches};
+use crate::effect::{Effect, effect_of, may_act, place_after, touches};
 use crate::fault::TablesFault;
 use crate::images::ImageList;
 use crate::sets::{both, is_within};
@@ -37,16 +37,17 @@ fn first_out(
     ensures { IsFirst limit (λ place. leads_out strips.now.atoms tracked.now listed.now
         (action_at strips.now.actions action) (slice_index listed.now place)) result }
 {
+    // Images rise, and mostly so do the images that steps lead to. So each look begins at the place
+    // that the last one found.
+    let mut near = 0;
     for place in 0..limit {
-        if leads_out(
-            strips,
-            tracked,
-            listed,
-            action,
-            effect,
-            listed.words_at(place),
-        ) {
-            return place;
+        let image = listed.words_at(place);
+        if may_act(strips, tracked, action, effect, image) {
+            let to = place_after(strips, tracked, listed, action, effect, image, near);
+            match to {
+                Some(to) => near = to,
+                None => return place,
+            }
         }
     }
     limit

@@ -24,8 +24,8 @@ impl Model for ImageList {
     ghost view = { λ l. l.numbers.numbers };
 }
 
-// How many words an image takes.
-fn words_for(image: &Packed) -> usize
+/// How many words an image takes.
+pub fn words_for(image: &Packed) -> usize
     ensures fits { image.now < 2 ^ (64 * result) }
     ensures some { 1 ≤ result }
     ensures most { result ≤ 16 }
@@ -94,5 +94,21 @@ impl ImageList {
         ensures { result ≡ place_in self.now image.now }
     {
         self.numbers.place(image)
+    }
+
+    /// The place of an image in words among ones that rise. The look begins at the place `near`, and
+    /// takes the longer the farther the image is from it.
+    #[inline]
+    pub fn place_near(&self, image: &[u64], near: usize) -> Option<usize>
+        requires few { length image.now ≤ 16 }
+        requires words { AreWords (length image.now) image.now }
+        requires rising { AreRising self.now }
+        ensures { result ≡ place_in self.now (number_of image.now) }
+    {
+        if image.len() == self.numbers.width() {
+            self.numbers.place_near(image, near)
+        } else {
+            self.place_of(&Packed::of_slice(image))
+        }
     }
 }

@@ -1,8 +1,8 @@
 //! Numbers of a fixed count of words each, one after another in one array.
-ghost use Rattle.std.specs.Prelude.{◌≡◌, ◌≢◌, ◌≤◌, ◌<◌, ◌*◌, ◌^◌, ◌++◌, ◌∷◌, [], ℕ, IfSome, IfNone, IfOk, OnOk, OnErr, length, slice_index};
+ghost use Rattle.std.specs.Prelude.{◌≡◌, ◌≤◌, ◌<◌, ◌*◌, ◌^◌, ◌++◌, ◌∷◌, [], IfOk, OnOk, OnErr, length, slice_index};
 ghost use Rattle.std.specs.Ordering.{nat_cmp};
 ghost use Rattle.pb_packed.specs.Words.{number_of, AreWords};
-ghost use Rattle.pb_tables.specs.Flat.{AreAscending, IsPlaceOf};
+ghost use Rattle.pb_tables.specs.Flat.{AreAscending, AreLess, AreGreater, IsPlaceOf};
 
 use pb_packed::{Packed, compare};
 use std::alloc::{AllocError, Global};
@@ -141,18 +141,19 @@ impl FlatNumbers {
         compare(self.at(i), other)
     }
 
-    // The place of a number among ones that ascend, found by halving.
-    fn place_of(&self, other: &[u64]) -> Option<usize>
+    // The place of a number among ones that ascend, found by halving. The numbers before `low` are
+    // less, and those from `high` on are greater.
+    fn place_between(&self, other: &[u64], low: usize, high: usize) -> Option<usize>
         requires ascend { AreAscending self.now.numbers }
         requires long { length other.now ≡ self.now.width }
         requires words { AreWords (length other.now) other.now }
-        ensures some { IfSome result (λ i. (i < length self.now.numbers)
-            × (slice_index self.now.numbers i ≡ number_of other.now)) }
-        ensures none { IfNone result ((i : ℕ) → i < length self.now.numbers
-            → slice_index self.now.numbers i ≢ number_of other.now) }
+        requires inside { high ≤ length self.now.numbers }
+        requires below { AreLess low self.now.numbers (number_of other.now) }
+        requires above { AreGreater high self.now.numbers (number_of other.now) }
+        ensures { IsPlaceOf result self.now.numbers (number_of other.now) }
     {
-        let mut low = 0;
-        let mut high = self.len();
+        let mut low = low;
+        let mut high = high;
         while low < high {
             let middle = low + (high - low) / 2;
             match self.compare_at(middle, other) {
@@ -164,6 +165,69 @@ impl FlatNumbers {
         None
     }
 
+    // The same where the numbers before `first` are less. It looks upwards in steps that double.
+    fn place_above(&self, other: &[u64], first: usize) -> Option<usize>
+        requires ascend { AreAscending self.now.numbers }
+        requires long { length other.now ≡ self.now.width }
+        requires words { AreWords (length other.now) other.now }
+        requires inside { first ≤ length self.now.numbers }
+        requires below { AreLess first self.now.numbers (number_of other.now) }
+        ensures { IsPlaceOf result self.now.numbers (number_of other.now) }
+    {
+        let end = self.len();
+        let mut low = first;
+        while low - first < end - low {
+            let place = low + (low - first);
+            match self.compare_at(place, other) {
+                Ordering::Less => low = place + 1,
+                Ordering::Greater => return self.place_between(other, low, place),
+                Ordering::Equal => return Some(place),
+            }
+        }
+        self.place_between(other, low, end)
+    }
+
+    // The same where the numbers from `end` on are greater. It looks downwards in steps that double.
+    fn place_below(&self, other: &[u64], end: usize) -> Option<usize>
+        requires ascend { AreAscending self.now.numbers }
+        requires long { length other.now ≡ self.now.width }
+        requires words { AreWords (length other.now) other.now }
+        requires inside { end ≤ length self.now.numbers }
+        requires above { AreGreater end self.now.numbers (number_of other.now) }
+        ensures { IsPlaceOf result self.now.numbers (number_of other.now) }
+    {
+        let mut high = end;
+        while end - high < high {
+            let place = high - (end - high) - 1;
+            match self.compare_at(place, other) {
+                Ordering::Less => return self.place_between(other, place + 1, high),
+                Ordering::Greater => high = place,
+                Ordering::Equal => return Some(place),
+            }
+        }
+        self.place_between(other, 0, high)
+    }
+
+    /// The place of a number of as many words among ones that ascend, or None if it isn't one of
+    /// them. The look begins at the place `near`, and takes the longer the farther the number is.
+    #[inline]
+    pub fn place_near(&self, other: &[u64], near: usize) -> Option<usize>
+        requires ascend { AreAscending self.now.numbers }
+        requires long { length other.now ≡ self.now.width }
+        requires words { AreWords (length other.now) other.now }
+        ensures { IsPlaceOf result self.now.numbers (number_of other.now) }
+    {
+        if near < self.len() {
+            match self.compare_at(near, other) {
+                Ordering::Less => self.place_above(other, near + 1),
+                Ordering::Greater => self.place_below(other, near),
+                Ordering::Equal => Some(near),
+            }
+        } else {
+            self.place_between(other, 0, self.len())
+        }
+    }
+
     /// The place of a number among ones that ascend, or None if it isn't one of them.
     pub fn place(&self, number: &Packed) -> Option<usize>
         requires ascend { AreAscending self.now.numbers }
@@ -173,7 +237,7 @@ impl FlatNumbers {
         // A number of more words than these isn't among them.
         if words.fits(self.width) {
             let all = words.to_array();
-            self.place_of(&all[..self.width])
+            self.place_between(&all[..self.width], 0, self.len())
         } else {
             None
         }

@@ -6,7 +6,7 @@ ghost use Rattle.pb_tables.specs.Order.{IsWritten, AreWritten};
 ghost use Rattle.pb_tables.specs.Looking.{IsEffect, IsFirst};
 ghost use Rattle.pb_tables.specs.Suits.{is_unpaid, sums_unpaid};
 
-use crate::effect::{Effect, effect_of, image_step, touches};
+use crate::effect::{Effect, effect_of, may_act, place_after, touches};
 use crate::fault::TablesFault;
 use crate::sums::{SUMS, no_sums};
 use crate::table::Table;
@@ -58,13 +58,16 @@ fn drops_of_table(
     ensures { (sum : ℕ) → sum < sums → slice_index result sum
         ≡ drop_of strips.now.atoms sums (action_at strips.now.actions action) table.now sum }
 {
-    let mut drops = no_sums();
+    let tracked = table.tracked();
     let listed = table.listed();
+    let mut drops = no_sums();
+    let mut near = 0;
     for place in 0..listed.len() {
         let image = listed.words_at(place);
-        if let Some(next) = image_step(strips, table.tracked(), action, effect, image) {
-            let to = listed.place_of(&next);
+        if may_act(strips, tracked, action, effect, image) {
+            let to = place_after(strips, tracked, listed, action, effect, image, near);
             raise(&mut drops, sums, table.values(), place, to);
+            near = to.unwrap_or(near);
         }
     }
     drops

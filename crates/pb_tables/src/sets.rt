@@ -3,8 +3,7 @@ ghost use Rattle.std.specs.Prelude.{◌≡◌, ℕ, ◌*◌, ◌<◌, ◌≤◌,
 ghost use Rattle.pb_packed.specs.Sizes.{state_bits, most_atoms};
 ghost use Rattle.pb_packed.specs.Words.{number_of, AreWords};
 ghost use Rattle.pb_task.specs.Strips.{has_atom, is_within, is_atom_set};
-ghost use Rattle.pb_task.specs.declared.parts.GroundAction.{GroundAction};
-ghost use Rattle.pb_tables.specs.Images.{both, image_after};
+ghost use Rattle.pb_tables.specs.Images.{both};
 
 use pb_packed::{BITS, Packed};
 
@@ -34,36 +33,6 @@ fn are_within(small: &[u64], large: &[u64]) -> bool
     true
 }
 
-// Takes the atoms of a set out of another.
-#[inline]
-fn take_out(words: &mut [u64], set: &[u64])
-    requires words { AreWords (length words.old) words.old }
-    requires set { AreWords (length set.now) set.now }
-    requires room { length set.now ≤ length words.old }
-    ensures words { AreWords (length words.old) words.new }
-    ensures atoms { (atom : ℕ) → has_atom (number_of words.new) atom
-        ≡ (has_atom (number_of words.old) atom && not (has_atom (number_of set.now) atom)) }
-{
-    for i in 0..set.len() {
-        words[i] = words[i] & !set[i];
-    }
-}
-
-// Puts the atoms of a set into another.
-#[inline]
-fn put_in(words: &mut [u64], set: &[u64])
-    requires words { AreWords (length words.old) words.old }
-    requires set { AreWords (length set.now) set.now }
-    requires room { length set.now ≤ length words.old }
-    ensures words { AreWords (length words.old) words.new }
-    ensures atoms { (atom : ℕ) → has_atom (number_of words.new) atom
-        ≡ (has_atom (number_of set.now) atom || has_atom (number_of words.old) atom) }
-{
-    for i in 0..set.len() {
-        words[i] = set[i] | words[i];
-    }
-}
-
 // Keeps those atoms of a set that are in another.
 #[inline]
 fn keep(words: &mut [u64], set: &[u64])
@@ -90,19 +59,32 @@ fn common(one: &Packed, other: &Packed) -> Packed
     Packed::of_slice(&words)
 }
 
-// The atoms that an action leaves in a set, and those that it adds, cut to the tracked ones.
-fn changed(adds: &Packed, deletes: &Packed, tracked: &Packed, held: &Packed) -> Packed
-    ensures atoms { (atom : ℕ) → has_atom result atom
-        ≡ ((has_atom adds.now atom
-        || (has_atom held.now atom && not (has_atom deletes.now atom)))
-        && has_atom tracked.now atom) }
-    ensures bits { result < 2 ^ state_bits }
+/// Writes the atoms that an action leaves in a set and those that it adds, cut to the tracked ones.
+/// They are written in so many words as there are to write.
+#[inline]
+pub fn change(
+    next: &mut [u64],
+    held: &[u64],
+    adds: &[u64; 16],
+    deletes: &[u64; 16],
+    tracked: &[u64; 16],
+)
+    requires held { AreWords (length held.now) held.now }
+    requires adds { AreWords 16 adds.now }
+    requires deletes { AreWords 16 deletes.now }
+    requires tracked { AreWords 16 tracked.now }
+    requires room { length held.now ≤ length next.old }
+    requires fits { number_of adds.now < 2 ^ (64 * length next.old) }
+    requires few { length next.old ≤ 16 }
+    ensures words { AreWords (length next.old) next.new }
+    ensures atoms { (atom : ℕ) → has_atom (number_of next.new) atom
+        ≡ ((has_atom (number_of adds.now) atom
+        || (has_atom (number_of held.now) atom && not (has_atom (number_of deletes.now) atom)))
+        && has_atom (number_of tracked.now) atom) }
 {
-    let mut words = held.to_words();
-    take_out(&mut words, &deletes.to_words());
-    put_in(&mut words, &adds.to_words());
-    keep(&mut words, &tracked.to_words());
-    Packed::of_slice(&words)
+    for i in 0..next.len() {
+        next[i] = (adds[i] | (word_at(held, i) & !deletes[i])) & tracked[i];
+    }
 }
 
 /// Whether a number is a set of the first `count` atoms.
@@ -151,23 +133,4 @@ pub fn both(count: u32, one: &Packed, other: &Packed) -> Packed
     // Only the contract speaks of `count`.
     let _ = count;
     common(one, other)
-}
-
-/// The image after an action that may be taken, whose sets these are, cut to the tracked atoms.
-pub fn image_after(
-    count: u32,
-    tracked: &Packed,
-    adds: &Packed,
-    deletes: &Packed,
-    image: &Packed,
-) -> Packed
-    requires count { count ≤ most_atoms }
-    requires tracked { tracked.now < 2 ^ count }
-    ensures { (action : GroundAction) → adds.now ≡ both count action.adds tracked.now
-        → deletes.now ≡ both count action.deletes tracked.now
-        → result ≡ image_after count tracked.now action image.now }
-{
-    // Only the contract speaks of `count`.
-    let _ = count;
-    changed(adds, deletes, tracked, image)
 }

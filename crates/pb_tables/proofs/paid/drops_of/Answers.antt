@@ -2,6 +2,7 @@ use Rattle.std.proofs.Common.{◌≡◌, ◌∙◌, ◌&&◌, ◌+◌, ◌^◌, 
 use Rattle.std.proofs.lemmas.Bool.{not-false, and_parts, eqb-true}
 use Rattle.std.proofs.lemmas.List.{get_or_read}
 use Rattle.pb_task.specs.declared.parts.GroundAction.{GroundAction}
+use Rattle.pb_packed.specs.Words.{number_of}
 use Rattle.pb_task.specs.Strips.{action_at}
 use Rattle.pb_tables.specs.Images.{both}
 use Rattle.pb_tables.specs.Tables.{TableValue, IsTable, table_at, drop_of, drops_of}
@@ -55,9 +56,9 @@ loop-number-preserved c = λ sum less.
           ∙ sym (sum_more number drop)
       | else-touches w ↦
           let effect = c.effect_of-effect.result in
-          let none = and_parts (nat_eq effect.adds 0) (nat_eq effect.deletes 0) (not-false (nat_eq effect.adds 0 && nat_eq effect.deletes 0) (sym c.touches.ensures ∙ w.if-touches.false)) in
-          let adds : both count act.adds table.tracked ≡ 0 = ap (λ (t : ℕ). both count act.adds t) (sym c.tracked.ensures) ∙ sym c.effect_of-effect.ensures.adds ∙ eqb-true effect.adds 0 none.0 in
-          let deletes : both count act.deletes table.tracked ≡ 0 = ap (λ (t : ℕ). both count act.deletes t) (sym c.tracked.ensures) ∙ sym c.effect_of-effect.ensures.deletes ∙ eqb-true effect.deletes 0 none.1 in
+          let none = and_parts (nat_eq (number_of effect.adds) 0) (nat_eq (number_of effect.deletes) 0) (not-false (nat_eq (number_of effect.adds) 0 && nat_eq (number_of effect.deletes) 0) (sym c.touches.ensures ∙ w.if-touches.false)) in
+          let adds : both count act.adds table.tracked ≡ 0 = ap (λ (t : ℕ). both count act.adds t) (sym c.tracked.ensures) ∙ sym c.effect_of-effect.ensures.adds ∙ eqb-true (number_of effect.adds) 0 none.0 in
+          let deletes : both count act.deletes table.tracked ≡ 0 = ap (λ (t : ℕ). both count act.deletes t) (sym c.tracked.ensures) ∙ sym c.effect_of-effect.ensures.deletes ∙ eqb-true (number_of effect.deletes) 0 none.1 in
           let nothing : drop number ≡ 0 = sym own ∙ untouched_drop count c.args.sums act table sum (written_here here) adds deletes in
           let same : before + drop number ≡ before = omega (arith, nothing) in
           ap (λ (ts : List ℕ). slice_index ts sum) w.totals-is ∙ c.loop-number.invariant sum less ∙ sym same ∙ sym (sum_more number drop)
