@@ -5,5 +5,5 @@ pub use Rattle.pb_ground.proofs.Keeping.{all_atoms, all_atoms_are_a_case, kept_a
 pub use Rattle.pb_ground.proofs.Products.{product_is}
 pub use Rattle.pb_ground.proofs.Rising.{atoms_rise}
 pub use Rattle.pb_ground.proofs.Rows.{has_more}
-pub use Rattle.pb_ground.proofs.Sorted.{keys_ascend, same_rows, set_has}
+pub use Rattle.pb_ground.proofs.Sorted.{above_member, any_kept, keys_ascend, same_rows, set_has}
 pub use Rattle.pb_ground.proofs.Stepping.{correspond, kept, kept_correspond, numbers_alike, one_atom}

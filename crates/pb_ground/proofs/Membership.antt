@@ -1,7 +1,7 @@
 -- Which instances and which ground atoms there are.
 use Rattle.std.proofs.Common.{◌≡◌, ◌+◌, ◌<◌, ℕ, zero, suc, Bool, true, false, cond, ◌&&◌, ◌||◌, nat_eq, nat_lt, List, [], ◌∷◌, map, length, get_or, slice_get, refl, sym, ap, ◌∙◌, arith}
 use Rattle.std.proofs.Math.Bool.{or-false, and-false, and-or_distrib_left, and-or_distrib_right}
-use Rattle.std.proofs.lemmas.Bool.{eq-eqb, ne_eqb}
+use Rattle.std.proofs.lemmas.Bool.{eq-eqb, le-ltb, lt-ltb, ne_eqb}
 use Rattle.std.proofs.lemmas.Bool.Decides.{nat_tests}
 use Rattle.std.proofs.lemmas.List.Folds.{list_any-append}
 use Rattle.std.specs.List.{list_any, flat_map}
@@ -26,22 +26,13 @@ none_before types wanted n i (kind ∷ kinds) h = at (comes_to types (length typ
     at true later = ap (λ b. b || list_any (nat_eq n) (fitting_from types wanted (suc i) kinds)) (ne_eqb n i (λ same. omega (arith, same, h))) ∙ later
     at false later = later
 
-below_none : (n : ℕ) → nat_lt n 0 ≡ false
-below_none n = grind (arith, nat_tests)
-
-none_below_more : (n : ℕ) → nat_lt 0 (suc n) ≡ true
-none_below_more n = grind (arith, nat_tests)
-
-both_more : (k n : ℕ) → nat_lt (suc k) (suc n) ≡ nat_lt k n
-both_more k n = grind (arith, nat_tests)
-
 -- the object that is k behind the first
 fits_at : (types : List ℕ) (wanted n i k : ℕ) (kinds : List ℕ) → n ≡ i + k
     → list_any (nat_eq n) (fitting_from types wanted i kinds) ≡ (nat_lt k (length kinds) && comes_to types (length types) (get_or kinds k 0) wanted)
-fits_at types wanted n i k [] e = ap (λ b. b && comes_to types (length types) (get_or [] k 0) wanted) (sym (below_none k))
+fits_at types wanted n i k [] e = ap (λ b. b && comes_to types (length types) (get_or [] k 0) wanted) (sym (le-ltb k 0 (omega arith)))
 fits_at types wanted n i zero (kind ∷ kinds) e =
     at (comes_to types (length types) kind wanted) (eq-eqb n i (omega arith)) (none_before types wanted n (suc i) kinds (omega arith))
-    ∙ ap (λ b. b && comes_to types (length types) kind wanted) (sym (none_below_more (length kinds)))
+    ∙ ap (λ b. b && comes_to types (length types) kind wanted) (sym (lt-ltb 0 (suc (length kinds)) (omega arith)))
   where
     at : (fits : Bool) → nat_eq n i ≡ true → list_any (nat_eq n) (fitting_from types wanted (suc i) kinds) ≡ false
         → list_any (nat_eq n) (cond fits (i ∷ fitting_from types wanted (suc i) kinds) (fitting_from types wanted (suc i) kinds)) ≡ fits
@@ -49,7 +40,7 @@ fits_at types wanted n i zero (kind ∷ kinds) e =
     at false here later = later
 fits_at types wanted n i (suc k) (kind ∷ kinds) e =
     at (comes_to types (length types) kind wanted) (not_first (omega arith)) (fits_at types wanted n (suc i) k kinds (omega arith))
-    ∙ ap (λ b. b && comes_to types (length types) (get_or kinds k 0) wanted) (sym (both_more k (length kinds)))
+    ∙ ap (λ b. b && comes_to types (length types) (get_or kinds k 0) wanted) (grind (arith, nat_tests))
   where
     not_first : i < n → nat_eq n i ≡ false
     not_first h = grind (arith, nat_tests)

@@ -32,7 +32,7 @@ Above row rows = AllByRecursion (λ r. rows_cmp row r ≡ Less) rows
 
 -- ---- the same members
 
-above_member : (row r : List ℕ) (rows : List (List ℕ)) → Above row rows → list_any (bytes_eq r) rows ≡ true → rows_cmp row r ≡ Less
+pub above_member : (row r : List ℕ) (rows : List (List ℕ)) → Above row rows → list_any (bytes_eq r) rows ≡ true → rows_cmp row r ≡ Less
 above_member row r [] above e = cc
 above_member row r (first ∷ rows) above e = at (above_member row r rows above.1) (bytes_eq r first) refl e
   where

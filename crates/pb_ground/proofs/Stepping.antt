@@ -1,7 +1,7 @@
 -- Steps by atoms and by numbers.
 use Rattle.std.proofs.Common.{◌≡◌, ℕ, zero, suc, Bool, true, false, cond, not, ◌&&◌, ◌||◌, nat_eq, List, [], ◌∷◌, map, Option, Some, None, is_some, option_map, slice_get, refl, sym, ap, ◌∙◌}
 use Rattle.std.proofs.Math.Bool.{and-true}
-use Rattle.std.proofs.lemmas.Bool.{and_parts, or_parts, eqb-true, eq-eqb, false≢true}
+use Rattle.std.proofs.lemmas.Bool.{and_parts, or_left, or_parts, or_right, eqb-true, eq-eqb}
 use Rattle.std.proofs.lemmas.List.Folds.{list_any-append, list_all-append}
 use Rattle.std.proofs.lemmas.Slice.Eq.{bytes_eq-Decides}
 use Rattle.std.specs.List.{list_any, list_all, flat_map}
@@ -16,14 +16,6 @@ use Rattle.pb_ground.specs.Keeping.{IsKeeping, HoldsKept, KeptStepsCorrespond}
 use Rattle.pb_ground.specs.Statics.{is_initial, keep_all}
 use Rattle.pb_ground.proofs.Once.{number_list, repeated, any_once, all_once}
 use Rattle.pb_ground.specs.Steps.{Facts, Bits, all_grounded, is_in, facts_after, Packs, KeepsStatics, AreNumbered, KeptAreNumbered, StepsCorrespond}
-
-pub or_left : (one other : Bool) → one ≡ true → (one || other) ≡ true
-or_left true other e = refl
-or_left false other e = absurd (false≢true e)
-
-pub or_right : (one other : Bool) → other ≡ true → (one || other) ≡ true
-or_right true other e = refl
-or_right false other e = e
 
 -- atoms that are alike are the same
 pub one_atom : (f g : GroundAtom) → same_atom f g ≡ true → f ≡ g

@@ -1,14 +1,11 @@
 -- Facts by numbers, as the layers below have them: as a predicate with objects, and as a ground atom.
-use Rattle.std.proofs.Common.{◌≡◌, ℕ, true, ◌||◌, nat_lt, List, [], ◌∷◌, length, get_or, refl, ap}
+use Rattle.std.proofs.Common.{◌≡◌, ℕ, true, ◌||◌, List, [], ◌∷◌, refl, ap}
 use Rattle.std.specs.List.{list_all}
-use Rattle.std.proofs.lemmas.Bool.{ltb-true, lt-ltb, and_parts, and_from}
-use Rattle.pb_lifted.specs.declared.lifted.Lifted.{Lifted}
+use Rattle.std.proofs.lemmas.Bool.{and_parts, and_from}
 use Rattle.pb_lifted.specs.declared.lifted.LiftedAtom.{LiftedAtom}
-use Rattle.pb_lifted.specs.Tree.{comes_to}
-use Rattle.pb_lifted.specs.Steps.{GroundFact, is_ground_in, same_ground, ground, ground_all, AllGroundHold, AreFitting}
+use Rattle.pb_lifted.specs.Steps.{GroundFact, is_ground_in, same_ground, ground, ground_all, AllGroundHold}
 use Rattle.pb_ground.specs.declared.atoms.GroundAtom.{GroundAtom}
 use Rattle.pb_ground.specs.Atoms.{atom_of, grounded}
-use Rattle.pb_ground.specs.Members.{is_fitting, is_instance}
 use Rattle.pb_ground.specs.Steps.{Facts, all_grounded, is_in}
 
 abbrev pub to_atom : GroundFact → GroundAtom
@@ -28,23 +25,3 @@ to_all facts given (a ∷ list) all =
 pub from_all : (facts : Facts) (given : List ℕ) (list : List LiftedAtom) → AllGroundHold (λ f. facts (to_atom f)) (ground_all given list) → list_all facts (all_grounded given list) ≡ true
 from_all facts given [] all = refl
 from_all facts given (a ∷ list) all = and_from (facts (grounded given a)) (list_all facts (all_grounded given list)) all.0 (from_all facts given list all.1)
-
--- ---- objects that fit
-
-pub to_fitting : (lifted : Lifted) (kinds given : List ℕ) → is_instance lifted kinds given ≡ true → AreFitting lifted kinds given
-to_fitting lifted [] [] is = tt
-to_fitting lifted [] (i ∷ given) is = cc
-to_fitting lifted (kind ∷ kinds) [] is = cc
-to_fitting lifted (kind ∷ kinds) (i ∷ given) is =
-    let both = and_parts (is_fitting lifted kind i) (is_instance lifted kinds given) is in
-    let fits = and_parts (nat_lt i (length lifted.objects)) (comes_to lifted.types (length lifted.types) (get_or lifted.objects i 0) kind) both.0 in
-    ((ltb-true i (length lifted.objects) fits.0, fits.1), to_fitting lifted kinds given both.1)
-
-pub from_fitting : (lifted : Lifted) (kinds given : List ℕ) → AreFitting lifted kinds given → is_instance lifted kinds given ≡ true
-from_fitting lifted [] [] fit = refl
-from_fitting lifted [] (i ∷ given) fit = absurd fit
-from_fitting lifted (kind ∷ kinds) [] fit = absurd fit
-from_fitting lifted (kind ∷ kinds) (i ∷ given) fit =
-    and_from (is_fitting lifted kind i) (is_instance lifted kinds given)
-    (and_from (nat_lt i (length lifted.objects)) (comes_to lifted.types (length lifted.types) (get_or lifted.objects i 0) kind) (lt-ltb i (length lifted.objects) fit.0.0) fit.0.1)
-    (from_fitting lifted kinds given fit.1)

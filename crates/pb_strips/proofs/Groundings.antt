@@ -1,6 +1,6 @@
 -- The task of each grounding, and why there is none.
-use Rattle.std.proofs.Common.{◌≡◌, ◌≤◌, ℕ, Bool, true, false, cond, nat_lt, List, length, map, Option, Some, None, option_map, Result, Ok, Err, refl, sym, ap, ◌∙◌, arith}
-use Rattle.std.proofs.lemmas.Bool.Decides.{nat_tests}
+use Rattle.std.proofs.Common.{◌≡◌, ◌≤◌, ℕ, Bool, true, false, cond, nat_lt, List, length, map, Option, Some, None, option_map, Result, Ok, Err, refl, sym, ap, ◌∙◌}
+use Rattle.std.proofs.lemmas.Bool.{ltb-false}
 use Rattle.std.specs.Prelude.{IfErr, OnOk}
 use Rattle.pb_packed.specs.Sizes.{most_atoms}
 use Rattle.pb_model.specs.Plan as packed
@@ -113,14 +113,11 @@ names_tell_actions_with Reachable domain problem none words others =
 
 -- ---- what all ground atoms and actions are a task of is one of those that are reached
 
-no_more : (most n : ℕ) → nat_lt most n ≡ false → n ≤ most
-no_more most n e = grind (arith, nat_tests)
-
 few_of : (atoms actions : ℕ) (b c : Bool) → nat_lt most_atoms atoms ≡ b → nat_lt 65536 actions ≡ c
     → cond b (Some (errors.TooManyAtoms (ground.told atoms))) (cond c (Some errors.TooManyActions) None) ≡ None → (atoms ≤ most_atoms) × (actions ≤ 65536)
 few_of atoms actions true c p q e = cc
 few_of atoms actions false true p q e = cc
-few_of atoms actions false false p q e = (no_more most_atoms atoms p, no_more 65536 actions q)
+few_of atoms actions false false p q e = (ltb-false most_atoms atoms p, ltb-false 65536 actions q)
 
 within_all : (domain : Domain) (problem : Problem) → first_fault domain problem ≡ None → IsWithinLimits domain problem
 within_all domain problem none =

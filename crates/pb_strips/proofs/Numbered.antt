@@ -12,7 +12,8 @@ use Rattle.pb_ground.specs.Atoms.{is_fluent, same_atom, grounded, number_in, gro
 use Rattle.pb_ground.specs.Members.{is_instance_of}
 use Rattle.pb_ground.specs.Steps.{Facts, all_grounded, is_in, KeptAreNumbered}
 use Rattle.pb_ground.proofs.Callers.{atoms_are, one_atom}
-use Rattle.pb_strips.proofs.Bridges.{to_atom, from_fitting}
+use Rattle.pb_reach.proofs.Callers.{from_fitting}
+use Rattle.pb_strips.proofs.Bridges.{to_atom}
 
 -- an atom that is among others has a number there
 pub numbered : (atom : GroundAtom) (atoms : List GroundAtom) → is_in atom atoms ≡ is_some (number_in atom atoms)

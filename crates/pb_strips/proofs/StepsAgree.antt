@@ -25,6 +25,7 @@ use Rattle.pb_ground.specs.Keeping.{IsKeeping}
 use Rattle.pb_ground.specs.Statics.{keep_all}
 use Rattle.pb_ground.specs.Steps.{Facts, all_grounded, is_in, bits_after}
 use Rattle.pb_ground.proofs.Callers.{all_atoms, all_atoms_are_a_case, kept_among, numbers_alike}
+use Rattle.pb_reach.proofs.Callers.{from_fitting, to_fitting}
 use Rattle.pb_task.specs.declared.grounding.Grounding.{Grounding}
 use Rattle.pb_task.specs.declared.grounding.Grounding.TheVariants as groundings
 use Rattle.pb_task.specs.declared.parts.GroundAction.{GroundAction}
@@ -36,7 +37,7 @@ use Rattle.pb_strips.specs.Grounding.{numbered_set, packed_action, strips_by, st
 use Rattle.pb_strips.specs.Names.{action_text}
 use Rattle.pb_strips.specs.Refusals.{first_fault, or_too_many}
 use Rattle.pb_strips.proofs.Below.{number_below, numbers_below}
-use Rattle.pb_strips.proofs.Bridges.{to_atom, same_member, to_all, from_all, to_fitting, from_fitting}
+use Rattle.pb_strips.proofs.Bridges.{to_atom, same_member, to_all, from_all}
 use Rattle.pb_strips.proofs.CostsBelow.{schema_costs}
 use Rattle.pb_strips.proofs.Instances.{IsInstance, is_instance_at, is_ready, stands}
 use Rattle.pb_strips.proofs.Numbered.{AreKeptOnes, are_numbered, absent}
