@@ -6,6 +6,16 @@ use std::alloc::Global;
 use std::sync::Wait;
 use std::thread::Threads;
 
+// What runs a command line.
+#[derive(Drop)]
+pub(crate) struct Runner<'a, R, C> {
+    // What the command gets besides its words, files and output.
+    pub(crate) rt: &'a R,
+    pub(crate) alloc: Global,
+    // The program that rows are about.
+    pub(crate) command: &'a C,
+}
+
 // Room for so many bytes under a name.
 #[derive(Drop)]
 pub(crate) struct Room {
@@ -93,16 +103,16 @@ fn words_of(alloc: Global, line: &str) -> Result<Vec<String>, Memory> {
 
 // Runs a command line over these files, with new output.
 pub(crate) fn run_over<R: Threads + Wait + Sync, C: Command>(
-    rt: &R,
-    alloc: Global,
-    command: &C,
+    runner: &Runner<'_, R, C>,
     line: &str,
     mut shelf: MemShelf,
     failing: Option<Failing>,
 ) -> Result<Ran, Memory> {
+    let alloc = runner.alloc;
     let words = words_of(alloc, line)?;
     let mut sink = sink_of(alloc, failing)?;
-    let status = command.run(rt, alloc, &words, &mut shelf, &mut sink);
+    let command = runner.command;
+    let status = command.run(runner.rt, alloc, &words, &mut shelf, &mut sink);
     Ok(Ran {
         shelf,
         sink,

@@ -1,5 +1,5 @@
 //! A text of rows, read and done line by line.
-use crate::bench::{Failing, Ran, Room, Setting, nothing_ran, run_over};
+use crate::bench::{Failing, Ran, Room, Runner, Setting, nothing_ran, run_over};
 use crate::command::Command;
 use crate::directive::{Directive, Given, Runs, read_directive};
 use crate::notes::Notes;
@@ -72,23 +72,19 @@ impl Row {
     // Runs a command line over the files that are there, with new output.
     fn run_once<R: Threads + Wait + Sync, C: Command>(
         &mut self,
-        rt: &R,
-        alloc: Global,
-        command: &C,
+        runner: &Runner<'_, R, C>,
         line: &str,
     ) -> Result<(), Memory> {
         // The run takes the shelf, and gives it back with what it saved.
-        let shelf = mem::replace(&mut self.ran.shelf, MemShelf::new(alloc)?);
-        self.ran = run_over(rt, alloc, command, line, shelf, self.sink_fails)?;
+        let shelf = mem::replace(&mut self.ran.shelf, MemShelf::new(runner.alloc)?);
+        self.ran = run_over(runner, line, shelf, self.sink_fails)?;
         Ok(())
     }
 
     // Runs a command line, over all that a line says.
     fn run<R: Threads + Wait + Sync, C: Command>(
         &mut self,
-        rt: &R,
-        alloc: Global,
-        command: &C,
+        runner: &Runner<'_, R, C>,
         texts: &[Text],
         runs: Runs,
         line: &str,
@@ -96,14 +92,14 @@ impl Row {
         notes: &mut Notes,
     ) -> Result<(), Memory> {
         if let Runs::Once = runs {
-            self.run_once(rt, alloc, command, line)?;
+            self.run_once(runner, line)?;
         } else {
             let setting = Setting {
                 texts,
                 files: &self.files,
                 rooms: &self.rooms,
             };
-            let (ran, count) = run_many(rt, alloc, command, setting, line, runs, bytes, notes)?;
+            let (ran, count) = run_many(runner, setting, line, runs, bytes, notes)?;
             self.ran = ran;
             if let Runs::EachShelfCall(_) = runs {
                 self.failed_calls = count;
@@ -121,15 +117,14 @@ fn has_bytes(line: &str) -> bool {
 
 // Does what a line says, with the bytes below it. There may be no line.
 fn do_line<R: Threads + Wait + Sync, C: Command>(
-    rt: &R,
-    alloc: Global,
-    command: &C,
+    runner: &Runner<'_, R, C>,
     texts: &mut Vec<Text>,
     row: &mut Row,
     line: &str,
     bytes: &[u8],
     notes: &mut Notes,
 ) -> Result<(), Memory> {
+    let alloc = runner.alloc;
     match read_directive(line) {
         None => notes.expect(line.is_empty(), "isn't in form", line.as_bytes()),
         Some(Directive::Given(given)) => {
@@ -139,7 +134,7 @@ fn do_line<R: Threads + Wait + Sync, C: Command>(
             row.take(alloc, given, bytes)
         }
         Some(Directive::Run(runs, line)) => {
-            row.run(rt, alloc, command, texts, runs, line, bytes, notes)?;
+            row.run(runner, texts, runs, line, bytes, notes)?;
             expect_kept(notes, &row.ran, &row.rooms, texts)?;
             expect_kept(notes, &row.ran, &row.rooms, &row.files)
         }
@@ -151,14 +146,13 @@ fn do_line<R: Threads + Wait + Sync, C: Command>(
 
 // Does the lines of one row, whose first line has this number.
 fn do_row<R: Threads + Wait + Sync, C: Command>(
-    rt: &R,
-    alloc: Global,
-    command: &C,
+    runner: &Runner<'_, R, C>,
     texts: &mut Vec<Text>,
     lines: &str,
     first: u64,
     notes: &mut Notes,
 ) -> Result<(), Memory> {
+    let alloc = runner.alloc;
     let mut row = Row::new(alloc, texts)?;
     let mut line = String::new(alloc);
     let mut number = first;
@@ -168,16 +162,7 @@ fn do_row<R: Threads + Wait + Sync, C: Command>(
             let in_form = add_line(alloc, &mut bytes, texts, next)?;
             notes.expect(in_form, "isn't in form", next.as_bytes())?;
         } else if !next.is_empty() && !next.starts_with("#") {
-            do_line(
-                rt,
-                alloc,
-                command,
-                texts,
-                &mut row,
-                line.as_str(),
-                &bytes,
-                notes,
-            )?;
+            do_line(runner, texts, &mut row, line.as_str(), &bytes, notes)?;
             notes.come_to(number);
             line.clear();
             line.push_str(next)?;
@@ -185,16 +170,7 @@ fn do_row<R: Threads + Wait + Sync, C: Command>(
         }
         number = number.saturating_add(1);
     }
-    do_line(
-        rt,
-        alloc,
-        command,
-        texts,
-        &mut row,
-        line.as_str(),
-        &bytes,
-        notes,
-    )
+    do_line(runner, texts, &mut row, line.as_str(), &bytes, notes)
 }
 
 /// Does the rows of a text. An error is out of memory.
@@ -204,6 +180,7 @@ pub fn do_rows<R: Threads + Wait + Sync, C: Command>(
     command: &C,
     text: &str,
 ) -> Result<Tally, Memory> {
+    let runner = Runner { rt, alloc, command };
     let mut texts = Vec::new(alloc);
     let mut notes = Notes::new(alloc);
     let mut number = 1_u64;
@@ -219,7 +196,7 @@ pub fn do_rows<R: Threads + Wait + Sync, C: Command>(
         } else {
             number.saturating_add(1)
         };
-        do_row(rt, alloc, command, &mut texts, lines, first, &mut notes)?;
+        do_row(&runner, &mut texts, lines, first, &mut notes)?;
         pieces = pieces.saturating_add(1);
         number = number.saturating_add(piece.split('\n').count() as u64);
     }

@@ -1,5 +1,5 @@
 //! Many runs of one command line.
-use crate::bench::{Failing, Ran, Room, Setting, run_over, shelf_of};
+use crate::bench::{Failing, Ran, Room, Runner, Setting, run_over, shelf_of};
 use crate::command::Command;
 use crate::directive::Runs;
 use crate::notes::Notes;
@@ -94,15 +94,13 @@ fn expect_like(
 }
 
 fn run_trial<R: Threads + Wait + Sync, C: Command>(
-    rt: &R,
-    alloc: Global,
-    command: &C,
+    runner: &Runner<'_, R, C>,
     setting: Setting<'_>,
     line: &str,
     trial: Trial<'_>,
 ) -> Result<Ran, Memory> {
-    let shelf = shelf_for(alloc, setting, trial)?;
-    run_over(rt, alloc, command, line, shelf, trial.sink)
+    let shelf = shelf_for(runner.alloc, setting, trial)?;
+    run_over(runner, line, shelf, trial.sink)
 }
 
 // Runs a command line many times, and notes which run isn't as it must be. Gives the whole run, and
@@ -114,23 +112,21 @@ fn run_trial<R: Threads + Wait + Sync, C: Command>(
 //   of its text, an earlier one is whole, and nothing is printed.
 // - Over a sink that keeps each number of bytes in turn, these are printed, and all is saved.
 pub(crate) fn run_many<R: Threads + Wait + Sync, C: Command>(
-    rt: &R,
-    alloc: Global,
-    command: &C,
+    runner: &Runner<'_, R, C>,
     setting: Setting<'_>,
     line: &str,
     runs: Runs,
     bytes: &[u8],
     notes: &mut Notes,
 ) -> Result<(Ran, u64), Memory> {
-    let whole = run_trial(rt, alloc, command, setting, line, whole_trial(runs, bytes))?;
+    let whole = run_trial(runner, setting, line, whole_trial(runs, bytes))?;
     let report = whole.sink.bytes().len();
     let mut count = 0;
     for number in 0..u64::MAX {
         let Some(trial) = trial_at(runs, number, bytes, report) else {
             break;
         };
-        let ran = run_trial(rt, alloc, command, setting, line, trial)?;
+        let ran = run_trial(runner, setting, line, trial)?;
         if trial.shelf.is_some() && ran.status == whole.status {
             break;
         }
