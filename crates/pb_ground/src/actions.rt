@@ -33,10 +33,12 @@ pub struct ActionInstance {
     pub cost: u64,
 }
 
-/// A task with what its instances need: what tests their static atoms, and the numbers of others.
+/// A task with what its instances need.
 #[derive(Clone, Copy)]
 struct IndexedTask<'a> {
+    /// The task, by whose types and objects schemas have instances.
     lifted: &'a Lifted,
+    /// What tests static atoms of the task.
     statics: &'a Statics,
     /// The ground atoms that have numbers.
     atoms: &'a Atoms,

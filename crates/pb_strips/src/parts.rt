@@ -65,10 +65,13 @@ fn packed_actions(
 /// A lifted task that is grounded.
 #[derive(Clone, Copy)]
 pub(crate) struct GroundTask<'a> {
+    /// The task before it is grounded.
     pub(crate) lifted: &'a Lifted,
-    /// Which atoms and actions these are.
+    /// By which rule there are these atoms and actions.
     pub(crate) grounding: Grounding,
+    /// The atoms that have numbers.
     pub(crate) atoms: &'a Atoms,
+    /// The ground actions.
     pub(crate) actions: &'a [ActionInstance],
     /// Whether it has no goal state, whichever of the atoms hold.
     pub(crate) never: bool,
