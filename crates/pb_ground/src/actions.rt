@@ -47,7 +47,7 @@ struct IndexedTask<'a> {
 /// How many ground actions there may be.
 const LIMIT: usize = 65_536;
 
-/// The instance of a schema for these objects. The call fails if memory runs out.
+// The instance of a schema for these objects. The call fails if memory runs out.
 fn action_of(
     alloc: Global,
     atoms: &Atoms,
@@ -71,7 +71,7 @@ fn action_of(
     })
 }
 
-/// Adds the instances of a schema for each of these lists of objects.
+// Adds the instances of a schema for each of these lists of objects.
 fn add_rows(
     alloc: Global,
     atoms: &Atoms,
@@ -89,7 +89,7 @@ fn add_rows(
     Ok(())
 }
 
-/// Adds the ground actions of a schema. `TooManyActions`: there would be more than may be.
+// Adds the ground actions of a schema. `TooManyActions`: there would be more than may be.
 fn add_actions(
     alloc: Global,
     task: &IndexedTask,
@@ -124,7 +124,7 @@ fn add_actions(
     Ok(())
 }
 
-/// Takes a look for each of some rows.
+// Takes a look for each of some rows.
 fn look_at_all(rows: &[LiftedAtom], looks: &mut Looks) -> Result<(), GroundError>
     ensures halted { IfErr result (TellsHalt looks.new) }
     ensures since { looks.new.since ≡ looks.old.since }

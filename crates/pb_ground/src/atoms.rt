@@ -48,7 +48,7 @@ impl Model for Atoms {
 }
 
 impl GroundAtom {
-    /// How it compares with the atom of this predicate and these objects.
+    // How it compares with the atom of this predicate and these objects.
     fn compare(&self, predicate: usize, objects: &[usize]) -> Ordering
         ensures { result ≡ slice_cmp nat_cmp (row_of self.now) (predicate ∷ objects.now) }
     {
@@ -73,14 +73,14 @@ impl Atoms {
         self.items.as_slice()
     }
 
-    /// How many atoms there are.
+    // How many atoms there are.
     fn len(&self) -> usize
         ensures { result ≡ length self.now }
     {
         self.items.as_slice().len()
     }
 
-    /// How the atom of this number compares with that of this predicate and these objects.
+    // How the atom of this number compares with that of this predicate and these objects.
     fn compare_at(&self, i: usize, predicate: usize, objects: &[usize]) -> Ordering
         requires { i < length self.now }
         ensures { result ≡ slice_cmp nat_cmp (row_in self.now i) (predicate ∷ objects.now) }
@@ -109,7 +109,7 @@ impl Atoms {
     }
 }
 
-/// Adds the atoms of a predicate with each of these lists of objects.
+// Adds the atoms of a predicate with each of these lists of objects.
 fn add_rows(
     alloc: Global,
     predicate: usize,
@@ -126,8 +126,8 @@ fn add_rows(
     Ok(())
 }
 
-/// Adds the ground atoms of a predicate whose parameters are of these types. The call fails if
-/// memory runs out.
+// Adds the ground atoms of a predicate whose parameters are of these types. The call fails if
+// memory runs out.
 fn add_atoms(
     alloc: Global,
     fluent: &BTreeSet<usize>,

@@ -12,7 +12,7 @@ use std::collections::BTreeSet;
 /// The greatest number of atoms that is reported.
 const MOST: u64 = 4_294_967_295;
 
-/// How many objects fit a parameter of this type.
+// How many objects fit a parameter of this type.
 fn count_fitting(lifted: &Lifted, wanted: usize) -> usize
     ensures { result ≡ length (fitting lifted.now wanted) }
 {
@@ -26,7 +26,7 @@ fn count_fitting(lifted: &Lifted, wanted: usize) -> usize
     count
 }
 
-/// How many instances parameters of these types have, or the greatest number that is reported.
+// How many instances parameters of these types have, or the greatest number that is reported.
 fn count_instances(lifted: &Lifted, kinds: &[usize]) -> u64
     ensures { result ≡ told (length (instances lifted.now kinds.now)) }
 {

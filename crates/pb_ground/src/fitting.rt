@@ -8,7 +8,7 @@ use pb_lifted::Lifted;
 use pb_pddl::Listed;
 use std::alloc::{AllocError, Global};
 
-/// The type above a type. For a type after the end that is `object`.
+// The type above a type. For a type after the end that is `object`.
 fn above(types: &[usize], kind: usize) -> usize
     ensures { result ≡ slice_index types.now kind }
 {

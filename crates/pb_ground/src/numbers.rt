@@ -15,7 +15,7 @@ use pb_pddl::Listed;
 use std::alloc::{AllocError, Global};
 use std::collections::BTreeSet;
 
-/// The objects that arguments mean, if these objects are given to the parameters.
+// The objects that arguments mean, if these objects are given to the parameters.
 fn values_of(
     alloc: Global,
     given: &[usize],
@@ -30,7 +30,7 @@ fn values_of(
     Ok(values)
 }
 
-/// The number of what an atom of a schema becomes, or None if that is no ground atom.
+// The number of what an atom of a schema becomes, or None if that is no ground atom.
 fn number_of(
     alloc: Global,
     atoms: &Atoms,
@@ -43,7 +43,7 @@ fn number_of(
     Ok(atoms.number(atom.predicate, objects.as_slice()))
 }
 
-/// Whether a number is one of these.
+// Whether a number is one of these.
 fn is_among(number: usize, numbers: &[usize]) -> bool
     ensures { result ≡ list_any (nat_eq number) numbers.now }
 {
@@ -55,8 +55,8 @@ fn is_among(number: usize, numbers: &[usize]) -> bool
     false
 }
 
-/// Adds a number, unless it is there, so that a list never gets longer than there are atoms. The
-/// call fails if memory runs out.
+// Adds a number, unless it is there, so that a list never gets longer than there are atoms. The
+// call fails if memory runs out.
 fn add_number(numbers: &mut Listed<usize>, number: usize) -> Result<(), AllocError>
     ensures { OnOk result (numbers.new ≡ with_number numbers.old number) }
 {
@@ -101,7 +101,7 @@ pub fn goal(alloc: Global, lifted: &Lifted, atoms: &Atoms) -> Result<Listed<usiz
     numbers_of(alloc, atoms, &[], lifted.goal.as_slice())
 }
 
-/// Whether the predicates of some atoms are all fluent.
+// Whether the predicates of some atoms are all fluent.
 fn all_fluent(fluent: &BTreeSet<usize>, lifted: &Lifted, atoms: &[LiftedAtom]) -> bool
     requires { AreFluent fluent.now lifted.now }
     ensures { result ≡ true → (given : List ℕ) → statics_hold lifted.now atoms.now given ≡ true }

@@ -10,7 +10,7 @@ use crate::scope::{Scope, entry_of_term, predicate_of, term_name};
 use crate::tree::is_below;
 use pb_pddl::{Atom, Literal, Predicate, Term, Typed};
 
-/// The earlier of the first place and those of arguments that are neither objects nor parameters.
+// The earlier of the first place and those of arguments that are neither objects nor parameters.
 #[tactic(auto, using(crate::proofs::Earliest::earliest_append))]
 fn first_unknown_term(scope: &Scope<'_>, terms: &[Term], first: Option<u64>) -> Option<u64>
     requires { IsScope scope.now }
@@ -25,7 +25,7 @@ fn first_unknown_term(scope: &Scope<'_>, terms: &[Term], first: Option<u64>) -> 
     found
 }
 
-/// Whether the type of an argument is neither a parameter's nor below it.
+// Whether the type of an argument is neither a parameter's nor below it.
 fn is_misfit(scope: &Scope<'_>, term: &Term, wanted: &Typed) -> bool
     requires { IsScope scope.now }
     ensures { result ≡ is_misfit scope.now.domain.now scope.now.problem.now scope.now.params.now
@@ -43,8 +43,8 @@ fn is_misfit(scope: &Scope<'_>, term: &Term, wanted: &Typed) -> bool
     }
 }
 
-/// The earlier of the first place and those of arguments whose types are neither the parameters'
-/// nor below them.
+// The earlier of the first place and those of arguments whose types are neither the parameters'
+// nor below them.
 #[tactic(auto, using(crate::proofs::Earliest::earliest_append))]
 fn first_wrong_type(
     scope: &Scope<'_>,
@@ -68,7 +68,7 @@ fn first_wrong_type(
     found
 }
 
-/// Whether there are as many arguments as the predicate has parameters, if it is declared.
+// Whether there are as many arguments as the predicate has parameters, if it is declared.
 fn fits_arity(terms: &[Term], predicate: Option<&Predicate>) -> bool
     ensures { result ≡ fits_arity terms.now (option_copied predicate.entry) }
 {
@@ -78,7 +78,7 @@ fn fits_arity(terms: &[Term], predicate: Option<&Predicate>) -> bool
     }
 }
 
-/// The earlier of the first place and those of this cause in an atom.
+// The earlier of the first place and those of this cause in an atom.
 fn first_in_atom(cause: Cause, scope: &Scope<'_>, atom: &Atom, first: Option<u64>) -> Option<u64>
     requires { IsScope scope.now }
     ensures { result ≡ earliest first (in_atom cause scope.now.domain.now scope.now.problem.now

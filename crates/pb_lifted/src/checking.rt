@@ -34,7 +34,7 @@ const ORDER: [Cause; 13] = [
 /// How many objects there may be.
 const MOST_OBJECTS: u64 = 1000;
 
-/// The first place of this cause. `names` has no names.
+// The first place of this cause. `names` has no names.
 fn first_place(
     cause: Cause,
     tables: &NameTables,
@@ -61,7 +61,7 @@ fn first_place(
     }
 }
 
-/// The refusal of too many objects, if there are too many.
+// The refusal of too many objects, if there are too many.
 fn too_many_objects(domain: &Domain, problem: &Problem) -> Option<TypingRefusal>
     ensures { result ≡ too_many (length (objects_of domain.now problem.now)) }
 {
@@ -73,7 +73,7 @@ fn too_many_objects(domain: &Domain, problem: &Problem) -> Option<TypingRefusal>
     }
 }
 
-/// The first refusal, from the tables. `names` has no names.
+// The first refusal, from the tables. `names` has no names.
 fn find_refusal(
     tables: &NameTables,
     domain: &Domain,
@@ -92,7 +92,7 @@ fn find_refusal(
     too_many_objects(domain, problem)
 }
 
-/// The lifted task, or the first refusal, from the tables. Memory may run out.
+// The lifted task, or the first refusal, from the tables. Memory may run out.
 fn resolve_by(
     alloc: Global,
     tables: &NameTables,

@@ -11,7 +11,7 @@ pub(crate) fn at(list: &[usize], place: usize) -> usize
     if place < list.len() { list[place] } else { 0 }
 }
 
-/// Where each step of the first list leads by a step of the second.
+// Where each step of the first list leads by a step of the second.
 fn follow(alloc: Global, first: &[usize], second: &[usize]) -> Result<Vec<usize>, AllocError>
     ensures { IfOk result (λ both. both.items ≡ followed first.now second.now) }
 {
@@ -22,7 +22,7 @@ fn follow(alloc: Global, first: &[usize], second: &[usize]) -> Result<Vec<usize>
     Ok(both)
 }
 
-/// The numbers below n, in order.
+// The numbers below n, in order.
 fn places(alloc: Global, n: usize) -> Result<Vec<usize>, AllocError>
     ensures { IfOk result (λ v. IsFar [] 0 v.items × (length v.items ≡ n)) }
 {

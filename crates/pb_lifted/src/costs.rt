@@ -9,7 +9,7 @@ use pb_pddl::{Action, Cost, Name, Problem};
 /// The greatest number of an increase.
 pub(crate) const MOST_COST: u64 = 1_048_576;
 
-/// The number of an action's increase, or 0 if it has none.
+// The number of an action's increase, or 0 if it has none.
 fn increase_of(costs: &[Cost]) -> u64
     ensures { result ≡ increase_of costs.now }
 {
@@ -80,8 +80,8 @@ pub(crate) fn first_too_great(most: u64, costs: &[Cost], first: Option<u64>) -> 
     found
 }
 
-/// The earlier of the first place and that of the name of an action without an increase, or of the
-/// number 0 of one.
+// The earlier of the first place and that of the name of an action without an increase, or of the
+// number 0 of one.
 fn note_zero(name: &Name, costs: &[Cost], first: Option<u64>) -> Option<u64>
     ensures { result ≡ earliest first (zero_increase name.now costs.now) }
 {

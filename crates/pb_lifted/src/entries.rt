@@ -8,7 +8,7 @@ use crate::declared::Declared;
 use crate::names::Names;
 use pb_pddl::Typed;
 
-/// The element at a place, or None after the end.
+// The element at a place, or None after the end.
 fn item<T>(items: &[T], place: usize) -> Option<&T>
     ensures { option_copied result ≡ slice_get items.now place }
 {

@@ -21,14 +21,14 @@ use pb_pddl::{Action, Domain, Name, Predicate, Problem, Typed};
 /// How many parameters a predicate or an action may have.
 const MOST_PARAMETERS: usize = 16;
 
-/// The earlier of the first place and that of a name with too many parameters.
+// The earlier of the first place and that of a name with too many parameters.
 fn note_width(name: &Name, params: &[Typed], first: Option<u64>) -> Option<u64>
     ensures { result ≡ earliest first (too_wide name.now params.now) }
 {
     note(first, params.len() > MOST_PARAMETERS, name.at)
 }
 
-/// The earlier of the first place and those of this cause in the declaration of a predicate.
+// The earlier of the first place and those of this cause in the declaration of a predicate.
 fn first_in_predicate(
     cause: Cause,
     tree: &Tree,
@@ -47,7 +47,7 @@ fn first_in_predicate(
     }
 }
 
-/// The earlier of the first place and those of this cause in the declarations of predicates.
+// The earlier of the first place and those of this cause in the declarations of predicates.
 fn first_in_predicates(
     cause: Cause,
     tree: &Tree,
@@ -65,8 +65,8 @@ fn first_in_predicates(
     found
 }
 
-/// The earlier of the first place and those of this cause in an action. The names are those of its
-/// parameters.
+// The earlier of the first place and those of this cause in an action. The names are those of its
+// parameters.
 #[tactic(auto, using(crate::proofs::Earliest::earliest_append))]
 fn first_in_action(
     cause: Cause,
@@ -106,7 +106,7 @@ fn first_in_action(
     }
 }
 
-/// The earlier of the first place and those of this cause in the actions.
+// The earlier of the first place and those of this cause in the actions.
 fn first_in_actions(
     cause: Cause,
     tables: &NameTables,

@@ -15,7 +15,7 @@ use crate::tree::number;
 use pb_pddl::{Action, Atom, Domain, Listed, Literal, Predicate, Problem, Term, Typed};
 use std::alloc::{AllocError, Global};
 
-/// Adds the numbers of the types of objects or parameters.
+// Adds the numbers of the types of objects or parameters.
 fn add_kinds(out: &mut Listed<usize>, types: &Names, list: &[Typed]) -> Result<(), AllocError>
     ensures { OnOk result (out.new ≡ out.old ++ kind_numbers types.now list.now) }
 {
@@ -25,7 +25,7 @@ fn add_kinds(out: &mut Listed<usize>, types: &Names, list: &[Typed]) -> Result<(
     Ok(())
 }
 
-/// The numbers of the types of objects or parameters.
+// The numbers of the types of objects or parameters.
 fn kinds_of(alloc: Global, types: &Names, list: &[Typed]) -> Result<Listed<usize>, AllocError>
     ensures { IfOk result (λ kinds. kinds ≡ kind_numbers types.now list.now) }
 {
@@ -34,7 +34,7 @@ fn kinds_of(alloc: Global, types: &Names, list: &[Typed]) -> Result<Listed<usize
     Ok(kinds)
 }
 
-/// An argument by its number.
+// An argument by its number.
 fn argument_of(objects: &Names, params: &Names, term: &Term) -> Argument
     ensures { result ≡ argument_of objects.now params.now term.now }
 {
@@ -44,7 +44,7 @@ fn argument_of(objects: &Names, params: &Names, term: &Term) -> Argument
     }
 }
 
-/// Arguments by their numbers.
+// Arguments by their numbers.
 fn arguments_of(
     alloc: Global,
     objects: &Names,
@@ -60,7 +60,7 @@ fn arguments_of(
     Ok(list)
 }
 
-/// An atom by numbers.
+// An atom by numbers.
 fn atom_of(
     alloc: Global,
     predicates: &Names,
@@ -78,7 +78,7 @@ fn atom_of(
     })
 }
 
-/// Atoms by numbers.
+// Atoms by numbers.
 fn atoms_of(
     alloc: Global,
     predicates: &Names,
@@ -96,7 +96,7 @@ fn atoms_of(
     Ok(list)
 }
 
-/// The atoms of an effect that are negated, or those that are not, by numbers.
+// The atoms of an effect that are negated, or those that are not, by numbers.
 fn effect_of(
     alloc: Global,
     negated: bool,
@@ -117,7 +117,7 @@ fn effect_of(
     Ok(list)
 }
 
-/// A schema by numbers.
+// A schema by numbers.
 fn schema_of(
     alloc: Global,
     tables: &NameTables,
@@ -145,7 +145,7 @@ fn schema_of(
     })
 }
 
-/// Schemas by numbers.
+// Schemas by numbers.
 fn schemas_of(
     alloc: Global,
     tables: &NameTables,
@@ -163,7 +163,7 @@ fn schemas_of(
     Ok(list)
 }
 
-/// For each predicate the numbers of the types of its parameters.
+// For each predicate the numbers of the types of its parameters.
 fn predicate_kinds(
     alloc: Global,
     types: &Names,
@@ -178,7 +178,7 @@ fn predicate_kinds(
     Ok(list)
 }
 
-/// The numbers of the types above `object` and above each declared type.
+// The numbers of the types above `object` and above each declared type.
 fn parents_of(alloc: Global, types: &Names, list: &[Typed]) -> Result<Listed<usize>, AllocError>
     ensures { IfOk result (λ kinds. kinds ≡ parent_numbers types.now list.now) }
 {
@@ -188,7 +188,7 @@ fn parents_of(alloc: Global, types: &Names, list: &[Typed]) -> Result<Listed<usi
     Ok(kinds)
 }
 
-/// The numbers of the types of the constants, and then of the objects of the problem.
+// The numbers of the types of the constants, and then of the objects of the problem.
 fn kinds_of_objects(
     alloc: Global,
     types: &Names,
@@ -203,7 +203,7 @@ fn kinds_of_objects(
     Ok(kinds)
 }
 
-/// Atoms without variables by numbers.
+// Atoms without variables by numbers.
 fn ground_atoms(
     alloc: Global,
     tables: &NameTables,

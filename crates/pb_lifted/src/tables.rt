@@ -28,8 +28,8 @@ pub(crate) struct NameTables {
     pub(crate) cycle: Option<u64>,
 }
 
-/// Adds the names of the parameters of each action, and finds the earlier of the first place and
-/// that of a name that is there twice.
+// Adds the names of the parameters of each action, and finds the earlier of the first place and
+// that of a name that is there twice.
 #[tactic(auto, using(crate::proofs::Earliest::earliest_append))]
 fn enter_params(
     alloc: Global,
@@ -50,7 +50,7 @@ fn enter_params(
     Ok(found)
 }
 
-/// The first place of a type that is declared twice. The call fails if memory runs out.
+// The first place of a type that is declared twice. The call fails if memory runs out.
 fn twice_in_types(alloc: Global, types: &[Typed]) -> Result<Option<u64>, AllocError>
     ensures { IfOk result (λ found. found ≡ earliest None
         (repeated [] (map typed_name (declared_types types.now)))) }
@@ -59,7 +59,7 @@ fn twice_in_types(alloc: Global, types: &[Typed]) -> Result<Option<u64>, AllocEr
     enter_types(&mut declared, types, None)
 }
 
-/// The earlier of the first place and that of an action that is declared twice.
+// The earlier of the first place and that of an action that is declared twice.
 fn twice_in_actions(
     alloc: Global,
     actions: &[Action],
@@ -72,8 +72,8 @@ fn twice_in_actions(
     enter_all(&mut names, actions, first)
 }
 
-/// Enters the names of objects, of predicates and of each action's parameters. It gives the first
-/// place of a name that is declared twice in the domain, and that in the problem.
+// Enters the names of objects, of predicates and of each action's parameters. It gives the first
+// place of a name that is declared twice in the domain, and that in the problem.
 fn enter_names(
     alloc: Global,
     domain: &Domain,

@@ -25,7 +25,7 @@ pub(crate) fn number(names: &Names, text: &[u8]) -> usize
     names.find(text).unwrap_or(0)
 }
 
-/// For `object` and each declared type the number of the type above it.
+// For `object` and each declared type the number of the type above it.
 fn parents_of(alloc: Global, names: &Names, types: &[Typed]) -> Result<Vec<usize>, AllocError>
     ensures { IfOk result (λ parents. parents.items ≡ parent_numbers names.now types.now) }
 {
@@ -37,7 +37,7 @@ fn parents_of(alloc: Global, names: &Names, types: &[Typed]) -> Result<Vec<usize
     Ok(parents)
 }
 
-/// Adds the name `object`.
+// Adds the name `object`.
 fn enter_object(alloc: Global, names: &mut Names) -> Result<(), AllocError>
     ensures { OnOk result (names.new ≡ names.old ++ object ∷ []) }
 {
@@ -46,7 +46,7 @@ fn enter_object(alloc: Global, names: &mut Names) -> Result<(), AllocError>
     Ok(())
 }
 
-/// Enters the names of the types, `object` first.
+// Enters the names of the types, `object` first.
 fn enter_types(alloc: Global, names: &mut Names, types: &[Typed]) -> Result<(), AllocError>
     requires { names.old ≡ [] }
     ensures { OnOk result (names.new ≡ type_names types.now) }
@@ -68,8 +68,8 @@ pub(crate) fn tree_of(alloc: Global, types: &[Typed]) -> Result<Tree, AllocError
     Ok(Tree { names, parents })
 }
 
-/// Whether the way up from a declared type does not come to `object`, or `object` is declared below
-/// another type. `far` has the number that each type's whole way comes to.
+// Whether the way up from a declared type does not come to `object`, or `object` is declared below
+// another type. `far` has the number that each type's whole way comes to.
 fn is_cyclic(tree: &Tree, far: &[usize], typed: &Typed) -> bool
     ensures { result ≡ does_not_lead tree.now.names far.now typed.now }
 {
@@ -98,7 +98,7 @@ pub(crate) fn first_cycle(
     Ok(found)
 }
 
-/// The earlier of the first place and that of the name after a `-`, if that name is no type.
+// The earlier of the first place and that of the name after a `-`, if that name is no type.
 #[tactic(auto, using(crate::proofs::Numbering::among_number))]
 fn unknown_kind(tree: &Tree, types: &[Typed], typed: &Typed, first: Option<u64>) -> Option<u64>
     requires { IsTree tree.now types.now }

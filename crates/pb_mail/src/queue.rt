@@ -17,12 +17,15 @@ pub type Queue<K> = RuledSegQueue<Sent, View, Mail<K>>;
 /// What one pass knows of it.
 pub type QueuePass = SegPass<Sent, View>;
 
+/// A queue that nobody else knows yet, and its first pass, which may put letters in and take them
+/// out. An error means out of memory.
 pub fn open<K: LetterRule>(alloc: Global) -> Result<(Queue<K>, QueuePass), AllocError>
     ensures { IfOk result (λ r. IsSegPassOf r.0 r.1 × (r.1.me.view.client ≡ first_view)) }
 {
     Queue::<K>::with_rule(alloc)
 }
 
+/// Puts a letter at the end. An error means out of memory, and the letter comes back.
 pub fn send<K: LetterRule, R: Wait>(
     rt: &R,
     queue: &Queue<K>,
@@ -41,6 +44,7 @@ pub fn send<K: LetterRule, R: Wait>(
     queue.push_as::<Sends, R>(rt, queue_pass, item)
 }
 
+/// Takes the first letter. None may also mean that a letter was on its way.
 pub fn take<K: LetterRule, R: Wait>(
     rt: &R,
     queue: &Queue<K>,
@@ -58,6 +62,7 @@ pub fn take<K: LetterRule, R: Wait>(
     queue.pop_as::<Takes<K>, R>(rt, queue_pass)
 }
 
+/// Whether the queue is empty at some moment of the call. Only a yes says something.
 pub fn is_empty<K: LetterRule>(queue: &Queue<K>, queue_pass: &mut QueuePass) -> bool
     requires own { IsSegPassOf queue.now queue_pass.old }
     requires live { IsTrue queue_pass.old.me.view.client.is_live }
@@ -70,6 +75,7 @@ pub fn is_empty<K: LetterRule>(queue: &Queue<K>, queue_pass: &mut QueuePass) -> 
     queue.is_empty_as::<Takes<K>>(queue_pass)
 }
 
+/// One more pass, which may put letters in and not take them out.
 pub fn split<K: LetterRule>(queue: &Queue<K>, queue_pass: &mut QueuePass) -> QueuePass
     requires own { IsSegPassOf queue.now queue_pass.old }
     requires live { IsTrue queue_pass.old.me.view.client.is_live }
@@ -81,6 +87,7 @@ pub fn split<K: LetterRule>(queue: &Queue<K>, queue_pass: &mut QueuePass) -> Que
     queue.another::<Splits>(queue_pass)
 }
 
+/// A pass with the right to take letters, which the first pass then no longer has.
 pub fn hand_over<K: LetterRule>(queue: &Queue<K>, queue_pass: &mut QueuePass) -> QueuePass
     requires own { IsSegPassOf queue.now queue_pass.old }
     requires live { IsTrue queue_pass.old.me.view.client.is_live }
@@ -93,6 +100,7 @@ pub fn hand_over<K: LetterRule>(queue: &Queue<K>, queue_pass: &mut QueuePass) ->
     queue.another::<Hands>(queue_pass)
 }
 
+/// Takes another pass in. This one then knows what that one sent, and may take what that one might.
 pub fn meet<K: LetterRule>(queue: &Queue<K>, queue_pass: &mut QueuePass, other: QueuePass)
     requires own { IsSegPassOf queue.now queue_pass.old × IsSegPassOf queue.now other }
     requires live { IsTrue queue_pass.old.me.view.client.is_live × IsTrue other.me.view.client.is_live }

@@ -9,14 +9,14 @@ use pb_pddl::{Domain, Problem, Typed};
 use pb_task::ActionName;
 use std::alloc::{AllocError, Global};
 
-/// The element at a place, or None after the end.
+// The element at a place, or None after the end.
 fn item<T>(items: &[T], place: usize) -> Option<&T>
     ensures { option_copied result ≡ slice_get items.now place }
 {
     items.get(place)
 }
 
-/// The object of a number: the constants come first. None after the last.
+// The object of a number: the constants come first. None after the last.
 fn object<'a>(domain: &'a Domain, problem: &'a Problem, i: usize) -> Option<&'a Typed>
     ensures { option_copied result ≡ slice_get (objects_of domain.now problem.now) i }
 {
@@ -28,7 +28,7 @@ fn object<'a>(domain: &'a Domain, problem: &'a Problem, i: usize) -> Option<&'a 
     }
 }
 
-/// The name of an action of the domain, or no bytes after the last.
+// The name of an action of the domain, or no bytes after the last.
 #[tactic(auto, using(crate::proofs::Words::some_name, crate::proofs::Words::no_name))]
 fn action_word(domain: &Domain, i: usize) -> &[u8]
     ensures { result.now ≡ name_at (map action_word domain.now.actions) i }
@@ -39,7 +39,7 @@ fn action_word(domain: &Domain, i: usize) -> &[u8]
     }
 }
 
-/// The name of an object, or no bytes after the last.
+// The name of an object, or no bytes after the last.
 #[tactic(auto, using(crate::proofs::Words::some_name, crate::proofs::Words::no_name))]
 fn object_word<'a>(domain: &'a Domain, problem: &'a Problem, i: usize) -> &'a [u8]
     ensures { result.now ≡ name_at (object_names domain.now problem.now) i }
@@ -50,7 +50,7 @@ fn object_word<'a>(domain: &'a Domain, problem: &'a Problem, i: usize) -> &'a [u
     }
 }
 
-/// Adds the names of objects, each with a space before it.
+// Adds the names of objects, each with a space before it.
 fn add_objects(
     domain: &Domain,
     problem: &Problem,

@@ -15,7 +15,7 @@ use pb_pddl::{Domain, Problem};
 use pb_task::{Actions, Grounding, StripsParts};
 use std::alloc::{AllocError, Global};
 
-/// A ground action with its name and its sets.
+// A ground action with its name and its sets.
 fn packed_action(
     alloc: Global,
     domain: &Domain,
@@ -43,7 +43,7 @@ fn packed_action(
     })
 }
 
-/// The ground actions with their names and their sets.
+// The ground actions with their names and their sets.
 fn packed_actions(
     alloc: Global,
     domain: &Domain,

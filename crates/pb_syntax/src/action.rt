@@ -15,7 +15,7 @@ use std::alloc::Global;
 /// How many parentheses may be inside one another.
 pub const DEEPEST: u32 = 32;
 
-// The keyword came before.
+/// The keyword came before.
 #[tactic(auto, unfolding(pb_pddl::specs::Reading::once))]
 pub fn once(tokens: &[Token]) -> SyntaxError
     ensures { result ≡ once tokens.now }
@@ -26,6 +26,7 @@ pub fn once(tokens: &[Token]) -> SyntaxError
     }
 }
 
+/// The list, or an empty one.
 pub fn or_empty<T: Drop>(alloc: Global, list: Option<Listed<T>>) -> Listed<T>
     ensures { result ≡ or_empty list }
 {
@@ -169,7 +170,7 @@ fn action_of(alloc: Global, name: Name, parts: ActionParts) -> Action
     }
 }
 
-// An action, after its keyword.
+/// An action, after its keyword.
 #[tactic(auto, using(crate::proofs::Steps::action_in_steps))]
 pub fn add_action<'a>(
     alloc: Global,

@@ -76,7 +76,7 @@ fn head(alloc: Global, tokens: &[Token]) -> Result<(Name, &[Token]), SyntaxError
     }
 }
 
-// An atom, after its `(`.
+/// An atom, after its `(`.
 #[tactic(auto, unfolding(pb_pddl::specs::Reading::atom_at))]
 pub fn atom<'a>(
     alloc: Global,

@@ -23,7 +23,7 @@ fn add_atom<'a>(
     Ok(rest)
 }
 
-// Adds the atoms of a condition within so many parentheses.
+/// Adds the atoms of a condition within so many parentheses.
 #[cycle(cond)]
 #[tactic(auto, unfolding(pb_pddl::specs::Reading::cond_at))]
 pub fn cond<'a>(
@@ -120,7 +120,7 @@ fn negative<'a>(
     need(TokenKind::Close, Want::Close, rest)
 }
 
-// Adds the atoms of an effect within so many parentheses.
+/// Adds the atoms of an effect within so many parentheses.
 #[cycle(effect)]
 #[tactic(auto, unfolding(pb_pddl::specs::Reading::effect_at))]
 pub fn effect<'a>(

@@ -7,7 +7,7 @@ use crate::pieces::{begins, behind, fault, left_out, need, only_word, place, spe
 use pb_lines::short_number_of;
 use pb_pddl::{Cost, EffectParts, InitParts, LeftOut, SyntaxError, Token, TokenKind, Want};
 
-// `( total-cost )`: the place of the word.
+/// `( total-cost )`: the place of the word.
 #[tactic(auto, unfolding(pb_pddl::specs::Reading::total_cost_at))]
 pub fn total_cost(tokens: &[Token]) -> Result<(u64, &[Token]), SyntaxError>
     ensures { Gives (λ x. (x.0, x.1.now)) result (total_cost_at tokens.now) }
@@ -89,7 +89,7 @@ fn cost(tokens: &[Token]) -> Result<(Cost, &[Token]), SyntaxError>
     Ok((cost, rest))
 }
 
-// Adds a cost to an effect, at its `increase`.
+/// Adds a cost to an effect, at its `increase`.
 #[tactic(auto, unfolding(pb_pddl::specs::Reading::add_increase))]
 pub fn add_increase<'a>(
     out: &mut EffectParts,
@@ -102,7 +102,7 @@ pub fn add_increase<'a>(
     Ok(rest)
 }
 
-// Adds a cost of `:init`, at its `=`.
+/// Adds a cost of `:init`, at its `=`.
 #[tactic(auto, unfolding(pb_pddl::specs::Reading::add_equal))]
 pub fn add_equal<'a>(out: &mut InitParts, tokens: &'a [Token]) -> Result<&'a [Token], SyntaxError>
     ensures { Gives (λ rest. (out.new, rest.now)) result (add_equal out.old tokens.now) }
@@ -149,7 +149,7 @@ fn one_function(tokens: &[Token]) -> Result<(bool, &[Token]), SyntaxError>
     Ok((true, rest))
 }
 
-// Whether `total-cost` is declared, and the `)` after it.
+/// Whether `total-cost` is declared, and the `)` after it.
 #[tactic(auto, unfolding(pb_pddl::specs::Reading::functions_at))]
 pub fn functions(tokens: &[Token]) -> Result<(bool, &[Token]), SyntaxError>
     ensures { Gives (λ x. (x.0, x.1.now)) result (functions_at tokens.now) }

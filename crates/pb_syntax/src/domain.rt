@@ -106,7 +106,7 @@ fn action_section<'a>(
     Ok(rest)
 }
 
-// No keyword of a section that there is.
+/// No keyword of a section that there is.
 #[tactic(auto, unfolding(pb_pddl::specs::Reading::no_section))]
 pub fn no_section(tokens: &[Token]) -> SyntaxError
     ensures { result ≡ no_section tokens.now }
@@ -186,7 +186,7 @@ fn head<'a>(word: &[u8], tokens: &'a [Token]) -> Result<&'a [Token], SyntaxError
     need_word(word, rest)
 }
 
-// The name of a form.
+/// The name of a form.
 #[tactic(auto, using(crate::proofs::Steps::title_in_steps))]
 pub fn title<'a>(
     alloc: Global,
@@ -201,7 +201,7 @@ pub fn title<'a>(
     Ok((name, rest))
 }
 
-// Nothing comes after the whole form.
+/// Nothing comes after the whole form.
 #[tactic(auto, unfolding(pb_pddl::specs::Reading::end_at))]
 pub fn end(tokens: &[Token]) -> Result<&[Token], SyntaxError>
     ensures { Gives (λ x. x.now) result (end_at tokens.now) }

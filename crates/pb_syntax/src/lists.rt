@@ -132,7 +132,7 @@ fn add_list<'a>(
     Ok(rest)
 }
 
-// A list of names with types, and the `)` after it.
+/// A list of names with types, and the `)` after it.
 pub fn list(
     alloc: Global,
     kind: TokenKind,
@@ -182,7 +182,7 @@ fn all_predicates<'a>(
     Ok(rest)
 }
 
-// The predicates, and the `)` after them.
+/// The predicates, and the `)` after them.
 #[tactic(auto, unfolding(pb_pddl::specs::Reading::predicates_at))]
 pub fn predicates(
     alloc: Global,
@@ -196,6 +196,7 @@ pub fn predicates(
     Ok((out, rest))
 }
 
+/// Whether the first token is a keyword.
 #[tactic(auto, unfolding(pb_pddl::specs::Reading::begins_key))]
 pub fn begins_key(tokens: &[Token]) -> bool
     ensures { result ≡ begins_key tokens.now }
@@ -234,7 +235,7 @@ fn all_keys<'a>(
     Ok(rest)
 }
 
-// The words of requirements, and the `)` after them.
+/// The words of requirements, and the `)` after them.
 #[tactic(auto, unfolding(pb_pddl::specs::Reading::keys_at))]
 pub fn keys(alloc: Global, tokens: &[Token]) -> Result<&[Token], SyntaxError>
     ensures { Gives (λ x. x.now) result (keys_at tokens.now) }
@@ -293,7 +294,7 @@ fn all_facts<'a>(
     Ok(rest)
 }
 
-// The content of `:init`, and the `)` after it.
+/// The content of `:init`, and the `)` after it.
 #[tactic(auto, unfolding(pb_pddl::specs::Reading::facts_at))]
 pub fn facts(alloc: Global, tokens: &[Token]) -> Result<(InitParts, &[Token]), SyntaxError>
     ensures { Gives (λ x. (x.0, x.1.now)) result (facts_at tokens.now) }

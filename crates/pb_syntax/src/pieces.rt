@@ -31,7 +31,7 @@ fn same_kind(a: TokenKind, b: TokenKind) -> bool
     kind_number(a) == kind_number(b)
 }
 
-// Whether the first token is of this kind.
+/// Whether the first token is of this kind.
 #[tactic(auto, unfolding(pb_pddl::specs::Reading::begins, pb_pddl::specs::Reading::front))]
 pub fn begins(kind: TokenKind, tokens: &[Token]) -> bool
     ensures { result ≡ begins kind tokens.now }
@@ -60,7 +60,7 @@ fn has_text(text: &[u8], tokens: &[Token]) -> bool
     }
 }
 
-// Whether the first token is of this kind and text.
+/// Whether the first token is of this kind and text.
 #[tactic(auto, unfolding(pb_pddl::specs::Reading::spells))]
 pub fn spells(kind: TokenKind, text: &[u8], tokens: &[Token]) -> bool
     ensures { result ≡ spells kind text.now tokens.now }
@@ -109,7 +109,7 @@ fn refusal(want: Want, token: &Token) -> SyntaxError
     }
 }
 
-// Why the first token can't go on, if this is wanted.
+/// Why the first token can't go on, if this is wanted.
 #[tactic(auto, unfolding(pb_pddl::specs::Reading::fault_at, pb_pddl::specs::Reading::front, pb_pddl::specs::Reading::refusal))]
 pub fn fault(want: Want, tokens: &[Token]) -> SyntaxError
     ensures { result ≡ fault_at want tokens.now }
@@ -120,7 +120,7 @@ pub fn fault(want: Want, tokens: &[Token]) -> SyntaxError
     }
 }
 
-// The first token is a feature that is left out.
+/// The first token is a feature that is left out.
 #[tactic(auto, unfolding(pb_pddl::specs::Reading::left_at, pb_pddl::specs::Reading::front))]
 pub fn left_out(what: LeftOut, tokens: &[Token]) -> SyntaxError
     ensures { result ≡ left_at what tokens.now }
@@ -134,7 +134,7 @@ pub fn left_out(what: LeftOut, tokens: &[Token]) -> SyntaxError
     }
 }
 
-// The tokens after the first.
+/// The tokens after the first.
 pub fn behind(tokens: &[Token]) -> &[Token]
     ensures { result.now ≡ drop 1 tokens.now }
 {
@@ -144,7 +144,7 @@ pub fn behind(tokens: &[Token]) -> &[Token]
     }
 }
 
-// Takes a token of this kind.
+/// Takes a token of this kind.
 #[tactic(auto, unfolding(pb_pddl::specs::Reading::need))]
 pub fn need(kind: TokenKind, want: Want, tokens: &[Token]) -> Result<&[Token], SyntaxError>
     ensures { Gives (λ x. x.now) result (need kind want tokens.now) }
@@ -156,7 +156,7 @@ pub fn need(kind: TokenKind, want: Want, tokens: &[Token]) -> Result<&[Token], S
     }
 }
 
-// Takes this word.
+/// Takes this word.
 #[tactic(auto, unfolding(pb_pddl::specs::Reading::need_word))]
 pub fn need_word<'a>(text: &[u8], tokens: &'a [Token]) -> Result<&'a [Token], SyntaxError>
     ensures { Gives (λ x. x.now) result (need_word text.now tokens.now) }
@@ -179,7 +179,7 @@ fn begins_reserved(tokens: &[Token]) -> bool
     }
 }
 
-// Takes this word, whose alternatives are left out.
+/// Takes this word, whose alternatives are left out.
 #[tactic(auto, unfolding(pb_pddl::specs::Reading::only_word))]
 pub fn only_word<'a>(
     text: &[u8],
@@ -198,7 +198,7 @@ pub fn only_word<'a>(
     }
 }
 
-// The name that the first token is.
+/// The name that the first token is.
 #[tactic(auto, unfolding(pb_pddl::specs::Reading::front))]
 pub fn first_name(alloc: Global, tokens: &[Token]) -> Result<Name, AllocError>
     ensures { IfOk result (λ name. name ≡ name_of (front tokens.now)) }
@@ -215,7 +215,7 @@ pub fn first_name(alloc: Global, tokens: &[Token]) -> Result<Name, AllocError>
     }
 }
 
-// Takes a token of this kind as a name.
+/// Takes a token of this kind as a name.
 #[tactic(auto, unfolding(pb_pddl::specs::Reading::name_at))]
 pub fn name(
     alloc: Global,
@@ -232,7 +232,7 @@ pub fn name(
     }
 }
 
-// Whether the first token is a head that no atom has.
+/// Whether the first token is a head that no atom has.
 #[tactic(auto, unfolding(pb_pddl::specs::Reading::front))]
 pub fn is_reserved_first(tokens: &[Token]) -> bool
     ensures { result ≡ is_reserved (front tokens.now).text }
@@ -243,7 +243,7 @@ pub fn is_reserved_first(tokens: &[Token]) -> bool
     }
 }
 
-// A name that shares its text with this one.
+/// A name that shares its text with this one.
 pub fn copy_name(name: &Name) -> Result<Name, AllocError>
     ensures { IfOk result (λ copy. copy ≡ name.now) }
 {
@@ -253,7 +253,7 @@ pub fn copy_name(name: &Name) -> Result<Name, AllocError>
     })
 }
 
-// The place of the first token.
+/// The place of the first token.
 #[tactic(auto, unfolding(pb_pddl::specs::Reading::front))]
 pub fn place(tokens: &[Token]) -> u64
     ensures { result ≡ (front tokens.now).at }

@@ -13,6 +13,7 @@ fn is_white(byte: u8) -> bool
     byte == b' ' || byte == b'\t' || byte == b'\r' || byte == b'\n' || byte == 12
 }
 
+/// Whether a word may begin with this byte: a letter or a digit.
 #[tactic(auto, unfolding(pb_pddl::specs::Tokens::begins_word))]
 pub fn begins_word(byte: u8) -> bool
     ensures { result ≡ begins_word byte }
@@ -40,7 +41,7 @@ fn lower(byte: u8) -> u8
     }
 }
 
-// Whether a text begins with a word.
+/// Whether a text begins with a word.
 #[tactic(auto, unfolding(pb_pddl::specs::Tokens::word_first))]
 pub fn word_first(text: &[u8]) -> bool
     ensures { result ≡ word_first text.now }
@@ -72,7 +73,7 @@ fn gap_next(comment: bool, byte: u8) -> Option<bool>
     }
 }
 
-// How many bytes of white space and comments come first.
+/// How many bytes of white space and comments come first.
 pub fn gap_len(text: &[u8]) -> usize
     ensures within { result ≤ length text.now }
     ensures gap { result ≡ gap_len false text.now }
@@ -89,7 +90,7 @@ pub fn gap_len(text: &[u8]) -> usize
     count
 }
 
-// How many bytes that go on with a word come first.
+/// How many bytes that go on with a word come first.
 pub fn run_len(text: &[u8]) -> usize
     ensures within { result ≤ length text.now }
     ensures run { result ≡ run_len text.now }
@@ -104,7 +105,7 @@ pub fn run_len(text: &[u8]) -> usize
     count
 }
 
-// The bytes in lower case.
+/// The bytes in lower case.
 pub fn lower_bytes(alloc: Global, bytes: &[u8]) -> Result<Listed<u8>, AllocError>
     ensures { IfOk result (λ text. text ≡ map lower bytes.now) }
 {
