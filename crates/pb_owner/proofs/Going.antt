@@ -1,5 +1,5 @@
 -- One thing after another: what an owner did, and what it sent.
-use Rattle.std.proofs.Common.{◌≡◌, ℕ, ◌+◌, ◌*◌, ◌<◌, ◌≤◌, ◌-◌, ◌++◌, List, [], sym, ap, ◌∙◌, subst, arith, mul-le-mul_left}
+use Rattle.std.proofs.Common.{◌≡◌, ℕ, ◌+◌, ◌*◌, ◌<◌, ◌≤◌, ◌-◌, ◌++◌, List, [], refl, sym, ap, ◌∙◌, subst, arith, mul-le-mul_left}
 use Rattle.std.proofs.lemmas.List.{append-nil, append_assoc}
 use Rattle.pb_model.specs.Space.{Space, IsProper}
 use Rattle.pb_model.specs.Guide.{Guide}
@@ -53,7 +53,7 @@ module _ {K : Type 0} (post : Post K) where
     }
 
     -- work that sends nothing
-    pub expanded_still : (used broken : ℕ) → broken ≡ 0 → (old mid new : Share) (before after : PostPass) → HasExpanded space guide weight number used broken post old mid before after
+    expanded_still : (used broken : ℕ) → broken ≡ 0 → (old mid new : Share) (before after : PostPass) → HasExpanded space guide weight number used broken post old mid before after
         → ((letters : ℕ → List Letter) → HasWorked space guide weight number 0 0 (owner_of mid letters) (owner_of new letters)) → HasExpanded space guide weight number used broken post old new before after
     expanded_still used broken none old mid new before after one still = record {
       sends = one.sends;
@@ -64,8 +64,15 @@ module _ {K : Type 0} (post : Post K) where
           record { works = both.works; comes = both.comes; turns = both.turns; used_is = omega (arith, both.used_is); broken_is = omega (arith, both.broken_is); broken_last = both.broken_last };
     }
 
-    pub expanded_own : (used broken : ℕ) (old new : Share) (before after : PostPass) → HasExpanded space guide weight number used broken post old new before after → AreOwn guide number (row_of old.bundle) → AreOwn guide number (row_of new.bundle)
+    expanded_own : (used broken : ℕ) (old new : Share) (before after : PostPass) → HasExpanded space guide weight number used broken post old new before after → AreOwn guide number (row_of old.bundle) → AreOwn guide number (row_of new.bundle)
     expanded_own used broken old new before after h are = worked_own space guide weight number used broken (owner_of old (λ to. [])) (owner_of new (λ to. letters_to to h.sends)) (h.worked (λ to. [])) are
+
+    -- and then its rows were settled
+    pub expanded_settled : (used : ℕ) (old mid new : Share) (before after : PostPass) → HasExpanded space guide weight number used 0 post old mid before after → AreOwn guide number (row_of old.bundle)
+        → ((g : Guide) (n : ℕ) (letters : ℕ → List Letter) → AreOwn g n (row_of mid.bundle) → HasWorked space g weight n 0 0 (owner_of mid letters) (owner_of new letters))
+        → HasExpanded space guide weight number used 0 post old new before after
+    expanded_settled used old mid new before after one are settled =
+        expanded_still used 0 refl old mid new before after one (λ letters. settled guide number letters (expanded_own used 0 old mid before after one are))
 
     module _ (greatest_cost : ℕ) (proper : IsProper space greatest_cost) where
       -- a bound on each g

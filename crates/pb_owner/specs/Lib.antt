@@ -12,6 +12,7 @@ pub use Rattle.pb_model.specs.Weight
 pub use Rattle.pb_model.specs.Work
 pub use Rattle.pb_task.specs.Parts as TaskParts
 pub mod Shares
+pub mod Plans
 pub mod Expanding
 pub mod Working
 pub mod Taking

@@ -4,11 +4,13 @@
 #![tactic(auto)]
 
 mod expanding;
+mod plan;
 mod settling;
 mod share;
 mod taking;
 mod working;
 
+pub use plan::{Plan, Round};
 pub use share::Share;
 pub use taking::{take_in, take_left};
 pub use working::{WorkEnd, work};

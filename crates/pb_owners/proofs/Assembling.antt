@@ -12,9 +12,10 @@ use Rattle.pb_hashed.specs.Mailed.{Owner, Mailed, least_of}
 use Rattle.pb_hashed.specs.Laws.{sum_below}
 use Rattle.pb_hashed.proofs.Callers.{rounds_are_work}
 use Rattle.pb_owner.specs.declared.share.Share.{Share}
-use Rattle.pb_owners.specs.declared.plan.Plan.{Plan}
+use Rattle.pb_owner.specs.declared.plan.Plan.{Plan}
 use Rattle.pb_owners.specs.declared.seat.Seat.{Seat}
-use Rattle.pb_owners.specs.Plans.{space_in, guide_in, weight_in, IsPlan, HasTools}
+use Rattle.pb_owner.specs.Plans.{space_in, guide_in, weight_in}
+use Rattle.pb_owners.specs.Plans.{IsPlan, HasTools}
 use Rattle.pb_owners.specs.Seats.{Each, EachPair, quota_in, used_in, quota_at, used_at}
 use Rattle.pb_owners.specs.Passing.{HasSeat, IsToMeet, IsWithoutPass, HasMetAll, KeepsSent, MayTakeAll}
 use Rattle.pb_owners.specs.Rounds.{IsWithin, IsReady, HasBegun, HasLeft, HasTaken, NoneFailed, IsCleared, HasIncumbent, AreLow, IsDrawn, IsToRun, HasRun, IsToRound, HasRounded}

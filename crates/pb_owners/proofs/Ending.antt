@@ -15,9 +15,10 @@ use Rattle.pb_task.specs.Parts.{greatest_cost}
 use Rattle.pb_hashed.specs.Mailed.{Owner, Mailed}
 use Rattle.pb_hashed.proofs.Callers.{mail_keeps_sound}
 use Rattle.pb_owner.specs.declared.share.Share.{Share}
-use Rattle.pb_owners.specs.declared.plan.Plan.{Plan}
+use Rattle.pb_owner.specs.declared.plan.Plan.{Plan}
 use Rattle.pb_owners.specs.declared.seat.Seat.{Seat}
-use Rattle.pb_owners.specs.Plans.{space_in, guide_in, weight_in, IsPlan}
+use Rattle.pb_owner.specs.Plans.{space_in, guide_in, weight_in}
+use Rattle.pb_owners.specs.Plans.{IsPlan}
 use Rattle.pb_owners.specs.Rounds.{IsToRound, HasRounded, HasSearched}
 use Rattle.pb_owners.specs.Between.{opening_mailed, IsBetween, AnyOpened, IsSearched}
 use Rattle.pb_owners.specs.Shares.{owner_in, share_of, share_at, seat_at, IsEnd}

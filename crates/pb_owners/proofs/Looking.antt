@@ -8,7 +8,7 @@ use Rattle.pb_mail.specs.Passes.{view_at, number_of, made_by}
 use Rattle.pb_mail.specs.Posted.{HasPosted}
 use Rattle.pb_owner.specs.declared.share.Share.{Share}
 use Rattle.pb_owner.specs.Taking.{HasTakenIn}
-use Rattle.pb_owners.specs.declared.plan.Plan.{Plan}
+use Rattle.pb_owner.specs.declared.plan.Plan.{Plan}
 use Rattle.pb_owners.specs.declared.seat.Seat.{Seat}
 use Rattle.pb_owners.specs.Seats.{Each, EachPair}
 use Rattle.pb_owners.specs.Plans.{HasTools}

@@ -17,7 +17,7 @@ use Rattle.pb_mail.specs.Rule.{AreWhole}
 use Rattle.pb_mail.specs.Passes.{view_at, number_of, made_by, owners_of, IsPassOf, HasMet}
 use Rattle.pb_hashed.specs.Laws.{sum_below}
 use Rattle.pb_owner.specs.Taking.{HasTakenIn, KeepsQueues}
-use Rattle.pb_owners.specs.declared.plan.Plan.{Plan}
+use Rattle.pb_owner.specs.declared.plan.Plan.{Plan}
 use Rattle.pb_owners.specs.declared.seat.Seat.{Seat}
 use Rattle.pb_owners.specs.Plans.{HasTools}
 use Rattle.pb_owners.specs.Seats.{Each, EachPair, quota_in, used_in, quota_at, used_at}

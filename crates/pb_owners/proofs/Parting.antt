@@ -16,9 +16,10 @@ use Rattle.pb_model.specs.Weight.{Weight}
 use Rattle.pb_model.specs.Store.{HasOpened}
 use Rattle.pb_mail.specs.declared.letter.Letter.{Letter}
 use Rattle.std.specs.Prelude.{List}
-use Rattle.pb_owners.specs.declared.plan.Plan.{Plan}
+use Rattle.pb_owner.specs.declared.plan.Plan.{Plan}
 use Rattle.pb_owners.specs.declared.seat.Seat.{Seat}
-use Rattle.pb_owners.specs.Plans.{space_in, guide_in, weight_in, HasTools}
+use Rattle.pb_owner.specs.Plans.{space_in, guide_in, weight_in}
+use Rattle.pb_owners.specs.Plans.{HasTools}
 use Rattle.pb_owners.specs.Passing.{IsFresh, HasSeat, IsToMeet, IsWithoutPass, KnowsAllOf, KeepsSent}
 use Rattle.pb_owners.specs.Rounds.{IsWithin, IsReady, one_if, HasBegun, HasLeft, TakesIn, HasTaken, IsCleared}
 use Rattle.pb_owners.specs.Shares.{owner_in}

@@ -1,5 +1,6 @@
 pub use Rattle.pb_hashed.specs.Mailed
 pub use Rattle.pb_hashed.specs.MailWork
+pub use Rattle.pb_owner.specs.Plans as OwnerPlans
 pub use Rattle.pb_owner.specs.Shares as OwnerShares
 pub mod Plans
 pub mod Seats

@@ -15,9 +15,10 @@ use Rattle.pb_owner.specs.declared.share.Share.{Share}
 use Rattle.pb_owner.specs.Shares.{AreOwnWithin, IsNextRow}
 use Rattle.pb_owner.specs.Expanding.{HasExpanded}
 use Rattle.pb_owner.specs.Taking.{HasTakenIn}
-use Rattle.pb_owners.specs.declared.plan.Plan.{Plan}
+use Rattle.pb_owner.specs.declared.plan.Plan.{Plan}
 use Rattle.pb_owners.specs.declared.seat.Seat.{Seat}
-use Rattle.pb_owners.specs.Plans.{space_in, guide_in, weight_in, HasTools}
+use Rattle.pb_owner.specs.Plans.{space_in, guide_in, weight_in}
+use Rattle.pb_owners.specs.Plans.{HasTools}
 use Rattle.pb_owners.specs.Seats.{Each, quota_at}
 use Rattle.pb_owners.specs.Passing.{IsFresh}
 use Rattle.pb_owners.specs.RoundRule.{IsRoundWith, IsRoundOf}

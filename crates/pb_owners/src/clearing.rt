@@ -6,10 +6,9 @@ ghost use Rattle.pb_owners.specs.Seats.{Each, EachPair};
 ghost use Rattle.pb_owners.specs.Rounds.{IsPostOf, IsCleared};
 ghost use Rattle.pb_owners.specs.Passing.{KeepsSent, MayTakeAll};
 
-use crate::plan::Plan;
 use crate::seat::Seat;
 use pb_mail::{LetterRule, Post, PostPass};
-use pb_owner::take_left;
+use pb_owner::{Plan, take_left};
 use std::alloc::AllocError;
 use std::sync::Wait;
 
@@ -38,16 +37,7 @@ pub fn clear<K: LetterRule, R: Wait>(
             estimator,
             ..
         } = &mut seats[at];
-        match take_left(
-            rt,
-            plan.task,
-            plan.choice,
-            estimator,
-            share,
-            post,
-            pass,
-            at as u32,
-        ) {
+        match take_left(rt, plan, estimator, share, post, pass, at as u32) {
             Ok(()) => {}
             Err(error) => return Err(error),
         }

@@ -11,7 +11,6 @@ mod laws;
 mod meeting;
 mod owners;
 mod part;
-mod plan;
 mod round;
 mod rounds;
 mod searching;

@@ -4,11 +4,10 @@ ghost use Rattle.pb_owner.specs.Working.{broken_at};
 ghost use Rattle.pb_owners.specs.Plans.{IsPlan};
 ghost use Rattle.pb_owners.specs.Rounds.{one_if, IsPostOf, IsReady, HasBegun, HasLeft, HasTaken};
 
-use crate::plan::Plan;
 use crate::seat::Seat;
 use pb_mail::{LetterRule, Post};
 use pb_outside::Gate;
-use pb_owner::{WorkEnd, take_in, work};
+use pb_owner::{Plan, Round, WorkEnd, take_in, work};
 use std::sync::Wait;
 
 // Whether memory ran out.
@@ -49,21 +48,8 @@ pub fn begin<K: LetterRule, R: Wait, G: Gate>(
     } = seat;
     match pass {
         Some(pass) => {
-            let (count, end) = work(
-                rt,
-                plan.task,
-                plan.abstraction,
-                plan.owners,
-                plan.choice,
-                number,
-                plan.weight,
-                estimator,
-                share,
-                succs,
-                post,
-                pass,
-                *quota,
-            );
+            let round = Round { plan, post, number };
+            let (count, end) = work(rt, &round, estimator, share, succs, pass, *quota);
             *used = count;
             *failed = is_memory(end);
         }
@@ -96,7 +82,7 @@ pub fn end<K: LetterRule, R: Wait, G: Gate>(
     } = seat;
     match pass {
         Some(pass) => {
-            *failed = take_in(rt, plan.task, plan.choice, estimator, share, post, pass).is_err();
+            *failed = take_in(rt, plan, estimator, share, post, pass).is_err();
         }
         None => unreachable!(),
     }

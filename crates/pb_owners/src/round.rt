@@ -1,6 +1,7 @@
 //! A round.
 ghost use Rattle.std.specs.Prelude.{◌≡◌, ℕ, false, IfOk};
-ghost use Rattle.pb_owners.specs.Plans.{IsPlan, space_in};
+ghost use Rattle.pb_owner.specs.Plans.{space_in};
+ghost use Rattle.pb_owners.specs.Plans.{IsPlan};
 ghost use Rattle.pb_owners.specs.Passing.{IsSplitting};
 ghost use Rattle.pb_owners.specs.Rounds.{IsPostOf, IsToRun, HasRun, IsToRound, HasRounded, NoneFailed};
 
@@ -8,12 +9,12 @@ use crate::agreeing::agree;
 use crate::clearing::clear;
 use crate::drawing::{draw, used};
 use crate::meeting::meet_all;
-use crate::plan::Plan;
 use crate::seat::Seat;
 use crate::seating::give_passes;
 use crate::together::{begin_all, end_all};
 use pb_mail::{LetterRule, Post, PostPass};
 use pb_outside::Gate;
+use pb_owner::Plan;
 use std::alloc::{AllocError, Global};
 use std::sync::Wait;
 use std::thread::Threads;

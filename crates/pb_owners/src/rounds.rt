@@ -4,7 +4,8 @@ ghost use Rattle.std.specs.Option.{option_map};
 ghost use Rattle.std.specs.Arc.{arc_value};
 ghost use Rattle.pb_estimate.specs.Tables.{HasTable};
 ghost use Rattle.pb_owner.specs.declared.share.Share.{Share};
-ghost use Rattle.pb_owners.specs.Plans.{IsPlan, space_in, guide_in, weight_in, HasTools};
+ghost use Rattle.pb_owner.specs.Plans.{space_in, guide_in, weight_in};
+ghost use Rattle.pb_owners.specs.Plans.{IsPlan, HasTools};
 ghost use Rattle.pb_owners.specs.Seats.{Each};
 ghost use Rattle.pb_owners.specs.Between.{opening_mailed, IsBetween, IsSearched, AnyOpened};
 ghost use Rattle.pb_owners.specs.Shares.{share_of, share_at, seat_at, IsEnd};
@@ -12,14 +13,13 @@ ghost use Rattle.pb_owners.specs.Rounds.{HasSearched};
 ghost use Rattle.pb_owners.specs.Owners.{IsOpening, IsSameSearch, OwnersEnd};
 
 use crate::owners::Owners;
-use crate::plan::Plan;
 use crate::round::run_round;
 use crate::seat::Seat;
 use pb_abstract::AbsGraph;
-use pb_machine::End;
+use pb_machine::{End, Settings};
 use pb_mail::LetterRule;
 use pb_outside::Gate;
-use pb_owner::Share;
+use pb_owner::{Plan, Share};
 use pb_pattern::Table;
 use pb_task::Task;
 use std::alloc::{AllocError, Global};
@@ -120,9 +120,8 @@ fn search<K: LetterRule + Send + Sync, R: Threads + Wait + Sync, G: Gate>(
     alloc: Global,
     plan: &Plan,
     gate: &G,
+    settings: &Settings,
     shares: Vec<Share>,
-    lot: u64,
-    budget: u64,
     table: Option<&Arc<Table>>,
 ) -> Result<(End, u64, Vec<Share>), AllocError>
     requires table { HasTable plan.now.task.now plan.now.choice.now
@@ -133,12 +132,13 @@ fn search<K: LetterRule + Send + Sync, R: Threads + Wait + Sync, G: Gate>(
         (opening_mailed (space_in plan.now) (guide_in plan.now) (weight_in plan.now)) }
     requires many { vec_len shares ≡ plan.now.owners }
     requires of_weight { All (λ share. share.bundle.weight ≡ weight_in plan.now) shares.items }
-    requires budget { (0 < budget) × (budget ≤ 2 ^ 40) }
+    requires budget { (0 < settings.now.budget) × (settings.now.budget ≤ 2 ^ 40) }
     ensures searched { IfOk result (λ r. IsSearched (space_in plan.now) (guide_in plan.now)
-        (weight_in plan.now) plan.now.owners lot budget r.1 (share_at r.2.items)) }
-    ensures within { IfOk result (λ r. r.1 ≤ budget) }
+        (weight_in plan.now) plan.now.owners settings.now.lot settings.now.budget r.1
+        (share_at r.2.items)) }
+    ensures within { IfOk result (λ r. r.1 ≤ settings.now.budget) }
     ensures many { IfOk result (λ r. vec_len r.2 ≡ plan.now.owners) }
-    ensures end { IfOk result (λ r. IsEnd budget r.1 (share_at r.2.items) r.0) }
+    ensures end { IfOk result (λ r. IsEnd settings.now.budget r.1 (share_at r.2.items) r.0) }
 {
     // Room for the last shares is taken first, so that no rows are lost at the end for want of it.
     let kept = Vec::with_capacity(alloc, shares.len())?;
@@ -149,8 +149,8 @@ fn search<K: LetterRule + Send + Sync, R: Threads + Wait + Sync, G: Gate>(
         plan,
         gate,
         seats.as_mut_slice(),
-        lot,
-        budget,
+        settings.lot,
+        settings.budget,
     )?;
     Ok((end, spent, shares_of(seats, kept)))
 }
@@ -189,14 +189,7 @@ pub fn run_owners<R: Threads + Wait + Sync, G: Gate>(
     // The seats own the shares during the search, and give them back after it.
     let shares = mem::replace(&mut owners.shares, Vec::new(alloc));
     let (end, spent, shares) = search::<Brand, R, G>(
-        rt,
-        alloc,
-        &plan,
-        gate,
-        shares,
-        settings.lot,
-        settings.budget,
-        table,
+        rt, alloc, &plan, gate, &settings, shares, table,
     )?;
     owners.spent = spent;
     owners.shares = shares;

@@ -5,13 +5,13 @@ ghost use Rattle.std.specs.Arc.{arc_value};
 ghost use Rattle.pb_model.specs.Store.{HasOpened};
 ghost use Rattle.pb_lists.specs.Bundle.{row_of};
 ghost use Rattle.pb_estimate.specs.Tables.{HasTable};
-ghost use Rattle.pb_owners.specs.Plans.{weight_in, HasTools};
+ghost use Rattle.pb_owner.specs.Plans.{weight_in};
+ghost use Rattle.pb_owners.specs.Plans.{HasTools};
 
-use crate::plan::Plan;
 use pb_estimate::Estimator;
 use pb_mail::PostPass;
 use pb_model::Succ;
-use pb_owner::Share;
+use pb_owner::{Plan, Share};
 use pb_pattern::Table;
 use std::alloc::{AllocError, Global};
 use std::sync::Arc;

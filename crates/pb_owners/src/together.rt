@@ -7,10 +7,10 @@ ghost use Rattle.pb_owners.specs.Rounds.{IsPostOf, IsReady, HasBegun, HasLeft, H
 
 use crate::forking::{Busy, for_each_owner};
 use crate::part::{begin, end};
-use crate::plan::Plan;
 use crate::seat::Seat;
 use pb_mail::{LetterRule, Post};
 use pb_outside::Gate;
+use pb_owner::Plan;
 use std::sync::Wait;
 use std::thread::Threads;
 

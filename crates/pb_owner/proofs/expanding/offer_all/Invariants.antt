@@ -1,11 +1,11 @@
 use Rattle.std.proofs.Common.{take}
 use Rattle.pb_estimate.specs.Tables.{IsOfTask}
-use Rattle.pb_owner.specs.Shares.{guide_for}
+use Rattle.pb_owner.specs.Plans.{guide_in}
 use Rattle.pb_owner.specs.Expanding.{HasOffered}
 use Rattle.pb_owner.proofs.expanding.offer_all.Given as goal
 
 abbrev pub invariant-loop-succ : goal.invariant-loop-succ
 invariant-loop-succ g l = record {
-  offers : HasOffered (guide_for l.task l.abstraction l.owners l.choice) l.number l.parent l.g (take l.succ-index l.succs) l.post l.initial.share l.share l.initial.pass l.pass;
-  tables : IsOfTask l.estimator l.task l.choice;
+  offers : HasOffered (guide_in l.round.plan.now) l.round.number l.parent.0 l.parent.1.g (take l.succ-index l.succs) l.round.post.now l.initial.share l.share l.initial.pass l.pass;
+  tables : IsOfTask l.estimator l.round.plan.now.task.now l.round.plan.now.choice.now;
 }

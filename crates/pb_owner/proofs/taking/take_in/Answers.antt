@@ -12,7 +12,7 @@ loop-preserved g c =
       (
         c.loop.invariant.2.0 ++ x ∷ [],
         posted_take c.args.post.now g.K.LetterRule.fits c.args.pass.now c.loop.pass c.take.new.pass [] c.loop.invariant.2.0 x c.loop.invariant.2.1 c.take.ensures.own c.take.ensures.number c.take.ensures.made c.in-Some-take.ensures.some,
-        taken_more c.args.task.now c.args.choice.now c.loop.invariant.2.0 x c.args.share.now c.loop.share c.offer.new.share c.loop.invariant.2.2 c.in-Ok.ensures.rows c.offer.ensures.weight c.offer.ensures.incumbent,
+        taken_more c.args.plan.now.task.now c.args.plan.now.choice.now c.loop.invariant.2.0 x c.args.share.now c.loop.share c.offer.new.share c.loop.invariant.2.2 c.in-Ok.ensures.rows c.offer.ensures.weight c.offer.ensures.incumbent,
       ),
       c.offer.ensures.tables,
     )

@@ -8,5 +8,5 @@ use Rattle.pb_owner.proofs.taking.take_in.Given as goal
 abbrev pub invariant-loop : goal.invariant-loop
 invariant-loop g l =
     (goal.iterator-loop g).can_next l.iterator' × (goal.iterator-loop g).is_finite l.iterator'
-    × ((takes : List Sent) × HasPosted l.post l.fn.pass l.pass [] takes × HasTakenIn l.task l.choice takes l.fn.share l.share)
-    × IsOfTask l.estimator l.task l.choice
+    × ((takes : List Sent) × HasPosted l.post l.fn.pass l.pass [] takes × HasTakenIn l.plan.task.now l.plan.choice.now takes l.fn.share l.share)
+    × IsOfTask l.estimator l.plan.task.now l.plan.choice.now

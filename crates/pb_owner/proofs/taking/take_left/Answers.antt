@@ -11,7 +11,7 @@ loop-preserved g c =
       (
         c.loop.invariant.2.0 ++ x ∷ [],
         taken_on g.K.LetterRule.fits c.args.owner x c.args.pass.now c.loop.pass c.clear_next.new.pass c.loop.invariant.2.0 c.loop.invariant.2.1 c.in-Some-clear_next.ensures.some,
-        taken_more c.args.task.now c.args.choice.now c.loop.invariant.2.0 x c.args.share.now c.loop.share c.offer.new.share c.loop.invariant.2.2 c.in-Ok.ensures.rows c.offer.ensures.weight c.offer.ensures.incumbent,
+        taken_more c.args.plan.now.task.now c.args.plan.now.choice.now c.loop.invariant.2.0 x c.args.share.now c.loop.share c.offer.new.share c.loop.invariant.2.2 c.in-Ok.ensures.rows c.offer.ensures.weight c.offer.ensures.incumbent,
       ),
       c.clear_next.ensures.own,
       keeps_more g.K.LetterRule.fits c.args.owner x c.args.pass.now c.loop.pass c.clear_next.new.pass c.loop.invariant.4 c.clear_next.ensures.number c.clear_next.ensures.made c.in-Some-clear_next.ensures.some,

@@ -8,6 +8,6 @@ use Rattle.pb_owner.proofs.taking.take_left.Given as goal
 abbrev pub invariant-loop : goal.invariant-loop
 invariant-loop g l =
     (goal.iterator-loop g).can_next l.iterator' × (goal.iterator-loop g).is_finite l.iterator'
-    × ((takes : List Sent) × ((view_at l.pass l.owner).taken ≡ (view_at l.fn.pass l.owner).taken ++ takes) × HasTakenIn l.task l.choice takes l.fn.share l.share)
+    × ((takes : List Sent) × ((view_at l.pass l.owner).taken ≡ (view_at l.fn.pass l.owner).taken ++ takes) × HasTakenIn l.plan.task.now l.plan.choice.now takes l.fn.share l.share)
     × IsPassOf l.post l.pass × KeepsQueues l.owner l.fn.pass l.pass
-    × IsOfTask l.estimator l.task l.choice
+    × IsOfTask l.estimator l.plan.task.now l.plan.choice.now

@@ -1,18 +1,17 @@
 use Rattle.std.proofs.Common.{◌≡◌, ◌≤◌, ◌-◌, vec_capacity}
-use Rattle.pb_task.specs.Parts.{space_of}
 use Rattle.pb_estimate.specs.Tables.{IsOfTask}
-use Rattle.pb_owner.specs.Shares.{guide_for, weight_of}
+use Rattle.pb_owner.specs.Plans.{space_in, guide_in, weight_in}
 use Rattle.pb_owner.specs.Expanding.{HasExpanded}
 use Rattle.pb_owner.proofs.working.work.Given as goal
 
-abbrev pub invariant-loop-state : goal.invariant-loop-state
-invariant-loop-state g l = record {
-  worked : HasExpanded (space_of l.task) (guide_for l.task l.abstraction l.owners l.choice) (weight_of l.weight) l.number l.used 0 l.post l.initial.share l.share l.initial.pass l.pass;
+abbrev pub invariant-loop-next : goal.invariant-loop-next
+invariant-loop-next g l = record {
+  worked : HasExpanded (space_in l.round.plan.now) (guide_in l.round.plan.now) (weight_in l.round.plan.now) l.round.number l.used 0 l.round.post.now l.initial.share l.share l.initial.pass l.pass;
   quota : l.used ≤ l.quota;
-  of_weight : l.share.bundle.weight ≡ weight_of l.weight;
-  tables : IsOfTask l.estimator l.task l.choice;
+  of_weight : l.share.bundle.weight ≡ weight_in l.round.plan.now;
+  tables : IsOfTask l.estimator l.round.plan.now.task.now l.round.plan.now.choice.now;
   room : vec_capacity l.initial.succs ≤ vec_capacity l.succs;
 }
 
-abbrev pub decreases-loop-state : goal.decreases-loop-state
-decreases-loop-state g l = l.quota - l.used
+abbrev pub decreases-loop-next : goal.decreases-loop-next
+decreases-loop-next g l = l.quota - l.used

@@ -1,6 +1,6 @@
 use Rattle.std.proofs.Common.{refl, subst, arith}
 use Rattle.pb_owner.specs.Expanding.{HasExpanded}
-use Rattle.pb_owners.specs.Plans.{space_in, guide_in, weight_in}
+use Rattle.pb_owner.specs.Plans.{space_in, guide_in, weight_in}
 use Rattle.pb_owners.proofs.Loops.{ends_of}
 use Rattle.pb_owners.proofs.part.begin.Goals as goal
 

@@ -1,4 +1,4 @@
-use Rattle.pb_owners.specs.Plans.{space_in}
+use Rattle.pb_owner.specs.Plans.{space_in}
 use Rattle.pb_owners.proofs.rounds.run_owners.Given as goal
 
 abbrev pub ghosts-search : goal.ghosts-search

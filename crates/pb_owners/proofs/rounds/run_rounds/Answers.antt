@@ -1,5 +1,5 @@
 use Rattle.std.proofs.Common.{refl, arith}
-use Rattle.pb_owners.specs.Plans.{space_in, guide_in, weight_in}
+use Rattle.pb_owner.specs.Plans.{space_in, guide_in, weight_in}
 use Rattle.pb_owners.specs.Shares.{seat_at}
 use Rattle.pb_owners.proofs.Repeating.{searched_none, opening_opened}
 use Rattle.pb_owners.proofs.Ending.{to_round, searched_on}

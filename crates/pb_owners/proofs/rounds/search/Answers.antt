@@ -1,6 +1,7 @@
 use Rattle.std.proofs.Common.{◌≡◌, ◌∙◌, ap, sym, subst, arith, length, map, drop, take_at, List}
 use Rattle.pb_owners.specs.declared.seat.Seat.{Seat}
-use Rattle.pb_owners.specs.Plans.{space_in, guide_in, weight_in, HasTools}
+use Rattle.pb_owner.specs.Plans.{space_in, guide_in, weight_in}
+use Rattle.pb_owners.specs.Plans.{HasTools}
 use Rattle.pb_owners.specs.Seats.{Each}
 use Rattle.pb_owners.specs.Between.{opening_mailed}
 use Rattle.pb_owners.specs.Shares.{share_of}
@@ -26,7 +27,7 @@ returns-clause-searched g c =
     let news = c.run_rounds.new.seats in
     let k = c.in_ok-seats.seats.len in
     let many : length news ≡ k = let a = c.run_rounds.auto.seats in let b = ap length c.as_mut_slice.ensures.value in let l = c.in_ok-seats.seats.ok.0 in omega arith in
-    searched_shares (space_in c.args.plan.now) (guide_in c.args.plan.now) (weight_in c.args.plan.now) c.args.plan.now.owners c.args.lot c.args.budget c.in_ok-end.spent news c.shares_of.result.items
+    searched_shares (space_in c.args.plan.now) (guide_in c.args.plan.now) (weight_in c.args.plan.now) c.args.plan.now.owners c.args.settings.now.lot c.args.settings.now.budget c.in_ok-end.spent news c.shares_of.result.items
     (c.shares_of.ensures ∙ ap (λ (l : List Seat). map share_of l) (take_at news (drop (length news) c.in_ok-seats.seats.items) k many)) c.in_ok-end.ensures.searched.searched
 
 pub returns-clause-end : goal.returns-clause-end
@@ -34,5 +35,5 @@ returns-clause-end g c =
     let news = c.run_rounds.new.seats in
     let k = c.in_ok-seats.seats.len in
     let many : length news ≡ k = let a = c.run_rounds.auto.seats in let b = ap length c.as_mut_slice.ensures.value in let l = c.in_ok-seats.seats.ok.0 in omega arith in
-    end_shares c.args.budget c.in_ok-end.spent c.in_ok-end.end news c.shares_of.result.items
+    end_shares c.args.settings.now.budget c.in_ok-end.spent c.in_ok-end.end news c.shares_of.result.items
     (c.shares_of.ensures ∙ ap (λ (l : List Seat). map share_of l) (take_at news (drop (length news) c.in_ok-seats.seats.items) k many)) c.in_ok-end.ensures.end

@@ -2,7 +2,8 @@ use Rattle.std.proofs.Common.{◌≡◌, ◌∙◌, ◌++◌, ap, sym, subst, ar
 use Rattle.std.proofs.lemmas.List.Elements.{All-push}
 use Rattle.pb_owner.specs.declared.share.Share.{Share}
 use Rattle.pb_owners.specs.declared.seat.Seat.{Seat}
-use Rattle.pb_owners.specs.Plans.{weight_in, HasTools}
+use Rattle.pb_owner.specs.Plans.{weight_in}
+use Rattle.pb_owners.specs.Plans.{HasTools}
 use Rattle.pb_owners.specs.Shares.{share_of}
 use Rattle.pb_owners.proofs.Listing.{seated, no_items, all_front, all_last, each_reversed}
 use Rattle.pb_owners.proofs.rounds.seats_for.Goals as goal

@@ -1,6 +1,7 @@
 use Rattle.std.proofs.Common.{◌≡◌, ◌++◌, ◌+◌, map, reverse, All, vec_len, vec_capacity}
 use Rattle.pb_owner.specs.declared.share.Share.{Share}
-use Rattle.pb_owners.specs.Plans.{weight_in, HasTools}
+use Rattle.pb_owner.specs.Plans.{weight_in}
+use Rattle.pb_owners.specs.Plans.{HasTools}
 use Rattle.pb_owners.specs.Shares.{share_of}
 use Rattle.pb_owners.proofs.rounds.seats_for.Given as goal
 
