@@ -1,5 +1,6 @@
 """Drawn changes of texts and of certificates, for the tools that try them."""
 
+import itertools
 import re
 
 import versions
@@ -15,10 +16,19 @@ WORDS_OF_FORMATS = [word.encode() for word in (
     "1000000000").split()]
 
 
+HOSTILE_NUMBERS = [
+    b"0", b"1", b"2", b"00", b"01", b"+1", b"-0", b"-1", b"1.0", b"1e3", b"0x10", b"1_000", b"NaN",
+    *(b"%d" % (2**power + more) for power in (8, 16, 31, 32, 40, 53, 62, 63, 64, 128)
+      for more in (-1, 0, 1)),
+    b"9" * 9, b"1" + b"0" * 9, b"9" * 18, b"9" * 19, b"9" * 20, b"9" * 400, b"0" * 400 + b"1",
+    "\u0663".encode(), b""]
+MOST_FORMS = 4000  # numbers of a text among which a field is looked for
+
+
 def change_text(random, text):
     """One drawn change of a text: of bytes, words, numbers or lines."""
     return random.choice([change_byte, change_byte, cut, change_word, change_word, change_word,
-                          change_number, change_number, change_lines, change_lines])(random, text)
+                          change_number, change_field, change_lines, change_lines])(random, text)
 
 
 def change_byte(random, text):
@@ -66,6 +76,24 @@ def change_number(random, text):
     others = [max(number - 1, 0), number + 1, number + 1, random.randrange(20), 2 * number,
               random.randrange(2**random.randrange(1, 70)), 2**63 - 1, 2**63, 2**32]
     return text[:chosen.start()] + b"%d" % random.choice(others) + text[chosen.end():]
+
+
+def change_field(random, text):
+    """The number in a drawn field becomes a hostile one. Fields are told apart by the first word of
+    their line and by their place in it, so that one that comes once is drawn as often as one that
+    each row has."""
+    found = list(itertools.islice(re.finditer(rb"[0-9]+", text), MOST_FORMS))
+    if not found:
+        return change_byte(random, text)
+    fields = {}
+    for number in found:
+        begin = text.rfind(b"\n", 0, number.start()) + 1
+        before = text[begin:number.start()].split()
+        word = before[0] if before and not before[0][:1].isdigit() else b""
+        fields.setdefault((word[:20], len(before)), []).append(number)
+    number = random.choice(random.choice(list(fields.values())))
+    other = random.choice(HOSTILE_NUMBERS)
+    return text[:number.start()] + other + text[number.end():]
 
 
 def change_lines(random, text):

@@ -10,18 +10,19 @@ import shared
 KINDS_OF_EVENTS = ["lease"] * 4 + ["renew"] * 3 + ["hot", "hot", "cold"] + ["release"] * 3
 END_KINDS = ["release", "off"]
 TRIES = 60
+KEPT_BLOCKS = 12  # how many tasks' blocks stay in memory
 
 
 @functools.cache
 def load_judge():
     """The second judge of journals as a module."""
-    shared.load_checker()
+    sys.modules["pbnf_check"] = shared.load_checker()
     place = shared.ROOT / "checker"
-    sys.path.insert(0, str(place))
     specification = importlib.util.spec_from_file_location("pbnf_journal",
                                                            place / "pbnf_journal.py")
     module = importlib.util.module_from_spec(specification)
     specification.loader.exec_module(module)
+    module.Blocks = functools.lru_cache(KEPT_BLOCKS)(module.Blocks)
     return module
 
 

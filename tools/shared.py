@@ -8,8 +8,11 @@ import importlib.util
 import os
 import pathlib
 import resource
+import select
+import signal
 import subprocess
 import sys
+import tempfile
 import time
 
 import drawn_tables
@@ -20,6 +23,7 @@ BUILT = ROOT / "crates" / "pbnf" / "out" / "pbnf"
 FILE_NAMES = {"grid": ("map", "scenario"), "tiles": ("board",), "strips": ("domain", "problem")}
 KINDS = tuple(FILE_NAMES)
 MEBIBYTE = 2**20
+MEMORY_FOLDER = "/dev/shm"  # files in it need no disk
 
 BLOCKS_DOMAIN = """(define (domain blocks) (:requirements :strips)
 (:predicates (on ?x ?y) (ontable ?x) (clear ?x) (handempty) (holding ?x))
@@ -105,6 +109,8 @@ def drawn_pattern(random):
     return str(random.choice([0] * 8 + [1, 2, 3, 3, 4, 6, 9, 12]))
 
 
+READ_TASKS = 12  # how many tasks stay in memory as they were read
+KEPT_PATTERNS = 40  # and how many pattern databases
 FILE_OF_TABLES = "tables"  # its name in a task's folder
 
 
@@ -144,12 +150,18 @@ def drawn_checkers(random):
 
 @dataclasses.dataclass
 class Run:
-    """How a run ended: its status (negative: a signal; None: the time ran out) and what it said."""
+    """How a run ended: its status (negative: a signal; None: the time ran out), what it said, how
+    long it took, and how long its threads had a processor together."""
 
     status: int
     output: bytes
     errors: bytes
     seconds: float
+    worked: float = 0.0
+
+    def alone(self):
+        """At least as many seconds as it takes on a quiet machine."""
+        return min(self.seconds, self.worked) if self.status is not None else self.seconds
 
 
 GROUNDING_STOP = b"stopped grounding\n"
@@ -160,12 +172,48 @@ def is_grounding_stop(run):
     return run.status == 2 and run.output == GROUNDING_STOP
 
 
-def run_program(words, folder, seconds, memory=None):
-    """Runs a program in a folder, for so many seconds at most and with so many bytes of memory."""
-    set_limit = functools.partial(limit_memory, memory) if memory is not None else None
+def run_program(words, folder, seconds, memory=None, variables=None):
+    """Runs a program in a folder, for so many seconds at most, with so many bytes of memory, and
+    with these variables of the environment besides."""
+    if memory is not None:
+        return run_with_memory(words, folder, seconds, memory)
+    words = [os.fsencode(word) for word in words]
+    environment = {**os.environ, **variables} if variables else os.environ
+    with contextlib.ExitStack() as left:
+        if folder != ".":
+            left.enter_context(in_folder(folder))
+        files = [left.enter_context(open(os.memfd_create(name), "rb")) for name in ("1", "2")]
+        actions = [(os.POSIX_SPAWN_OPEN, 0, os.devnull, os.O_RDONLY, 0)]
+        actions += [(os.POSIX_SPAWN_DUP2, file.fileno(), at) for at, file in enumerate(files, 1)]
+        began = time.monotonic()
+        number = os.posix_spawnp(words[0], words, environment, file_actions=actions)
+        status, used = wait_for(number, seconds)
+        ended = time.monotonic()
+        output, errors = [file.read() for file in files if file.seek(0) == 0]
+    return Run(status, output, errors, ended - began, used.ru_utime + used.ru_stime)
+
+
+def wait_for(number, seconds):
+    """The status of a process and what it used. It is killed if the time runs out, or if this
+    process is to end."""
+    watched = os.pidfd_open(number)
+    is_ended = False
+    try:
+        is_ended = bool(select.select([watched], [], [], seconds)[0])
+    finally:
+        os.close(watched)
+        if not is_ended:
+            os.kill(number, signal.SIGKILL)
+        _, status, used = os.wait4(number, 0)
+    return os.waitstatus_to_exitcode(status) if is_ended else None, used
+
+
+def run_with_memory(words, folder, seconds, memory):
+    """The same with so many bytes of memory."""
     began = time.monotonic()
     with subprocess.Popen(words, cwd=folder, stdin=subprocess.DEVNULL, stdout=subprocess.PIPE,
-                          stderr=subprocess.PIPE, preexec_fn=set_limit) as process:
+                          stderr=subprocess.PIPE,
+                          preexec_fn=functools.partial(limit_memory, memory)) as process:
         try:
             output, errors = process.communicate(timeout=seconds)
             status = process.returncode
@@ -173,7 +221,7 @@ def run_program(words, folder, seconds, memory=None):
             process.kill()
             output, errors = process.communicate()
             status = None
-    return Run(status, output, errors, time.monotonic() - began)
+    return Run(status, output, errors, time.monotonic() - began, time.monotonic() - began)
 
 
 def limit_memory(size):
@@ -216,7 +264,27 @@ def load_checker():
     specification = importlib.util.spec_from_file_location("pbnf_check", place)
     module = importlib.util.module_from_spec(specification)
     specification.loader.exec_module(module)
+    # (a case asks for the same task and the same patterns several times, which takes most of the time)
+    module.KINDS = {kind: (functools.lru_cache(READ_TASKS)(read), count)
+                    for kind, (read, count) in module.KINDS.items()}
+    module.Tiles.pattern_values = keep_patterns(module.Tiles.pattern_values, lambda board: (
+        board.digits, board.width, *board.goal_board))
+    module.Strips.pattern_values = keep_patterns(module.Strips.pattern_values, lambda task: task)
     return module
+
+
+def keep_patterns(call, key_of):
+    """The method that gives pattern values, which keeps some for tasks with the same key."""
+    kept = {}
+
+    def pattern_values(task, pattern):
+        key = key_of(task), pattern
+        if key not in kept:
+            while len(kept) >= KEPT_PATTERNS:
+                kept.pop(next(iter(kept)))
+            kept[key] = call(task, pattern)
+        return kept[key]
+    return pattern_values
 
 
 @contextlib.contextmanager
@@ -228,6 +296,27 @@ def in_folder(folder):
         yield
     finally:
         os.chdir(before)
+
+
+@contextlib.contextmanager
+def room():
+    """A new folder for the files of a case, in memory where there is such a place. Meanwhile names
+    of files are read in it."""
+    place = MEMORY_FOLDER if os.access(MEMORY_FOLDER, os.W_OK) else None
+    with tempfile.TemporaryDirectory(prefix="pbnf-", dir=place) as folder, in_folder(folder):
+        yield folder
+
+
+def files_here():
+    """The files of this folder by name."""
+    return {it.name: it.read_bytes() for it in pathlib.Path().iterdir() if it.is_file()}
+
+
+def keep_files(folder, place):
+    """Copies the files of a case, so that what is at fault can be looked at."""
+    place.mkdir(parents=True, exist_ok=True)
+    for path in pathlib.Path(folder).iterdir():
+        (place / path.name).write_bytes(path.read_bytes())
 
 
 # Made tasks

@@ -143,6 +143,26 @@ def with_digits(lines, digits):
     return b"".join(found)
 
 
+def drawn_version(drawn, certificate):
+    """The certificate in a drawn version, with its own width or another one. In versions 3 and 4 it
+    has its own pattern number or another one, and in version 4 its own grounding or another one. Its
+    tables it mostly keeps."""
+    digits, own = digits_of(certificate)[1], pattern_of(certificate)
+    grounding = grounding_of(certificate)
+    has_tables = bool(tables_of(certificate))
+    version = drawn.choice([1, 2, 2, 3, 3, 4] + [4] * 6 * (grounding != "all")
+                           + [4] * 24 * has_tables)
+    digits = 64 if version == 1 else drawn.choice([digits] * 4 + [digits + 1, digits - 1, 64, 256])
+    text = as_version(certificate, version, digits) or certificate
+    numbers = [own or 1] * 4 + [max(own - 1, 1), own + 1, 1, 2, 3, 12, 13]
+    numbers += [own] * 12 * (version == 4)
+    is_kept = version == 4 and has_tables and drawn.random() < 0.9
+    text = with_pattern(text, drawn.choice(numbers)) if version >= 3 and not is_kept \
+        else text
+    groundings = [grounding] * 6 + ["all", "reachable", "some"]
+    return with_grounding(text, drawn.choice(groundings)) if version == 4 else text
+
+
 def are_same(first, second):
     """Whether two files have certificates that state the same, in whatever versions. A pattern
     number is a part of what is stated, and so is a grounding."""
