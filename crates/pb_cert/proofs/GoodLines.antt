@@ -21,6 +21,7 @@ use Rattle.pb_task.specs.declared.grounding.Grounding.TheVariants as groundings
 use Rattle.pb_tables.specs.Tables.{TrapValue, TableValue, TablesValue, IsTable}
 use Rattle.pb_table_lines.specs.Lines.{Listing, table_listing, trap_listing, listings, values_text, image_line, image_lines, list_line, listing_lines, counts_line, tables_lines}
 use Rattle.pb_table_lines.specs.Spelling.{CanBeStated as TablesCanBeStated}
+use Rattle.pb_table_lines.proofs.Callers.{values_none}
 use Rattle.pb_estimate.specs.Choices.{Choice, Plain, Pattern, Tables}
 use Rattle.pb_estimate.specs.declared.spelling.Stated.{Stated}
 use Rattle.pb_estimate.specs.declared.spelling.Spelling.{Spelling}
@@ -84,12 +85,6 @@ weight_good weight num den = (
 
 abbrev IsSmall : ℕ → Type 0
 IsSmall value = value ≤ 2 ^ 40
-
-values_none : (values : List ℕ) → All IsSmall values → has_none 10 (values_text values) ≡ true
-values_none [] small = refl
-values_none (value ∷ values) small =
-    let first : value ≤ 2 ^ 40 = All-head IsSmall value values small in
-    none_both 10 (decimal value) (values_text values) (number_none 10 value (omega arith) (omega (arith, first))) (values_none values (All-tail IsSmall value values small))
 
 values_short : (values : List ℕ) → All IsSmall values → length (values_text values) ≤ 20 * length values
 values_short [] small = omega arith

@@ -108,18 +108,9 @@ head_counted spelling = let both = length-append (width_text spelling.version sp
 -- the line that says how many digits a state has, if there is one
 pub no_width_put : (old new : List ℕ) (version : Version) (width at : ℕ) → version ≡ One → at < length (width_text version width) → PutsLine old new (width_text version width) at
 no_width_put old new One width at is within = absurd (omega (arith, within))
-no_width_put old new Two width at is within = absurd (two_one is)
-  where
-    two_one : ◌≡◌ {A = Version} Two One → ⊥
-    two_one e = cc
-no_width_put old new Three width at is within = absurd (three_one is)
-  where
-    three_one : ◌≡◌ {A = Version} Three One → ⊥
-    three_one e = cc
-no_width_put old new Four width at is within = absurd (four_one is)
-  where
-    four_one : ◌≡◌ {A = Version} Four One → ⊥
-    four_one e = cc
+no_width_put old new Two width at is within = absurd cc
+no_width_put old new Three width at is within = absurd cc
+no_width_put old new Four width at is within = absurd cc
 
 -- the one line of a word and a number
 pub one_number_put : (old new word : List ℕ) (n at number : ℕ) → number ≡ n → at < 1 → new ≡ old ++ line (spaced word (decimal number)) → length new ≤ length old + longest_line

@@ -52,15 +52,16 @@ abbrev next : Option CertificateFault → Result Verdict CertificateFault
     → Result Verdict CertificateFault
 next fault rest = passes fault >>= λ x. rest
 
+same_fault : (d fault : CertificateFault)
+    → ◌≡◌ {A = Result Verdict CertificateFault} (Err d) (Err fault) → d ≡ fault
+same_fault d fault e = cc
+
 stopped_at : (o : Option CertificateFault) (rest : Result Verdict CertificateFault)
     (fault : CertificateFault) → next o rest ≡ Err fault
     → (o ≡ Some fault) ⊎ ((o ≡ None) × (rest ≡ Err fault))
 stopped_at None rest fault e = inr (refl, e)
-stopped_at (Some d) rest fault e = inl (ap (λ (f : CertificateFault). Some f) (same d e))
-  where
-    same : (d : CertificateFault) → ◌≡◌ {A = Result Verdict CertificateFault} (Err d) (Err fault)
-        → d ≡ fault
-    same d e = cc
+stopped_at (Some d) rest fault e =
+    inl (ap (λ (f : CertificateFault). Some f) (same_fault d fault e))
 
 stopped_in : (r : Result Bool CertificateFault) (rest : Result Verdict CertificateFault)
     (fault : CertificateFault) → (r >>= λ x. rest) ≡ Err fault
@@ -929,8 +930,4 @@ refusals_have_their_case parts bytes fault lawful e = go (text_of bytes) refl e
         judged_case parts lawful bytes text read.0 read.1 fault e
     go (Err d) is e =
         let c = syntax_case bytes d is in
-        subst (IsCaseOf parts bytes) (sym c.1 ∙ same d e) c.2
-      where
-        same : (d : CertificateFault)
-            → ◌≡◌ {A = Result Verdict CertificateFault} (Err d) (Err fault) → d ≡ fault
-        same d e = cc
+        subst (IsCaseOf parts bytes) (sym c.1 ∙ same_fault d fault e) c.2

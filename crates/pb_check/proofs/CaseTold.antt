@@ -33,7 +33,7 @@ use Rattle.pb_check.specs.Cases.{HasFormOf, HasGroundingOf, IsForTask, IsPattern
 use Rattle.pb_check.proofs.Finding.{equal_at}
 use Rattle.pb_check.proofs.Passes.{steps_end}
 use Rattle.pb_check.proofs.Validity.{kinds_same, groundings_same, weighs, ascends, has_row, starts, cuts}
-use Rattle.pb_check.proofs.Completeness.{kind_same, width_ok, grounding_met, choice_ok, weight_ok, walked, plan_ok_if_any, rises, rows_order_ok, each_ok, found, zero_ok, target_ok, row_ok}
+use Rattle.pb_check.proofs.Completeness.{kind_same, width_ok, grounding_met, choice_ok, weight_ok, walked, plan_ok_if_any, rises, rows_order_ok, each_ok, found, zero_ok, steps_before, row_ok}
 use Rattle.pb_check.proofs.Written.{read_of}
 use Rattle.pb_check.proofs.FirstUnspelled.{syntax_told}
 
@@ -122,23 +122,6 @@ no_g rows state none = go (g_of rows state) refl
     go : (g : Option ℕ) → g_of rows state ≡ g → g_of rows state ≡ None
     go None e = e
     go (Some k) e = let h = has_row rows state k e in absurd (none h.0 h.1 h.2)
-
-steps_before : (space : Space) (rows : List Line) → Rise rows → (line g state action : ℕ)
-    → ((other to cost : ℕ) → other < action → Steps space state other to cost
-    → HasLineWithin rows to (g + cost)) → steps_fault space rows line g state action ≡ None
-unfolding steps_fault
-steps_before space rows rise line g state zero so = refl
-steps_before space rows rise line g state (suc action) so =
-    ap (λ f. or_then f (step_fault rows line g action (space.step state action)))
-    (steps_before space rows rise line g state action
-    (λ other to cost lt step. so other to cost (omega (arith, lt)) step))
-    ∙ go (space.step state action) refl
-  where
-    go : (r : Option (ℕ × ℕ)) → space.step state action ≡ r → step_fault rows line g action r ≡ None
-    go None e = refl
-    go (Some step) e =
-        let f = found rows rise step.0 (g + step.1) (so action step.0 step.1 (omega arith) e) in
-        target_ok line action (g + step.1) (g_of rows step.0) f.0 f.1 f.2
 
 -- ---- all together
 

@@ -2,7 +2,6 @@
 use Rattle.std.proofs.Common.{◌≡◌, inl, inr, ℕ, ◌+◌, Bool, true, false, not, cond, eqb, Option, None, Some, List, [], ◌∷◌, ◌++◌, Result, Ok, Err, refl, sym, ap, ◌∙◌, arith, append_assoc}
 use Rattle.std.specs.Prelude.{codes, is_some}
 use Rattle.std.proofs.lemmas.Bool.{and_from}
-use Rattle.std.proofs.lemmas.List.Sums.{sum_by-cons}
 use Rattle.std.proofs.lemmas.Option.{same_Some}
 use Rattle.pb_model.specs.Texts as texts
 use Rattle.pb_lines.specs.Words.{part, behind, is_text, number_of, has_none, line_feeds}
@@ -10,7 +9,7 @@ use Rattle.pb_lines.proofs.Callers.{part_is, part_none, part_again, no_feed, non
 use Rattle.pb_tables.specs.Tables.{TablesValue}
 use Rattle.pb_table_lines.specs.Reading.{tables_at}
 use Rattle.pb_table_lines.specs.Refused.{IsRefused}
-use Rattle.pb_table_lines.proofs.Callers.{tables_are_read_as_written, refused_lines_are_first}
+use Rattle.pb_table_lines.proofs.Callers.{feeds_cons, feeds_line, no_first, tables_are_read_as_written, refused_lines_are_first}
 use Rattle.pb_estimate.specs.Choices.{Choice, Plain, Pattern, Tables}
 use Rattle.pb_estimate.specs.Spelling.{CanBeStated, plain_line, pattern_line, estimate_text}
 use Rattle.pb_check.specs.declared.fault.CertificateFault.{CertificateFault}
@@ -21,13 +20,9 @@ use Rattle.pb_check.specs.Cases.{AreWholeLines}
 use Rattle.pb_check.proofs.Spelled.{one_line, estimate_lines_are}
 use Rattle.pb_check.proofs.Readable.{plain_none, pattern_none, tables_chosen, estimate_lines_again}
 use Rattle.pb_check.proofs.Cuts.{lines_chosen, chosen_then}
-use Rattle.pb_check.proofs.FirstLines.{Takes, Stops, IsBeginning, IsReader, IsAt, at_ok, at_wanted, at_next, at_either, whole_both, feeds_line, no_first, err_is}
+use Rattle.pb_check.proofs.FirstLines.{Takes, Stops, IsBeginning, IsReader, IsAt, at_ok, at_wanted, at_next, at_either, whole_both, err_is}
 
 -- ---- line feeds
-
-pub feeds_cons : (b : ℕ) (bs : List ℕ)
-    → line_feeds (b ∷ bs) ≡ cond (eqb b 10) 1 0 + line_feeds bs
-feeds_cons b bs = sum_by-cons (λ (c : ℕ). cond (eqb c 10) 1 0) b bs
 
 pub no_feeds : (text : List ℕ) → line_feeds text ≡ 0 → has_none 10 text ≡ true
 no_feeds [] e = refl

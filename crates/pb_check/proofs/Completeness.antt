@@ -146,7 +146,7 @@ found rows rise state most h =
 pub zero_ok : (g : Option ℕ) (k : ℕ) → g ≡ Some k → k ≤ 0 → is_zero g ≡ true
 zero_ok g k e le = let z : k ≡ 0 = omega (arith, le) in ap is_zero e ∙ ap (λ n. eqb n 0) z
 
-pub target_ok : (line action most : ℕ) (g : Option ℕ) (k : ℕ) → g ≡ Some k → k ≤ most → target_fault line action most g ≡ None
+target_ok : (line action most : ℕ) (g : Option ℕ) (k : ℕ) → g ≡ Some k → k ≤ most → target_fault line action most g ≡ None
 target_ok line action most g k e le = ap (target_fault line action most) e ∙ ap (λ b. unless b (faults.TooDear line action)) (le-leb k most le)
 
 pub may_ok : (weight : Weight) (best : Option ℕ) (g : ℕ) (e : Estimate) → MayBeCut weight best g e → may_be_cut weight best g e ≡ true
@@ -154,24 +154,32 @@ may_ok weight best g Dead h = refl
 may_ok weight None g (Cost x) h = absurd h
 may_ok weight (Some best) g (Cost x) h = le-leb _ _ h
 
-module _ (space : Space) (estimate : ℕ → Estimate) (weight : Weight) (best : Option ℕ) (rows : List Line) (rise : Rise rows) where
-  steps_ok : (line g state count : ℕ) → ((action to cost : ℕ) → Steps space state action to cost → HasLineWithin rows to (g + cost)) → steps_fault space rows line g state count ≡ None
-  unfolding steps_fault
-  steps_ok line g state zero so = refl
-  steps_ok line g state (suc action) so =
-      ap (λ f. or_then f (step_fault rows line g action (space.step state action))) (steps_ok line g state action so) ∙ go (space.step state action) refl
-    where
-      go : (r : Option (ℕ × ℕ)) → space.step state action ≡ r → step_fault rows line g action r ≡ None
-      go None e = refl
-      go (Some step) e = let f = found rows rise step.0 (g + step.1) (so action step.0 step.1 e) in target_ok line action (g + step.1) (g_of rows step.0) f.0 f.1 f.2
+-- actions below a number have no fault
+pub steps_before : (space : Space) (rows : List Line) → Rise rows → (line g state action : ℕ)
+    → ((other to cost : ℕ) → other < action → Steps space state other to cost
+    → HasLineWithin rows to (g + cost)) → steps_fault space rows line g state action ≡ None
+unfolding steps_fault
+steps_before space rows rise line g state zero so = refl
+steps_before space rows rise line g state (suc action) so =
+    ap (λ f. or_then f (step_fault rows line g action (space.step state action)))
+    (steps_before space rows rise line g state action
+    (λ other to cost lt step. so other to cost (omega (arith, lt)) step))
+    ∙ go (space.step state action) refl
+  where
+    go : (r : Option (ℕ × ℕ)) → space.step state action ≡ r → step_fault rows line g action r ≡ None
+    go None e = refl
+    go (Some step) e =
+        let f = found rows rise step.0 (g + step.1) (so action step.0 step.1 (omega arith) e) in
+        target_ok line action (g + step.1) (g_of rows step.0) f.0 f.1 f.2
 
+module _ (space : Space) (estimate : ℕ → Estimate) (weight : Weight) (best : Option ℕ) (rows : List Line) (rise : Rise rows) where
   pub row_ok : (line : ℕ) (row : Line) → (IsTrue row.is_closed → IsClosedLine space rows row) → (IsFalse row.is_closed → MayBeCut weight best row.g (estimate row.state)) → row_fault space estimate weight best rows line row ≡ None
   unfolding row_fault
   row_ok line row closed cut = go row.is_closed refl
     where
       go : (b : Bool) → row.is_closed ≡ b → cond b (cond (space.is_goal row.state) (Some (faults.GoalClosed line)) (steps_fault space rows line row.g row.state space.actions)) (unless (may_be_cut weight best row.g (estimate row.state)) (faults.Low line)) ≡ None
       go true e = let is = closed e in
-          ap (λ b. cond b (Some (faults.GoalClosed line)) (steps_fault space rows line row.g row.state space.actions)) is.no_goal ∙ steps_ok line row.g row.state space.actions is.successors
+          ap (λ b. cond b (Some (faults.GoalClosed line)) (steps_fault space rows line row.g row.state space.actions)) is.no_goal ∙ steps_before space rows rise line row.g row.state space.actions (λ action to cost lt step. is.successors action to cost step)
       go false e = ap (λ b. unless b (faults.Low line)) (may_ok weight best row.g (estimate row.state) (cut e))
 
   rows_ok : (line : ℕ) (some : List Line) → All (λ row. IsTrue row.is_closed → IsClosedLine space rows row) some → All (λ row. IsFalse row.is_closed → MayBeCut weight best row.g (estimate row.state)) some → first_fault_by (row_fault space estimate weight best rows) line some ≡ None

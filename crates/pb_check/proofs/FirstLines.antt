@@ -5,7 +5,8 @@ use Rattle.std.proofs.lemmas.Option.{same_Some}
 use Rattle.pb_check.specs.declared.fault.CertificateFault.{CertificateFault}
 use Rattle.pb_check.specs.declared.fault.CertificateFault.TheVariants.{Syntax}
 use Rattle.pb_lines.specs.Words.{part, has_none, line_feeds}
-use Rattle.pb_lines.proofs.Callers.{part_is, part_none, part_again, one_feed}
+use Rattle.pb_lines.proofs.Callers.{part_is, part_none, part_again}
+use Rattle.pb_table_lines.proofs.Callers.{feeds_line, no_first, same_first}
 use Rattle.pb_check.specs.Faults.{◌>>=◌, wanted}
 use Rattle.pb_check.specs.Reading.{line_at}
 use Rattle.pb_check.specs.Cases.{AreWholeLines}
@@ -26,24 +27,6 @@ whole_both one two is (inl none) =
     subst AreWholeLines (sym (ap (λ (r : List ℕ). one ++ r) none ∙ append-nil one)) is
 whole_both one two is (inr (front, last)) =
     inr (one ++ front, ap (λ (r : List ℕ). one ++ r) last ∙ sym (append_assoc one front (10 ∷ [])))
-
-pub feeds_line : (first rest : List ℕ) → has_none 10 first ≡ true
-    → line_feeds (first ++ 10 ∷ rest) ≡ suc (line_feeds rest)
-feeds_line first rest none = one_feed (first ++ 10 ∷ rest) first rest (part_again 10 first rest none)
-
-same_first : (text first rest : List ℕ) (x : List ℕ × List ℕ) → part 10 text ≡ Some x
-    → text ≡ first ++ 10 ∷ rest → has_none 10 first ≡ true → x.0 ≡ first
-same_first text first rest x is text_is none =
-    let there : part 10 text ≡ Some (first, rest) =
-    ap (part 10) text_is ∙ part_again 10 first rest none in
-    ap (λ (p : List ℕ × List ℕ). p.0) (same_Some x (first, rest) (sym is ∙ there))
-
-pub no_first : (text first rest : List ℕ) → part 10 text ≡ None → text ≡ first ++ 10 ∷ rest
-    → has_none 10 first ≡ true → ⊥
-no_first text first rest is text_is none =
-    let there : part 10 text ≡ Some (first, rest) =
-    ap (part 10) text_is ∙ part_again 10 first rest none in
-    cc
 
 -- ---- readers
 

@@ -20,6 +20,7 @@ use Rattle.pb_estimate.specs.declared.spelling.Version.TheVariants.{One, Two, Th
 use Rattle.pb_estimate.specs.Spelling.{IsVersionFor, version_line, kind_line, width_text, grounding_line, stated_text, head_lines}
 use Rattle.pb_lines.specs.Words.{part, behind, is_text, number_of, has_none, line_feeds}
 use Rattle.pb_lines.proofs.Callers.{part_is, part_none, no_feed, none_both, number_word, number_none, text_again}
+use Rattle.pb_table_lines.proofs.Callers.{feeds_both, feeds_cons}
 use Rattle.pb_check.specs.declared.fault.CertificateFault.{CertificateFault}
 use Rattle.pb_check.specs.declared.fault.CertificateFault.TheVariants.{Syntax}
 use Rattle.pb_check.specs.Faults.{◌>>=◌, wanted}
@@ -31,7 +32,7 @@ use Rattle.pb_check.proofs.Cuts.{after_unnamed, lines_chosen, lines_stated, stat
 use Rattle.pb_check.proofs.Lines.{spelling_with, IsWeightLine}
 use Rattle.pb_check.proofs.Readable.{behind_number_word_read, version_again, version_none, kind_said_again, kind_none, width_words, width_again, width_none, grounding_again, grounding_none, weight_again, weight_none, row_again, row_none}
 use Rattle.pb_check.proofs.Written.{line_of_row, read_as_spelled, read_of}
-use Rattle.pb_check.proofs.ChoiceReader.{at_number, estimate_reader, feeds_cons, no_feeds}
+use Rattle.pb_check.proofs.ChoiceReader.{at_number, estimate_reader, no_feeds}
 use Rattle.pb_check.proofs.FirstLines.{named, IsReader, IsLastReader, IsAt, Stops, IsWhole, given, at_ok, at_wanted, at_next, at_either, same_reader, same_last, line_reader, pair_reader, then_reader, named_reader, then_last, named_last}
 
 -- ---- what a line says is a fault of that line, or none
@@ -539,14 +540,6 @@ syntax_case bytes fault e =
     not_both r is also = cc
 
 -- ---- there is one such line
-
-feeds_both : (xs ys : List ℕ) → line_feeds (xs ++ ys) ≡ line_feeds xs + line_feeds ys
-feeds_both [] ys = let none : line_feeds [] ≡ 0 = refl in omega (arith, none)
-feeds_both (x ∷ xs) ys =
-    let a = feeds_cons x (xs ++ ys) in
-    let b = feeds_cons x xs in
-    let c = feeds_both xs ys in
-    omega (arith, a, b, c)
 
 heads_are : (x y : ℕ) (xs ys : List ℕ) → x ∷ xs ≡ y ∷ ys → (x ≡ y) × (xs ≡ ys)
 heads_are x y xs ys e = (cc, cc)

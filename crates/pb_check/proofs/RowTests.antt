@@ -12,12 +12,8 @@ use Rattle.pb_check.specs.Rows.{rises_at}
 use Rattle.pb_check.specs.Judging.{unless, rows_order_fault, state_fault}
 use Rattle.pb_check.specs.Pieces.{FaultPlace, IsFirstIn, earlier, IsBetween, order_fault_at, tested_at, first_tested, fault_of}
 use Rattle.pb_check.proofs.Passes.{order_goes_on, order_ends, order_done}
+use Rattle.pb_check.proofs.Validity.{holds}
 use Rattle.pb_check.proofs.Firsts.{earlier_is_first, first_of_all_is_first_fault, first_of_fewer}
-
--- what has no fault holds
-holds : (b : Bool) (fault : CertificateFault) → unless b fault ≡ None → b ≡ true
-holds true fault e = refl
-holds false fault e = absurd cc
 
 -- what has a fault does not hold, and has this fault
 fails : (b : Bool) (fault found : CertificateFault) → unless b fault ≡ Some found → (b ≡ false) × (◌≡◌ {A = Option CertificateFault} (Some fault) (Some found))

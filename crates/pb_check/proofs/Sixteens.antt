@@ -1,10 +1,11 @@
 -- States as words of sixteen hexadecimal digits each.
-use Rattle.std.proofs.Common.{lit<, ◌≡◌, ℕ, zero, suc, ◌+◌, ◌-◌, ◌*◌, ◌^◌, ◌<◌, ◌≤◌, Bool, true, false, cond, ltb, Option, None, Some, List, [], ◌∷◌, ◌++◌, length, get_or, take, drop, refl, sym, ap, ◌∙◌, subst, arith, drop-cons, mul_assoc, mul_comm}
-use Rattle.std.proofs.Math.Nat.{pow-suc, pow-le-pow_right}
-use Rattle.std.proofs.Math.ListN.{drop_of_length-le, set, replicate}
-use Rattle.std.proofs.lemmas.List.{take-append-drop, drop-drop, length-drop, length-take-le, drop-set}
+use Rattle.std.proofs.Common.{◌≡◌, ℕ, suc, ◌+◌, ◌-◌, ◌*◌, ◌^◌, ◌<◌, ◌≤◌, Bool, true, false, cond, ltb, Option, None, Some, List, [], ◌∷◌, ◌++◌, length, get_or, take, drop, refl, sym, ap, ◌∙◌, arith, drop-cons, mul_assoc, mul_comm}
+use Rattle.std.proofs.Math.Nat.{pow-suc}
+use Rattle.std.proofs.Math.ListN.{drop_of_length-le, set}
+use Rattle.std.proofs.lemmas.List.{take-append-drop, drop-drop}
 use Rattle.std.specs.Option.{option_and_then, option_map}
-use Rattle.pb_packed.specs.Words.{number_of, AreWords}
+use Rattle.pb_packed.specs.Words.{number_of}
+use Rattle.pb_table_lines.proofs.Callers.{highest, sixteen_long, written}
 use Rattle.pb_check.specs.Words.{hex_value, hex_after}
 
 -- ---- as a loop reads them
@@ -38,22 +39,8 @@ pub digits_end : (total : Option ℕ) (number i : ℕ) (digits : List ℕ) → l
 unfolding hex_after
 digits_end total number i digits over so_far = sym (so_far ∙ ap (hex_after number) (drop_of_length-le digits over))
 
-pub grows : (number value i : ℕ) → number < 16 ^ i → value ≤ 15 → number * 16 + value < 16 ^ (i + 1)
-grows number value i small digit =
-    let e : i + 1 ≡ suc i = omega arith in
-    let power : 16 ^ (i + 1) ≡ 16 ^ i * 16 = ap (λ k. 16 ^ k) e ∙ pow-suc 16 i in
-    omega (arith, power, small, digit)
-
 pub value_small : (value byte : ℕ) → value ≡ hex_value byte → (value ≡ 16 → ⊥) → value ≤ 15
 value_small value byte is differs = grind (arith, is, differs)
-
-pub room : (number value i : ℕ) → number < 16 ^ i → value ≤ 15 → i < 16 → number * 16 + value < 2 ^ 64
-room number value i small digit within =
-    let next : number * 16 + value < 16 ^ (i + 1) = grows number value i small digit in
-    let some : 0 < 16 = omega arith in
-    let most : i + 1 ≤ 16 = omega (arith, within) in
-    let power : 16 ^ (i + 1) ≤ 16 ^ 16 = pow-le-pow_right some most in
-    omega (arith, next, power)
 
 -- ---- one word behind another
 
@@ -98,11 +85,6 @@ split n from word =
     ∙ behind n (take 16 (drop from word)) (drop 16 (drop from word))
     ∙ ap (λ (ys : List ℕ). option_and_then (λ m. hex_after m ys) (hex_after n (take 16 (drop from word)))) (drop-drop 16 from word)
 
-sixteen_long : (from : ℕ) (word : List ℕ) → from + 16 ≤ length word → length (take 16 (drop from word)) ≡ 16
-sixteen_long from word within =
-    let left : length (drop from word) ≡ length word - from = length-drop from word in
-    length-take-le 16 (drop from word) (omega (arith, left, within))
-
 -- sixteen digits more, behind others that spell this number
 sixteen_more : (n from : ℕ) (word : List ℕ) → from + 16 ≤ length word
     → hex_after n (drop from word) ≡ option_and_then (λ m. hex_after m (drop (from + 16) word)) (option_map (λ v. n * 2 ^ 64 + v) (hex_after 0 (take (from + 16 - from) (drop from word))))
@@ -111,12 +93,6 @@ sixteen_more n from word within =
     split n from word
     ∙ ap (option_and_then (λ m. hex_after m (drop (from + 16) word))) (behind_number n (take 16 (drop from word)) (sixteen_long from word within)
     ∙ ap (λ k. option_map (λ v. n * 2 ^ 64 + v) (hex_after 0 (take k (drop from word)))) sixteen)
-
--- the words from one on, once it was written
-pub written : (words : List ℕ) (left v : ℕ) → 1 ≤ left → left ≤ length words → number_of (drop (left - 1) (set words (left - 1) v)) ≡ number_of (drop left words) * 2 ^ 64 + v
-written words left v some within =
-    let next : left - 1 + 1 ≡ left = omega (arith, some) in
-    ap number_of (drop-set words (left - 1) v (omega (arith, some, within))) ∙ ap (λ k. number_of (drop k words) * 2 ^ 64 + v) next
 
 pub sixteen_read : (total : Option ℕ) (left from v : ℕ) (word words : List ℕ) → 1 ≤ left → left ≤ length words → 16 * left ≤ length word → from ≡ length word - 16 * left
     → Some v ≡ hex_after 0 (take (from + 16 - from) (drop from word)) → total ≡ hex_after (number_of (drop left words)) (drop from word)
@@ -146,11 +122,6 @@ all_read total left word words none so_far =
 
 -- ---- the digits of the highest word
 
-highest : (words : List ℕ) (last v : ℕ) → last + 1 ≡ length words → number_of (drop last (set words last v)) ≡ v
-highest words last v is =
-    let none : drop (last + 1) words ≡ [] = drop_of_length-le words (omega (arith, is)) in
-    ap number_of (drop-set words last v (omega (arith, is))) ∙ ap (λ (ws : List ℕ). number_of ws * 2 ^ 64 + v) none ∙ (let e : 0 * 2 ^ 64 + v ≡ v = omega arith in e)
-
 pub first_read : (first last v : ℕ) (word words : List ℕ) → last + 1 ≡ length words → Some v ≡ hex_after 0 (take first word)
     → hex_after (number_of (drop last (set words last v))) (drop first word) ≡ hex_after 0 word
 first_read first last v word words is front =
@@ -162,21 +133,3 @@ pub first_fails : (first : ℕ) (word : List ℕ) → ◌≡◌ {A = Option ℕ}
 first_fails first word none =
     sym (ap (hex_after 0) (sym (take-append-drop first word)) ∙ behind 0 (take first word) (drop first word)
     ∙ ap (option_and_then (λ m. hex_after m (drop first word))) (sym none))
-
--- ---- words
-
-pub words_long : (count : ℕ) (words : List ℕ) → AreWords count words → length words ≡ count
-words_long zero [] h = refl
-words_long zero (w ∷ ws) h = absurd h
-words_long (suc count) [] h = absurd h
-words_long (suc count) (w ∷ ws) h = ap suc (words_long count ws h.1)
-
-pub zeros_are_words : (count : ℕ) → AreWords count (replicate count 0)
-zeros_are_words zero = tt
-zeros_are_words (suc count) = (lit< tt, zeros_are_words count)
-
-pub all_zeros : (count : ℕ) → AreWords (length (replicate {A = ℕ} count 0)) (replicate count 0)
-all_zeros count =
-    let zeros : List ℕ = replicate count 0 in
-    let are : AreWords count zeros = zeros_are_words count in
-    subst (λ k. AreWords k zeros) (sym (words_long count zeros are)) are

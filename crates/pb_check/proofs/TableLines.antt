@@ -1,21 +1,10 @@
 -- Lines that state tables begin with a line that states no other choice of an estimate.
-use Rattle.std.proofs.Common.{◌≡◌, ℕ, true, Option, None, Some, List, Result, Ok, Err, refl, ap}
+use Rattle.std.proofs.Common.{◌≡◌, ℕ, true, Some, List, Ok, ap}
 use Rattle.std.specs.Prelude.{codes, is_some}
 use Rattle.pb_lines.specs.Words.{part, behind}
 use Rattle.pb_tables.specs.Tables.{TablesValue}
 use Rattle.pb_table_lines.specs.Reading.{◌>>=◌, wanted, line_at, counts_in, tables_at}
-
-bind_ok : {A B : Type 0} (r : Result A ℕ) (f : A → Result B ℕ) (y : B) → (r >>= f) ≡ Ok y
-    → (x : A) × (r ≡ Ok x) × (f x ≡ Ok y)
-bind_ok (Ok x) f y e = (x, refl, e)
-bind_ok (Err refused) f y e = absurd cc
-
-wanted_ok : {A : Type 0} (line : ℕ) (o : Option A) (x : A) → wanted line o ≡ Ok x → o ≡ Some x
-wanted_ok line None x e = absurd cc
-wanted_ok {A} line (Some y) x e = ap (λ (z : A). Some z) (go y x e)
-  where
-    go : (y x : A) → ◌≡◌ {A = Result A ℕ} (Ok y) (Ok x) → y ≡ x
-    go y x e = cc
+use Rattle.pb_table_lines.proofs.Callers.{bind_ok, wanted_ok}
 
 pub tables_first : (width line : ℕ) (text : List ℕ) (x : TablesValue × List ℕ)
     → tables_at width line text ≡ Ok x

@@ -1,7 +1,7 @@
 use Rattle.std.proofs.Common.{◌≡◌, ℕ, List, length, sym, subst, ◌∙◌}
 use Rattle.std.proofs.Math.ListN.{replicate}
 use Rattle.pb_packed.specs.Words.{AreWords}
-use Rattle.pb_check.proofs.Sixteens.{all_zeros}
+use Rattle.pb_table_lines.proofs.Callers.{all_zeros}
 use Rattle.pb_check.proofs.front.spell.Goals as goal
 
 pub spell_into-requires-clause-words : goal.spell_into-requires-clause-words

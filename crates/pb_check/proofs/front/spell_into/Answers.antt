@@ -5,7 +5,7 @@ use Rattle.pb_check.specs.declared.front.Spelled.{Spelled}
 use Rattle.pb_check.specs.Words.{words_for}
 use Rattle.pb_check.specs.Fronts.{row_front, rows_while}
 use Rattle.pb_check.specs.Kept.{IsSpelledAs}
-use Rattle.pb_check.proofs.Sixteens.{words_long}
+use Rattle.pb_table_lines.proofs.Callers.{words_long}
 use Rattle.pb_check.proofs.TextByRows.{rows_go_on, rows_end}
 use Rattle.pb_check.proofs.front.spell_into.Goals as goal
 

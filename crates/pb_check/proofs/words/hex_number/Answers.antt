@@ -1,6 +1,7 @@
 use Rattle.std.proofs.Common.{get_or, arith, refl}
 use Rattle.pb_check.specs.Words.{hex_after}
-use Rattle.pb_check.proofs.Sixteens.{digit_read, digit_fails, digits_end, grows, value_small, room}
+use Rattle.pb_table_lines.proofs.Callers.{grows, room}
+use Rattle.pb_check.proofs.Sixteens.{digit_read, digit_fails, digits_end, value_small}
 use Rattle.pb_check.proofs.words.hex_number.Goals as goal
 
 pub returns-then-value-eq16-clause-number : goal.returns-then-value-eq16-clause-number
