@@ -1,5 +1,5 @@
 -- What is judged before the rows, and then the rows.
-use Rattle.std.proofs.Common.{◌≡◌, Bool, Result, Ok, Err, refl, sym, ap, ◌∙◌}
+use Rattle.std.proofs.Common.{◌≡◌, ℕ, Bool, Option, Result, Ok, Err, refl, sym, ap, ◌∙◌}
 use Rattle.pb_model.specs.Certificate.{cost_of}
 use Rattle.pb_task.specs.declared.parts.TaskParts.{TaskParts}
 use Rattle.pb_task.specs.Parts.{space_of}
@@ -20,13 +20,13 @@ over (Ok x) first then whole e = e
 over (Err fault) first then whole e = refl
 
 -- the faults of the rows themselves
-abbrev pub rows_judged : TaskParts → Text → Result Bool CertificateFault
-rows_judged parts text =
-    passes (first_fault_by (row_fault (space_of parts) (estimate_by parts text.spelling.stated.choice) text.certificate.weight (cost_of text.certificate.plan) text.certificate.lines) text.first text.certificate.lines)
+abbrev pub rows_judged : TaskParts → Text → (best : Option ℕ) → Result Bool CertificateFault
+rows_judged parts text best =
+    passes (first_fault_by (row_fault (space_of parts) (estimate_by parts text.spelling.stated.choice) text.certificate.weight best text.certificate.lines) text.first text.certificate.lines)
 
 -- the verdict, if the rows have no fault
 abbrev pub after_before : TaskParts → Text → Result Verdict CertificateFault
-after_before parts text = rows_judged parts text >>= λ rows. Ok (verdict_of text.certificate.weight text.certificate.plan)
+after_before parts text = rows_judged parts text (cost_of text.certificate.plan) >>= λ rows. Ok (verdict_of text.certificate.weight text.certificate.plan)
 
 -- what is judged behind the plan
 abbrev after_head : TaskParts → Text → Result Verdict CertificateFault
@@ -61,15 +61,15 @@ before_fails errors.Memory parts text h = tt
 before_fails (errors.Fault fault) parts text h = judged_is parts text ∙ ap (λ r. r >>= λ x. after_before parts text) h
 
 -- what fails in the rows fails
-pub rows_fail : (e : CheckError) (parts : TaskParts) (text : Text) (x : Bool) → judged_before parts text ≡ Ok x → Fails e (rows_judged parts text) → Fails e (judged parts text)
-rows_fail errors.Memory parts text x before h = tt
-rows_fail (errors.Fault fault) parts text x before h =
+pub rows_fail : (e : CheckError) (parts : TaskParts) (text : Text) (x : Bool) (best : Option ℕ) → judged_before parts text ≡ Ok x → best ≡ cost_of text.certificate.plan → Fails e (rows_judged parts text best) → Fails e (judged parts text)
+rows_fail errors.Memory parts text x best before best_is h = tt
+rows_fail (errors.Fault fault) parts text x best before best_is h =
     judged_is parts text ∙ ap (λ r. r >>= λ x. after_before parts text) before
-    ∙ ap (λ (r : Result Bool CertificateFault). r >>= λ rows. Ok (verdict_of text.certificate.weight text.certificate.plan)) h
+    ∙ ap (λ (r : Result Bool CertificateFault). r >>= λ rows. Ok (verdict_of text.certificate.weight text.certificate.plan)) (ap (rows_judged parts text) (sym best_is) ∙ h)
 
 -- what passes before the rows and in them has the verdict
-pub rows_pass : (parts : TaskParts) (text : Text) (x y : Bool) (verdict : Verdict) → judged_before parts text ≡ Ok x → rows_judged parts text ≡ Ok y → verdict ≡ verdict_of text.certificate.weight text.certificate.plan → judged parts text ≡ Ok verdict
-rows_pass parts text x y verdict before rows is =
+pub rows_pass : (parts : TaskParts) (text : Text) (x y : Bool) (best : Option ℕ) (verdict : Verdict) → judged_before parts text ≡ Ok x → best ≡ cost_of text.certificate.plan → rows_judged parts text best ≡ Ok y → verdict ≡ verdict_of text.certificate.weight text.certificate.plan → judged parts text ≡ Ok verdict
+rows_pass parts text x y best verdict before best_is rows is =
     judged_is parts text ∙ ap (λ r. r >>= λ x. after_before parts text) before
-    ∙ ap (λ (r : Result Bool CertificateFault). r >>= λ rows. Ok (verdict_of text.certificate.weight text.certificate.plan)) rows
+    ∙ ap (λ (r : Result Bool CertificateFault). r >>= λ rows. Ok (verdict_of text.certificate.weight text.certificate.plan)) (ap (rows_judged parts text) (sym best_is) ∙ rows)
     ∙ ap (λ (v : Verdict). Ok v) (sym is)

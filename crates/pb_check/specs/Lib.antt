@@ -15,6 +15,7 @@ pub mod Judging
 pub mod Fronts
 pub mod Kept
 pub mod Pieces
+pub mod RowsToJudge
 pub mod PlanLines
 pub mod Shown
 pub mod Cases

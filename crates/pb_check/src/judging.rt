@@ -1,21 +1,22 @@
 //! What a text says is judged in one fixed order.
 ghost use Rattle.std.specs.Prelude.{◌≡◌, ◌+◌, ◌*◌, ◌<◌, ◌^◌, length, true, false, None, Some, IfOk, Option};
 ghost use Rattle.pb_model.specs.Weight.{Weight};
-ghost use Rattle.pb_model.specs.Certificate.{cost_of};
 ghost use Rattle.pb_task.specs.Parts.{space_of, IsTask};
-ghost use Rattle.pb_estimate.specs.Estimates.{estimate_by, suits};
+ghost use Rattle.pb_estimate.specs.Estimates.{suits};
 ghost use Rattle.pb_estimate.specs.Tables.{IsOfTask};
 ghost use Rattle.pb_check.specs.Faults.{Gives};
 ghost use Rattle.pb_check.specs.Reading.{suiting};
-ghost use Rattle.pb_check.specs.Judging.{passes, unless, same_kind, width_fault, same_grounding, grounding_fault, table_fault, tables_fault_for, stated_fault, is_weight, rows_order_fault, first_fault_by, state_fault, g_of, is_zero, row_fault, bound_of, verdict_of, start_judged, judged, judged_head, judged_before, Rise};
+ghost use Rattle.pb_check.specs.Judging.{passes, unless, same_kind, width_fault, same_grounding, grounding_fault, table_fault, tables_fault_for, stated_fault, is_weight, rows_order_fault, first_fault_by, state_fault, g_of, is_zero, bound_of, verdict_of, start_judged, judged, judged_head, judged_before, Rise};
+ghost use Rattle.pb_check.specs.RowsToJudge.{fault_by, weight_of};
 
 use crate::fault::{CertificateFault, CheckError, Claim, Verdict};
 use crate::passing::{need, pass, unless};
 use crate::plans::{cost_of, judge_plan_if_any};
 use crate::row_faults::{rows_fault, rows_order_fault, states_fault};
 use crate::rows::StatedRows;
+use crate::rows_to_judge::RowsToJudge;
 use crate::stated::{StatedPlan, StatedText, StatedWeight};
-use pb_estimate::{Choice, ChoiceCase, Estimator, Stated, Version};
+use pb_estimate::{ChoiceCase, Estimator, Stated, Version};
 use pb_table_lines::line_number;
 use pb_tables::{Tables, TablesFault};
 use pb_task::{Grounding, Kind, Task, TaskParts};
@@ -154,38 +155,24 @@ fn is_zero(g: Option<u64>) -> bool
 // Goes on only if no row has a fault. The estimator is by the stated choice, which suits.
 fn need_rows(
     alloc: Global,
-    task: &Task,
+    judged: &RowsToJudge<'_>,
     estimator: &mut Estimator,
-    choice: &Choice,
-    weight: &StatedWeight,
-    plan: &Option<StatedPlan<'_>>,
-    rows: &StatedRows,
-    line: u64,
 ) -> Result<(), CheckError>
-    requires suits { suits task.now choice.now ≡ true }
-    requires task { IsOfTask estimator.old task.now (suiting task.now choice.now) }
-    requires weight { is_weight (record { num = weight.now.num; den = weight.now.den }) ≡ true }
-    requires rise { Rise rows.now }
-    requires states { first_fault_by (state_fault (space_of task.now)) line rows.now ≡ None }
-    requires lines { line + length rows.now < 2 ^ 64 }
-    ensures gives { Gives (λ _. true) result
-        (passes (first_fault_by (row_fault (space_of task.now) (estimate_by task.now choice.now)
-        (record { num = weight.now.num; den = weight.now.den }) (cost_of plan.now) rows.now)
-        line rows.now)) }
-    ensures task { IsOfTask estimator.new task.now (suiting task.now choice.now) }
+    requires suits { suits judged.now.task.now judged.now.choice.now ≡ true }
+    requires task { IsOfTask estimator.old judged.now.task.now
+        (suiting judged.now.task.now judged.now.choice.now) }
+    requires weight { is_weight (weight_of judged.now) ≡ true }
+    requires rise { Rise judged.now.rows.now }
+    requires states { first_fault_by (state_fault (space_of judged.now.task.now)) judged.now.line
+        judged.now.rows.now ≡ None }
+    requires lines { judged.now.line + length judged.now.rows.now < 2 ^ 64 }
+    ensures gives { Gives (λ _. true) result (passes (first_fault_by (fault_by judged.now)
+        judged.now.line judged.now.rows.now)) }
+    ensures task { IsOfTask estimator.new judged.now.task.now
+        (suiting judged.now.task.now judged.now.choice.now) }
 {
-    let mut places = Vec::from_elem(alloc, 0usize, task.actions() as usize)?;
-    let best = cost_of(plan);
-    let fault = rows_fault(
-        task,
-        estimator,
-        choice,
-        weight,
-        best,
-        rows,
-        line,
-        &mut places,
-    );
+    let mut places = Vec::from_elem(alloc, 0usize, judged.task.actions() as usize)?;
+    let fault = rows_fault(judged, estimator, &mut places);
     pass(fault)
 }
 
@@ -270,18 +257,15 @@ pub fn judge(
     ensures task { IsOfTask estimator.new task.now
         (suiting task.now text.now.spelling.stated.choice) }
 {
-    let stated = &text.spelling.stated;
-    let weight = &text.weight;
     judge_before(task, estimator, text)?;
-    need_rows(
-        alloc,
+    let rows = RowsToJudge {
         task,
-        estimator,
-        &stated.choice,
-        weight,
-        &text.plan,
-        &text.rows,
-        text.first,
-    )?;
-    Ok(Verdict::on(verdict_of(weight, &text.plan)))
+        choice: &text.spelling.stated.choice,
+        weight: &text.weight,
+        best: cost_of(&text.plan),
+        rows: &text.rows,
+        line: text.first,
+    };
+    need_rows(alloc, &rows, estimator)?;
+    Ok(Verdict::on(verdict_of(&text.weight, &text.plan)))
 }

@@ -26,6 +26,7 @@ mod row_faults;
 mod row_lines;
 mod row_tests;
 mod rows;
+mod rows_to_judge;
 mod sharing;
 mod stated;
 mod words;

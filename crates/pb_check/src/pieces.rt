@@ -1,19 +1,19 @@
 //! Checking with the rows spelled and judged in pieces, by several workers at once.
 ghost use Rattle.std.specs.Thread.{IsSync};
-ghost use Rattle.std.specs.Prelude.{◌≡◌, ◌≤◌, ◌+◌, ◌-◌, ◌*◌, ◌/◌, ◌%◌, ◌<◌, ◌^◌, All, length, IsTrue, true, None, IfOk, Ok, Err, ℕ, min, max};
+ghost use Rattle.std.specs.Prelude.{◌≡◌, ◌≤◌, ◌+◌, ◌-◌, ◌*◌, ◌/◌, ◌%◌, ◌<◌, ◌^◌, All, length, true, None, IfOk, Ok, Err, ℕ, min, max};
 ghost use Rattle.std.specs.Int.{div_ceil};
-ghost use Rattle.pb_model.specs.Certificate.{Line, cost_of};
 ghost use Rattle.pb_task.specs.Parts.{space_of, IsTask};
-ghost use Rattle.pb_estimate.specs.Estimates.{estimate_by, suits};
+ghost use Rattle.pb_estimate.specs.Estimates.{suits};
 ghost use Rattle.pb_estimate.specs.Tables.{IsOfTask};
 ghost use Rattle.pb_lines.specs.Words.{line_feeds};
 ghost use Rattle.pb_check.specs.declared.fault.Verdict.{Verdict};
 ghost use Rattle.pb_check.specs.declared.fault.CertificateFault.TheVariants.{Syntax};
 ghost use Rattle.pb_check.specs.Faults.{Gives};
 ghost use Rattle.pb_check.specs.Reading.{stated_choice, suiting};
-ghost use Rattle.pb_check.specs.Judging.{passes, is_weight, state_fault, row_fault, first_fault_by, judged, judged_before, checked, Rise};
+ghost use Rattle.pb_check.specs.Judging.{passes, is_weight, state_fault, first_fault_by, judged, judged_before, checked, Rise};
 ghost use Rattle.pb_check.specs.Shown.{IsAccepted, IsCutOff, ShowsClaim, VerdictHolds};
 ghost use Rattle.pb_check.specs.Pieces.{IsFirstIn, row_fault_at, found_of, IsBetween, IsOfWorkers};
+ghost use Rattle.pb_check.specs.RowsToJudge.{AreStates, fault_by, fault_in_place, weight_of};
 
 use crate::fault::{CertificateFault, CheckError, Verdict};
 use crate::found::{Found, earlier};
@@ -24,45 +24,46 @@ use crate::plans::cost_of;
 use crate::row_faults::row_fault;
 use crate::row_tests::{order_fault_by_shares, states_fault_by_shares};
 use crate::rows::StatedRows;
-use crate::stated::{StatedPlan, StatedText, StatedWeight};
-use pb_estimate::{Choice, Estimator};
+use crate::rows_to_judge::RowsToJudge;
+use crate::stated::StatedText;
+use pb_estimate::Estimator;
 use pb_outside::Gate;
 use pb_task::Task;
 use std::alloc::{AllocError, Global};
 use std::thread::{Threads, join_mut};
 
+// How the rows are divided among workers. Of so many workers the one of number i has the pieces i,
+// i + workers, i + 2 * workers, and so on.
+#[derive(Clone, Copy)]
+struct Division {
+    // How many rows a piece has.
+    piece: u64,
+    workers: u64,
+}
+
 // The first fault of the rows from one place to another, each judged against all rows.
 fn judge_piece(
-    task: &Task,
+    judged: &RowsToJudge<'_>,
     estimator: &mut Estimator,
-    choice: &Choice,
-    weight: &StatedWeight,
-    best: Option<u64>,
-    rows: &StatedRows,
-    line: u64,
     from: u64,
     to: u64,
     places: &mut [usize],
 ) -> Option<Found>
-    requires task { IsOfTask estimator.old task.now choice.now }
-    requires weight { is_weight (record { num = weight.now.num; den = weight.now.den }) ≡ true }
-    requires rise { Rise rows.now }
-    requires states { All (λ (row : Line). IsTrue ((space_of task.now).is_state row.state))
-        rows.now }
+    requires task { IsOfTask estimator.old judged.now.task.now judged.now.choice.now }
+    requires weight { is_weight (weight_of judged.now) ≡ true }
+    requires rise { Rise judged.now.rows.now }
+    requires states { AreStates (space_of judged.now.task.now) judged.now.rows.now }
     requires range { from ≤ to }
-    requires inside { to ≤ length rows.now }
-    requires lines { line + length rows.now < 2 ^ 64 }
-    ensures first { IsFirstIn (row_fault_at task.now choice.now
-        (record { num = weight.now.num; den = weight.now.den }) best line rows.now)
-        (length rows.now) (IsBetween from to) (found_of result) }
-    ensures task { IsOfTask estimator.new task.now choice.now }
+    requires inside { to ≤ length judged.now.rows.now }
+    requires lines { judged.now.line + length judged.now.rows.now < 2 ^ 64 }
+    ensures first { IsFirstIn (fault_in_place judged.now) (length judged.now.rows.now)
+        (IsBetween from to) (found_of result) }
+    ensures task { IsOfTask estimator.new judged.now.task.now judged.now.choice.now }
 {
     for place in from..to {
-        let row = rows.at(place as usize);
-        let at = line + place;
-        let fault = row_fault(
-            task, estimator, choice, weight, best, rows, at, &row, places,
-        );
+        let row = judged.rows.at(place as usize);
+        let at = judged.line + place;
+        let fault = row_fault(judged, estimator, at, &row, places);
         if let Some(fault) = fault {
             return Some(Found { place, fault });
         }
@@ -79,57 +80,39 @@ fn number_of(number: u64) -> u32 {
 fn judge_share<G: Gate>(
     alloc: Global,
     gate: &G,
-    task: &Task,
+    judged: &RowsToJudge<'_>,
     estimator: &mut Estimator,
-    choice: &Choice,
-    weight: &StatedWeight,
-    best: Option<u64>,
-    rows: &StatedRows,
-    line: u64,
-    piece: u64,
+    division: Division,
     worker: u64,
-    workers: u64,
 ) -> Result<Option<Found>, AllocError>
-    requires task { IsOfTask estimator.old task.now choice.now }
-    requires weight { is_weight (record { num = weight.now.num; den = weight.now.den }) ≡ true }
-    requires rise { Rise rows.now }
-    requires states { All (λ (row : Line). IsTrue ((space_of task.now).is_state row.state))
-        rows.now }
-    requires lines { line + length rows.now < 2 ^ 63 }
-    requires piece { 1 ≤ piece }
-    requires worker { worker < workers }
-    requires workers { workers < 2 ^ 63 }
-    ensures first { IfOk result (λ found. IsFirstIn
-        (row_fault_at task.now choice.now
-        (record { num = weight.now.num; den = weight.now.den }) best line rows.now)
-        (length rows.now) (IsOfWorkers piece workers worker (worker + 1)) (found_of found)) }
-    ensures task { IsOfTask estimator.new task.now choice.now }
+    requires task { IsOfTask estimator.old judged.now.task.now judged.now.choice.now }
+    requires weight { is_weight (weight_of judged.now) ≡ true }
+    requires rise { Rise judged.now.rows.now }
+    requires states { AreStates (space_of judged.now.task.now) judged.now.rows.now }
+    requires lines { judged.now.line + length judged.now.rows.now < 2 ^ 63 }
+    requires piece { 1 ≤ division.piece }
+    requires worker { worker < division.workers }
+    requires workers { division.workers < 2 ^ 63 }
+    ensures first { IfOk result (λ found. IsFirstIn (fault_in_place judged.now)
+        (length judged.now.rows.now)
+        (IsOfWorkers division.piece division.workers worker (worker + 1)) (found_of found)) }
+    ensures task { IsOfTask estimator.new judged.now.task.now judged.now.choice.now }
 {
-    let mut places = Vec::from_elem(alloc, 0usize, task.actions() as usize)?;
-    let count = rows.len() as u64;
+    let mut places = Vec::from_elem(alloc, 0usize, judged.task.actions() as usize)?;
+    let piece = division.piece;
+    let count = judged.rows.len() as u64;
     let pieces = count.div_ceil(piece);
     let mut at = worker;
     while at < pieces {
         let from = at * piece;
         let to = from + piece.min(count - from);
         gate.leased(number_of(worker), number_of(at));
-        let found = judge_piece(
-            task,
-            estimator,
-            choice,
-            weight,
-            best,
-            rows,
-            line,
-            from,
-            to,
-            &mut places,
-        );
+        let found = judge_piece(judged, estimator, from, to, &mut places);
         gate.giving(number_of(worker), number_of(at));
         if found.is_some() {
             return Ok(found);
         }
-        at += workers;
+        at += division.workers;
     }
     Ok(None)
 }
@@ -139,51 +122,42 @@ fn judge_shares<R: Threads + Sync, G: Gate>(
     rt: &R,
     alloc: Global,
     gate: &G,
-    task: &Task,
+    judged: &RowsToJudge<'_>,
     estimators: &mut [Estimator],
-    choice: &Choice,
-    weight: &StatedWeight,
-    best: Option<u64>,
-    rows: &StatedRows,
-    line: u64,
-    piece: u64,
+    division: Division,
     first: u64,
-    workers: u64,
 ) -> Result<Option<Found>, AllocError>
     requires some { 1 ≤ length estimators.old }
-    requires task { All (λ e. IsOfTask e task.now choice.now) estimators.old }
-    requires weight { is_weight (record { num = weight.now.num; den = weight.now.den }) ≡ true }
-    requires rise { Rise rows.now }
-    requires states { All (λ (row : Line). IsTrue ((space_of task.now).is_state row.state))
-        rows.now }
-    requires lines { line + length rows.now < 2 ^ 63 }
-    requires piece { 1 ≤ piece }
-    requires last { first + length estimators.old ≤ workers }
-    requires workers { workers < 2 ^ 63 }
-    ensures first { IfOk result (λ found. IsFirstIn
-        (row_fault_at task.now choice.now
-        (record { num = weight.now.num; den = weight.now.den }) best line rows.now)
-        (length rows.now) (IsOfWorkers piece workers first (first + length estimators.old))
+    requires task { All (λ e. IsOfTask e judged.now.task.now judged.now.choice.now)
+        estimators.old }
+    requires weight { is_weight (weight_of judged.now) ≡ true }
+    requires rise { Rise judged.now.rows.now }
+    requires states { AreStates (space_of judged.now.task.now) judged.now.rows.now }
+    requires lines { judged.now.line + length judged.now.rows.now < 2 ^ 63 }
+    requires piece { 1 ≤ division.piece }
+    requires last { first + length estimators.old ≤ division.workers }
+    requires workers { division.workers < 2 ^ 63 }
+    ensures first { IfOk result (λ found. IsFirstIn (fault_in_place judged.now)
+        (length judged.now.rows.now)
+        (IsOfWorkers division.piece division.workers first (first + length estimators.old))
         (found_of found)) }
-    ensures task { All (λ e. IsOfTask e task.now choice.now) estimators.new }
+    ensures task { All (λ e. IsOfTask e judged.now.task.now judged.now.choice.now)
+        estimators.new }
     ensures many { length estimators.new ≡ length estimators.old }
 {
     if estimators.len() < 2 {
-        return judge_share(
-            alloc,
-            gate,
-            task,
-            &mut estimators[0],
-            choice,
-            weight,
-            best,
-            rows,
-            line,
-            piece,
-            first,
-            workers,
-        );
+        return judge_share(alloc, gate, judged, &mut estimators[0], division, first);
     }
+    // What a closure says of a captured struct of references isn't known to its caller.
+    let RowsToJudge {
+        task,
+        choice,
+        weight,
+        best,
+        rows,
+        line,
+    } = *judged;
+    let Division { piece, workers } = division;
     let half = estimators.len() / 2;
     let second = first + half as u64;
     let (front, back) = estimators.split_at_mut(half);
@@ -193,8 +167,7 @@ fn judge_shares<R: Threads + Sync, G: Gate>(
             requires { IsSync R.row × (1 ≤ length front.now)
                 × All (λ e. IsOfTask e task.now choice.now) front.now
                 × (is_weight (record { num = weight.now.num; den = weight.now.den }) ≡ true)
-                × Rise rows.now
-                × All (λ (row : Line). IsTrue ((space_of task.now).is_state row.state)) rows.now
+                × Rise rows.now × AreStates (space_of task.now) rows.now
                 × (line + length rows.now < 2 ^ 63) × (1 ≤ piece)
                 × (first + length front.now ≤ workers) × (workers < 2 ^ 63) }
             ensures { IfOk result (λ found. IsFirstIn
@@ -207,17 +180,22 @@ fn judge_shares<R: Threads + Sync, G: Gate>(
                 × All (λ e. IsOfTask e task.entry.now choice.entry.now) front.exit.now
                 × (length front.exit.now ≡ length front.entry.now) }
         {
-            judge_shares(
-                rt, alloc, gate, task, front, choice, weight, best, rows, line, piece, first,
-                workers,
-            )
+            let judged = RowsToJudge {
+                task,
+                choice,
+                weight,
+                best,
+                rows,
+                line,
+            };
+            let division = Division { piece, workers };
+            judge_shares(rt, alloc, gate, &judged, front, division, first)
         },
         &mut || -> Result<Option<Found>, AllocError>
             requires { IsSync R.row × (1 ≤ length back.now)
                 × All (λ e. IsOfTask e task.now choice.now) back.now
                 × (is_weight (record { num = weight.now.num; den = weight.now.den }) ≡ true)
-                × Rise rows.now
-                × All (λ (row : Line). IsTrue ((space_of task.now).is_state row.state)) rows.now
+                × Rise rows.now × AreStates (space_of task.now) rows.now
                 × (line + length rows.now < 2 ^ 63) × (1 ≤ piece)
                 × (second + length back.now ≤ workers) × (workers < 2 ^ 63) }
             ensures { IfOk result (λ found. IsFirstIn
@@ -230,10 +208,16 @@ fn judge_shares<R: Threads + Sync, G: Gate>(
                 × All (λ e. IsOfTask e task.entry.now choice.entry.now) back.exit.now
                 × (length back.exit.now ≡ length back.entry.now) }
         {
-            judge_shares(
-                rt, alloc, gate, task, back, choice, weight, best, rows, line, piece, second,
-                workers,
-            )
+            let judged = RowsToJudge {
+                task,
+                choice,
+                weight,
+                best,
+                rows,
+                line,
+            };
+            let division = Division { piece, workers };
+            judge_shares(rt, alloc, gate, &judged, back, division, second)
         },
     );
     Ok(earlier(one?, other?))
@@ -256,45 +240,30 @@ fn rows_fault_by_pieces<R: Threads + Sync, G: Gate>(
     rt: &R,
     alloc: Global,
     gate: &G,
-    task: &Task,
+    judged: &RowsToJudge<'_>,
     estimators: &mut [Estimator],
-    choice: &Choice,
-    weight: &StatedWeight,
-    best: Option<u64>,
-    rows: &StatedRows,
-    line: u64,
     piece: u64,
 ) -> Result<Option<CertificateFault>, AllocError>
     requires some { 1 ≤ length estimators.old }
-    requires task { All (λ e. IsOfTask e task.now choice.now) estimators.old }
-    requires weight { is_weight (record { num = weight.now.num; den = weight.now.den }) ≡ true }
-    requires rise { Rise rows.now }
-    requires states { All (λ (row : Line). IsTrue ((space_of task.now).is_state row.state))
-        rows.now }
-    requires lines { line + length rows.now < 2 ^ 63 }
+    requires task { All (λ e. IsOfTask e judged.now.task.now judged.now.choice.now)
+        estimators.old }
+    requires weight { is_weight (weight_of judged.now) ≡ true }
+    requires rise { Rise judged.now.rows.now }
+    requires states { AreStates (space_of judged.now.task.now) judged.now.rows.now }
+    requires lines { judged.now.line + length judged.now.rows.now < 2 ^ 63 }
     requires piece { 1 ≤ piece }
-    ensures fault { IfOk result (λ fault. fault ≡ first_fault_by
-        (row_fault (space_of task.now) (estimate_by task.now choice.now)
-        (record { num = weight.now.num; den = weight.now.den }) best rows.now) line rows.now) }
-    ensures task { All (λ e. IsOfTask e task.now choice.now) estimators.new }
+    ensures fault { IfOk result (λ fault. fault ≡ first_fault_by (fault_by judged.now)
+        judged.now.line judged.now.rows.now) }
+    ensures task { All (λ e. IsOfTask e judged.now.task.now judged.now.choice.now)
+        estimators.new }
 {
-    let workers = workers_with_pieces(rows, piece, estimators.len());
+    let workers = workers_with_pieces(judged.rows, piece, estimators.len());
     let (busy, _) = estimators.split_at_mut(workers);
-    let found = judge_shares(
-        rt,
-        alloc,
-        gate,
-        task,
-        busy,
-        choice,
-        weight,
-        best,
-        rows,
-        line,
+    let division = Division {
         piece,
-        0,
-        workers as u64,
-    )?;
+        workers: workers as u64,
+    };
+    let found = judge_shares(rt, alloc, gate, judged, busy, division, 0)?;
     match found {
         Some(found) => Ok(Some(found.fault)),
         None => Ok(None),
@@ -306,33 +275,26 @@ fn need_rows<R: Threads + Sync, G: Gate>(
     rt: &R,
     alloc: Global,
     gate: &G,
-    task: &Task,
+    judged: &RowsToJudge<'_>,
     estimators: &mut [Estimator],
-    choice: &Choice,
-    weight: &StatedWeight,
-    plan: &Option<StatedPlan<'_>>,
-    rows: &StatedRows,
-    line: u64,
     piece: u64,
 ) -> Result<(), CheckError>
     requires some { 1 ≤ length estimators.old }
-    requires suits { suits task.now choice.now ≡ true }
-    requires task { All (λ e. IsOfTask e task.now (suiting task.now choice.now)) estimators.old }
-    requires weight { is_weight (record { num = weight.now.num; den = weight.now.den }) ≡ true }
-    requires rise { Rise rows.now }
-    requires states { first_fault_by (state_fault (space_of task.now)) line rows.now ≡ None }
-    requires lines { line + length rows.now < 2 ^ 63 }
+    requires suits { suits judged.now.task.now judged.now.choice.now ≡ true }
+    requires task { All (λ e. IsOfTask e judged.now.task.now
+        (suiting judged.now.task.now judged.now.choice.now)) estimators.old }
+    requires weight { is_weight (weight_of judged.now) ≡ true }
+    requires rise { Rise judged.now.rows.now }
+    requires states { first_fault_by (state_fault (space_of judged.now.task.now)) judged.now.line
+        judged.now.rows.now ≡ None }
+    requires lines { judged.now.line + length judged.now.rows.now < 2 ^ 63 }
     requires piece { 1 ≤ piece }
-    ensures gives { Gives (λ _. true) result
-        (passes (first_fault_by (row_fault (space_of task.now) (estimate_by task.now choice.now)
-        (record { num = weight.now.num; den = weight.now.den }) (cost_of plan.now) rows.now)
-        line rows.now)) }
-    ensures task { All (λ e. IsOfTask e task.now (suiting task.now choice.now)) estimators.new }
+    ensures gives { Gives (λ _. true) result (passes (first_fault_by (fault_by judged.now)
+        judged.now.line judged.now.rows.now)) }
+    ensures task { All (λ e. IsOfTask e judged.now.task.now
+        (suiting judged.now.task.now judged.now.choice.now)) estimators.new }
 {
-    let best = cost_of(plan);
-    let fault = rows_fault_by_pieces(
-        rt, alloc, gate, task, estimators, choice, weight, best, rows, line, piece,
-    )?;
+    let fault = rows_fault_by_pieces(rt, alloc, gate, judged, estimators, piece)?;
     pass(fault)
 }
 
@@ -389,19 +351,15 @@ fn judge<R: Threads + Sync, G: Gate>(
     let workers = estimators.len() as u64;
     // Each estimator is by the stated choice, so the first serves as well as any.
     judge_before(rt, task, &estimators[0], text, workers)?;
-    need_rows(
-        rt,
-        alloc,
-        gate,
+    let rows = RowsToJudge {
         task,
-        estimators,
-        &text.spelling.stated.choice,
-        &text.weight,
-        &text.plan,
-        &text.rows,
-        text.first,
-        piece,
-    )?;
+        choice: &text.spelling.stated.choice,
+        weight: &text.weight,
+        best: cost_of(&text.plan),
+        rows: &text.rows,
+        line: text.first,
+    };
+    need_rows(rt, alloc, gate, &rows, estimators, piece)?;
     Ok(Verdict::on(verdict_of(&text.weight, &text.plan)))
 }
 

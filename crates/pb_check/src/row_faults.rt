@@ -1,15 +1,16 @@
 //! The faults of rows, in the order of the text.
 ghost use Rattle.std.specs.Prelude.{◌≡◌, ◌+◌, ◌*◌, ◌<◌, ◌^◌, length, IsTrue, true, false, None, Some, Option};
 ghost use Rattle.pb_task.specs.Parts.{space_of};
-ghost use Rattle.pb_estimate.specs.Estimates.{estimate_by};
 ghost use Rattle.pb_estimate.specs.Tables.{IsOfTask};
-ghost use Rattle.pb_check.specs.Judging.{unless, is_weight, rows_order_fault, first_fault_by, state_fault, g_of, target_fault, step_fault, steps_fault, may_be_cut, row_fault, Rise};
+ghost use Rattle.pb_check.specs.Judging.{unless, is_weight, rows_order_fault, first_fault_by, state_fault, g_of, target_fault, step_fault, steps_fault, may_be_cut, Rise};
+ghost use Rattle.pb_check.specs.RowsToJudge.{fault_by, weight_of};
 
 use crate::fault::CertificateFault;
 use crate::passing::unless;
 use crate::rows::{StatedRow, StatedRows};
+use crate::rows_to_judge::RowsToJudge;
 use crate::stated::StatedWeight;
-use pb_estimate::{Choice, Estimator};
+use pb_estimate::Estimator;
 use pb_model::Estimate;
 use pb_packed::Packed;
 use pb_task::Task;
@@ -155,34 +156,30 @@ fn may_be_cut(weight: &StatedWeight, best: Option<u64>, g: u64, estimate: Estima
 // The fault of a row, judged by itself against all rows.
 #[tactic(auto, unfolding(crate::specs::Judging::row_fault))]
 pub(crate) fn row_fault(
-    task: &Task,
+    judged: &RowsToJudge<'_>,
     estimator: &mut Estimator,
-    _choice: &Choice,
-    weight: &StatedWeight,
-    best: Option<u64>,
-    rows: &StatedRows,
     line: u64,
     row: &StatedRow,
     places: &mut [usize],
 ) -> Option<CertificateFault>
-    requires task { IsOfTask estimator.old task.now _choice.now }
-    requires weight { is_weight (record { num = weight.now.num; den = weight.now.den }) ≡ true }
-    requires rise { Rise rows.now }
-    requires state { IsTrue ((space_of task.now).is_state row.now.state) }
-    ensures fault { result ≡ row_fault (space_of task.now) (estimate_by task.now _choice.now)
-        (record { num = weight.now.num; den = weight.now.den }) best rows.now line row.now }
-    ensures task { IsOfTask estimator.new task.now _choice.now }
+    requires task { IsOfTask estimator.old judged.now.task.now judged.now.choice.now }
+    requires weight { is_weight (weight_of judged.now) ≡ true }
+    requires rise { Rise judged.now.rows.now }
+    requires state { IsTrue ((space_of judged.now.task.now).is_state row.now.state) }
+    ensures fault { result ≡ fault_by judged.now line row.now }
+    ensures task { IsOfTask estimator.new judged.now.task.now judged.now.choice.now }
 {
+    let task = judged.task;
     if row.is_closed {
         if task.is_goal(&row.state) {
             Some(CertificateFault::GoalClosed { line })
         } else {
-            steps_fault(task, rows, line, row.g, &row.state, places)
+            steps_fault(task, judged.rows, line, row.g, &row.state, places)
         }
     } else {
         let estimate = estimator.estimate(task, &row.state);
         unless(
-            may_be_cut(weight, best, row.g, estimate),
+            may_be_cut(judged.weight, judged.best, row.g, estimate),
             CertificateFault::Low { line },
         )
     }
@@ -190,31 +187,25 @@ pub(crate) fn row_fault(
 
 // The first fault of the rows, each judged by itself against all rows.
 pub(crate) fn rows_fault(
-    task: &Task,
+    judged: &RowsToJudge<'_>,
     estimator: &mut Estimator,
-    choice: &Choice,
-    weight: &StatedWeight,
-    best: Option<u64>,
-    rows: &StatedRows,
-    line: u64,
     places: &mut [usize],
 ) -> Option<CertificateFault>
-    requires task { IsOfTask estimator.old task.now choice.now }
-    requires weight { is_weight (record { num = weight.now.num; den = weight.now.den }) ≡ true }
-    requires rise { Rise rows.now }
-    requires states { first_fault_by (state_fault (space_of task.now)) line rows.now ≡ None }
-    requires lines { line + length rows.now < 2 ^ 64 }
-    ensures fault { result ≡ first_fault_by
-        (row_fault (space_of task.now) (estimate_by task.now choice.now)
-        (record { num = weight.now.num; den = weight.now.den }) best rows.now) line rows.now }
-    ensures task { IsOfTask estimator.new task.now choice.now }
+    requires task { IsOfTask estimator.old judged.now.task.now judged.now.choice.now }
+    requires weight { is_weight (weight_of judged.now) ≡ true }
+    requires rise { Rise judged.now.rows.now }
+    requires states { first_fault_by (state_fault (space_of judged.now.task.now)) judged.now.line
+        judged.now.rows.now ≡ None }
+    requires lines { judged.now.line + length judged.now.rows.now < 2 ^ 64 }
+    ensures fault { result ≡ first_fault_by (fault_by judged.now) judged.now.line
+        judged.now.rows.now }
+    ensures task { IsOfTask estimator.new judged.now.task.now judged.now.choice.now }
 {
+    let rows = judged.rows;
     for i in 0..rows.len() {
         let row = rows.at(i);
-        let at = line + i as u64;
-        let fault = row_fault(
-            task, estimator, choice, weight, best, rows, at, &row, places,
-        );
+        let at = judged.line + i as u64;
+        let fault = row_fault(judged, estimator, at, &row, places);
         if fault.is_some() {
             return fault;
         }

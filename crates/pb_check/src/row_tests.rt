@@ -92,38 +92,36 @@ fn test_share(
     None
 }
 
-// The same by so many workers, each in a thread of its own. Each has one share of the rows, and the
-// earliest place decides. A share has rows enough for a thread.
+// The same of the rows before a place, by so many workers, each in a thread of its own. Each has one
+// share of the rows, and the earliest place decides. A share has rows enough for a thread.
 fn test_shares<R: Threads + Sync>(
     rt: &R,
     test: RowTest,
     task: &Task,
     rows: &StatedRows,
     line: u64,
-    from: u64,
     to: u64,
     shares: u64,
 ) -> Option<Found>
-    requires range { from ≤ to }
     requires inside { to ≤ length rows.now }
     requires lines { line + length rows.now < 2 ^ 64 }
-    requires worth { 2 ≤ shares → shares * rows_a_thread ≤ to - from }
+    requires worth { 2 ≤ shares → shares * rows_a_thread ≤ to }
     ensures { IsFirstIn (tested_at test task.now line rows.now) (length rows.now)
-        (IsBetween from to) (found_of result) }
+        (IsBetween 0 to) (found_of result) }
 {
     if shares < 2 {
-        return test_share(test, task, rows, line, from, to);
+        return test_share(test, task, rows, line, 0, to);
     }
-    let middle = last_share(from, to, shares);
+    let middle = last_share(0, to, shares);
     let (one, other) = join(
         rt,
         || -> Option<Found>
-            requires { IsSync R.row × (from ≤ middle) × (middle ≤ length rows.now)
+            requires { IsSync R.row × (middle ≤ length rows.now)
                 × (line + length rows.now < 2 ^ 64) × (2 ≤ shares)
-                × ((shares - 1) * rows_a_thread ≤ middle - from) }
+                × ((shares - 1) * rows_a_thread ≤ middle) }
             ensures { IsFirstIn (tested_at test task.entry.now line rows.entry.now)
-                (length rows.entry.now) (IsBetween from middle) (found_of result) }
-        { test_shares(rt, test, task, rows, line, from, middle, shares - 1) },
+                (length rows.entry.now) (IsBetween 0 middle) (found_of result) }
+        { test_shares(rt, test, task, rows, line, middle, shares - 1) },
         || -> Option<Found>
             requires { (middle ≤ to) × (to ≤ length rows.now)
                 × (line + length rows.now < 2 ^ 64) × (rows_a_thread ≤ to - middle) }
@@ -148,7 +146,7 @@ fn first_by_shares<R: Threads + Sync>(
 {
     let count = rows.len() as u64;
     let shares = workers_for(count, ROWS_A_THREAD, workers);
-    match test_shares(rt, test, task, rows, line, 0, count, shares) {
+    match test_shares(rt, test, task, rows, line, count, shares) {
         Some(found) => Some(found.fault),
         None => None,
     }
