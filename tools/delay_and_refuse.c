@@ -1,8 +1,8 @@
 /* Stands before the C library, for tools/stress. Around each futex and each thread start, and where
    a new thread begins, the thread is delayed by a drawn time: up to DELAY_MICROSECONDS. One in
    REFUSE_ALLOCATION allocations and one in REFUSE_THREAD thread starts are refused; none if the
-   number is 0 or isn't there. The file `refused` is made at the first refused allocation. DRAWN_SEED
-   decides what each thread draws, in the order in which they begin. */
+   number is 0 or isn't there. The file `refused` is made at the first refused allocation.
+   DRAWN_SEED decides what each thread draws, in the order in which they begin. */
 #define _GNU_SOURCE
 #include <dlfcn.h>
 #include <errno.h>
@@ -50,7 +50,7 @@ __attribute__((constructor)) static void begin(void) {
 /* The next number that this thread draws (splitmix64). */
 static uint64_t draw(void) {
     if (state == 0)
-        state = seed * 0x9e3779b97f4a7c15u + (atomic_fetch_add(&threads, 1) + 1) * 0xd1342543de82ef95u;
+        state = (seed ^ atomic_fetch_add(&threads, 1) << 32) * 0xd1342543de82ef95u | 1;
     uint64_t it = state += 0x9e3779b97f4a7c15u;
     it = (it ^ (it >> 30)) * 0xbf58476d1ce4e5b9u;
     it = (it ^ (it >> 27)) * 0x94d049bb133111ebu;

@@ -74,8 +74,8 @@ def run_cases(options, call, begin=None, chunk=20, unit="cases"):
     total, began = Total(), time.monotonic()
     try:
         with ending_by_signals(options.minutes):
-            for seed, found in in_order(call, range(first, first + options.cases), options.processes,
-                                        begin, chunk):
+            seeds = range(first, first + options.cases)
+            for seed, found in in_order(call, seeds, options.processes, begin, chunk):
                 total.add(found)
                 for fault in found.faults:
                     print(f"seed {seed}: {fault}", flush=True)

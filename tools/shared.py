@@ -164,6 +164,14 @@ class Run:
         return min(self.seconds, self.worked) if self.status is not None else self.seconds
 
 
+def build_library(name, folder):
+    """A library in C that stands before the C library's calls, from its source beside the tools."""
+    library = pathlib.Path(folder).resolve() / pathlib.Path(name).with_suffix(".so").name
+    source = pathlib.Path(__file__).with_name(name)
+    subprocess.run(["cc", "-O2", "-shared", "-fPIC", "-o", library, source], check=True)
+    return library
+
+
 GROUNDING_STOP = b"stopped grounding\n"
 
 
@@ -264,7 +272,7 @@ def load_checker():
     specification = importlib.util.spec_from_file_location("pbnf_check", place)
     module = importlib.util.module_from_spec(specification)
     specification.loader.exec_module(module)
-    # (a case asks for the same task and the same patterns several times, which takes most of the time)
+    # (a case asks for the same task and patterns several times, which takes most of the time)
     module.KINDS = {kind: (functools.lru_cache(READ_TASKS)(read), count)
                     for kind, (read, count) in module.KINDS.items()}
     module.Tiles.pattern_values = keep_patterns(module.Tiles.pattern_values, lambda board: (

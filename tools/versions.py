@@ -145,8 +145,8 @@ def with_digits(lines, digits):
 
 def drawn_version(drawn, certificate):
     """The certificate in a drawn version, with its own width or another one. In versions 3 and 4 it
-    has its own pattern number or another one, and in version 4 its own grounding or another one. Its
-    tables it mostly keeps."""
+    has its own pattern number or another one, and in version 4 its own grounding or another one.
+    Its tables it mostly keeps."""
     digits, own = digits_of(certificate)[1], pattern_of(certificate)
     grounding = grounding_of(certificate)
     has_tables = bool(tables_of(certificate))
