@@ -23,6 +23,7 @@ pub use laws::{
 };
 pub use parts::{BundleRoom, LentBundles};
 pub use rooms::KeptRooms;
+pub use tree::KeyTree;
 
 #[cfg(test)]
 mod tree_tests;
