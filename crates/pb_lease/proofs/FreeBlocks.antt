@@ -11,7 +11,7 @@ use Rattle.pb_machine.specs.Choice.{counts_with_lease_home}
 use Rattle.pb_machine.proofs.Callers.{any_same, any_at, any_false, entry_here, entry_else, busy_is_counted, hot_is_counted}
 use Rattle.pb_lease.specs.declared.seat.Seat.{Seat}
 use Rattle.pb_lease.specs.Tables.{Table, blocks, counts_of, seat_of}
-use Rattle.pb_lease.specs.Leasing.{can_be_leased}
+use Rattle.pb_lease.specs.Leasing.{can_be_leased, is_clear}
 use Rattle.pb_lease.specs.Kept.{IsKept}
 use Rattle.pb_lease.proofs.LeaseKept.{lawful}
 use Rattle.pb_lease.proofs.ReleaseKept.{no_count}
@@ -40,6 +40,10 @@ module _ (of : Blocks) (block : ℕ) (own : meets of block block ≡ true) where
   pub taken_is : (workers : ℕ) (leases : ℕ → Option Grant) → is_taken of workers leases block ≡ (is_busy of workers leases block || is_out workers leases block)
   taken_is workers leases = any_same workers (λ w. is_lease_of (meets of block) (leases w)) (λ w. is_lease_of (interferes of block) (leases w) || is_lease_of (λ b. b == block) (leases w)) (λ w. met_is (leases w))
       ∙ any_or workers (λ w. is_lease_of (interferes of block) (leases w)) (λ w. is_lease_of (λ b. b == block) (leases w))
+
+twice : (r : Bool) → r ≡ not (not r)
+twice true = refl
+twice false = refl
 
 -- the test, in the order in which the parts are computed
 abbrev pub by_parts : (no_end has_left no_hot no_lease is_out : Bool) → Bool
@@ -76,10 +80,22 @@ module _ (t : Table) (busy near : List ℕ) (promised spare : ℕ) (k : IsKept t
       taken_is (blocks t) block own_meets t.settings.workers counts.leases ∙ ap (λ r. r || is_out t.settings.workers counts.leases block) busy_is in
       ap (λ r. is_none counts.end && nat_lt 0 counts.left && r && not (is_taken (blocks t) t.settings.workers counts.leases block)) hot_is
       ∙ ap (λ r. is_none counts.end && nat_lt 0 counts.left && (get_or near block 0 == 0) && not r) taken
-    where
-      twice : (r : Bool) → r ≡ not (not r)
-      twice true = refl
-      twice false = refl
+
+  idle : (h n d : Bool) → (h && not (not n || d)) ≡ cond (h && n) (not d) false
+  idle false n d = refl
+  idle true false d = refl
+  idle true true d = refl
+
+  -- the test without the end and the budget
+  pub clear_is : (n : ℕ) → busy_count (blocks t) t.settings.workers (counts_of t).leases block ≡ n
+      → is_clear (blocks t) t.settings.workers (counts_of t) block ≡ cond ((get_or near block 0 == 0) && (n == 0)) (not (is_out t.settings.workers (counts_of t).leases block)) false
+  clear_is n count =
+      let busy_is : is_busy (blocks t) t.settings.workers (counts_of t).leases block ≡ not (n == 0) = busy_is_counted (blocks t) t.settings.workers (counts_of t).leases block ∙ ap (nat_lt 0) count ∙ twice (nat_lt 0 n) ∙ sym (ap not (no_count n)) in
+      let taken : is_taken (blocks t) t.settings.workers (counts_of t).leases block ≡ (not (n == 0) || is_out t.settings.workers (counts_of t).leases block) =
+      taken_is (blocks t) block own_meets t.settings.workers (counts_of t).leases ∙ ap (λ r. r || is_out t.settings.workers (counts_of t).leases block) busy_is in
+      ap (λ r. r && not (is_taken (blocks t) t.settings.workers (counts_of t).leases block)) no_hot
+      ∙ ap (λ r. (get_or near block 0 == 0) && not r) taken
+      ∙ idle (get_or near block 0 == 0) (n == 0) (is_out t.settings.workers (counts_of t).leases block)
 
 -- the walk over what the workers have
 pub walked_out : (t : Table) (seats : List Seat) (block : ℕ) → seats ≡ t.seats → length t.seats ≡ t.settings.workers

@@ -36,3 +36,4 @@ mod AtHome
 mod Beginnings
 mod TableReopened
 mod GraphReopened
+mod Free

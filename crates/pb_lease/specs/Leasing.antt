@@ -11,3 +11,9 @@ abbrev pub can_be_leased : Blocks → Settings → Counts → (block : ℕ) → 
 can_be_leased of settings counts block =
     is_none counts.end && nat_lt 0 counts.left && not (is_near_hot of counts.hot block)
     && not (is_taken of settings.workers counts.leases block)
+
+-- whether no hot block is in the block's interference, and its scope has no block in common with a
+-- leased one
+abbrev pub is_clear : Blocks → (workers : ℕ) → Counts → (block : ℕ) → Bool
+is_clear of workers counts block =
+    not (is_near_hot of counts.hot block) && not (is_taken of workers counts.leases block)

@@ -34,3 +34,4 @@ pub mod Choices
 pub mod Steps
 pub mod Rows
 pub mod AtHome
+pub mod Free

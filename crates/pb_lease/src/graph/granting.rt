@@ -13,6 +13,7 @@ ghost use Rattle.pb_lease.specs.Steps.{IsLeased, LeasesNext, IsEnded, KeepsLease
 
 use crate::answer::LeaseReply;
 use crate::graph::LeaseGraph;
+use crate::graph::free::prune;
 use crate::lease::Lease;
 use pb_machine::End;
 use std::alloc::AllocError;
@@ -68,8 +69,10 @@ impl LeaseGraph {
     pub(crate) fn first_choice(&self) -> Option<u32>
         ensures { IsChoice self.now result }
     {
-        self.homes
-            .first_choice(|block| self.tables.can_be_leased(block))
+        if !self.tables.is_open() {
+            return None;
+        }
+        self.free.first(&|block| self.tables.can_be_leased(block))
     }
 
     // Leases the first choice to the worker.
@@ -90,6 +93,7 @@ impl LeaseGraph {
         let parts = self
             .homes
             .take_out(self.tables.abstraction().scope(block), room);
+        prune(&mut self.free, &self.tables);
         let settings = self.tables.settings();
         Ok(Lease {
             worker,

@@ -16,6 +16,7 @@ ghost use Rattle.pb_lease.specs.Moments.{IsMomentAt};
 ghost use Rattle.pb_lease.specs.Steps.{IsMarked, KeepsLeases};
 
 use crate::graph::LeaseGraph;
+use crate::graph::free::{prune, show_all, show_beside_hot};
 use crate::lease::Lease;
 
 impl LeaseGraph {
@@ -53,7 +54,11 @@ impl LeaseGraph {
         ensures moment { IsTrue result → KeepsLeases self.old (Hot worker block ∷ []) self.new }
     {
         let outranked = self.is_outranked(block);
-        self.tables.mark_hot(worker, block, outranked)
+        // Hot blocks become cold, and others with them clear.
+        show_beside_hot(&mut self.free, &self.homes, &self.tables, block);
+        let marked = self.tables.mark_hot(worker, block, outranked);
+        prune(&mut self.free, &self.tables);
+        marked
     }
 
     /// The worker takes the block's mark away. The answer is false, and nothing changes, if and
@@ -66,6 +71,8 @@ impl LeaseGraph {
         ensures refused { IsFalse result → self.new ≡ self.old }
         ensures moment { IsTrue result → KeepsLeases self.old (Cold worker block ∷ []) self.new }
     {
+        let near = self.tables.abstraction().interference(block);
+        show_all(&mut self.free, &self.homes, near);
         self.tables.cool(worker, block)
     }
 

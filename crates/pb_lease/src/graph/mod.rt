@@ -20,6 +20,7 @@ ghost use Rattle.pb_lease.specs.Moments.{IsMomentAt, IsMoment};
 ghost use Rattle.pb_lease.specs.Begins.{begin_machine, IsBegin};
 
 pub(crate) mod closing;
+pub(crate) mod free;
 pub(crate) mod granting;
 pub(crate) mod hot;
 pub(crate) mod lowering;
@@ -28,9 +29,10 @@ pub(crate) mod returning;
 pub(crate) mod store;
 pub(crate) mod switching;
 
+use crate::graph::free::show_every;
 use crate::tables::MachineTables;
 use pb_abstract::AbsGraph;
-use pb_bundles::{Homes, KeptRooms};
+use pb_bundles::{Homes, KeptRooms, KeyTree};
 use pb_estimate::Choice;
 use pb_lists::Bundle;
 use pb_machine::{End, Event, Settings};
@@ -50,6 +52,8 @@ pub struct LeaseGraph {
     pub(crate) choice: Choice,
     pub(crate) tables: MachineTables,
     pub(crate) homes: Homes,
+    // the keys of the blocks that no hot block and no leased one forbids
+    pub(crate) free: KeyTree,
     pub(crate) incumbent: Option<u64>,
     // emptied rooms of leases that came back, one a worker, for the bundles that leave next
     pub(crate) rooms: KeptRooms,
@@ -59,7 +63,8 @@ pub struct LeaseGraph {
 
 impl Model for LeaseGraph {
     ghost use Rattle.std.specs.Arc.{arc_value};
-    ghost use Rattle.pb_lease.specs.GraphValue.{GraphValue, IsLeaseGraph};
+    ghost use Rattle.pb_lease.specs.GraphValue.{GraphValue};
+    ghost use Rattle.pb_lease.specs.Free.{IsKeptGraph};
 
     ghost Value = { GraphValue };
 
@@ -71,14 +76,14 @@ impl Model for LeaseGraph {
       incumbent = g.incumbent;
     } };
 
-    ghost invariant = { λ g. IsLeaseGraph
+    ghost invariant = { λ g. IsKeptGraph
         (record {
           task = arc_value g.task;
           choice = g.choice;
           table = g.tables;
           homes = g.homes;
           incumbent = g.incumbent;
-        }) };
+        }) g.free };
 }
 
 impl LeaseGraph {
@@ -122,12 +127,15 @@ impl LeaseGraph {
         let rooms = KeptRooms::new(alloc, settings.workers as usize)?;
         let mut homes = Homes::new(alloc, abstraction.count(), settings.num, settings.den)?;
         homes.offer_start(block, start, estimate)?;
+        let mut free = KeyTree::new(alloc, homes.count())?;
+        show_every(&mut free, &homes);
         let tables = MachineTables::new(alloc, abstraction, settings)?;
         Ok(LeaseGraph {
             task,
             choice,
             tables,
             homes,
+            free,
             incumbent: None,
             rooms,
             alloc,

@@ -7,6 +7,7 @@ ghost use Rattle.pb_lease.specs.GraphValue.{counts_in};
 ghost use Rattle.pb_lease.specs.Begins.{IsReopened, BeginsAgain};
 
 use crate::graph::LeaseGraph;
+use crate::graph::free::show_every;
 use pb_machine::reopening_is_lawful;
 use std::alloc::AllocError;
 
@@ -63,6 +64,7 @@ impl LeaseGraph {
         let sets = self.homes.prepare(self.alloc, num, den, bound)?;
         self.tables.reopen(num, den)?;
         self.homes.adopt(sets);
+        show_every(&mut self.free, &self.homes);
         // The call shows that the keys are noted, and the law that a run may begin here.
         let _noted = self.homes.count();
         reopening_is_lawful();

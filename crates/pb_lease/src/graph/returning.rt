@@ -14,6 +14,7 @@ ghost use Rattle.pb_lease.specs.Steps.{IsReleased, ReleasesNext, IsRenewed, Rene
 
 use crate::answer::Renewed;
 use crate::graph::LeaseGraph;
+use crate::graph::free::{show, show_beside_hot, show_clear};
 use crate::lease::Lease;
 
 impl LeaseGraph {
@@ -27,7 +28,7 @@ impl LeaseGraph {
         // A lease can't be dropped, so it is taken apart.
         let Lease {
             worker,
-            block: _,
+            block,
             quota: _,
             used,
             incumbent,
@@ -36,8 +37,13 @@ impl LeaseGraph {
             choice: _,
             parts,
         } = lease;
+        // Hot blocks become cold, and others with them clear.
+        show_beside_hot(&mut self.free, &self.homes, &self.tables, block);
         self.tables.release(worker, used, memory);
         self.rooms.keep(self.homes.bring_back(parts));
+        let near = self.tables.abstraction().interference(block);
+        show_clear(&mut self.free, &self.homes, &self.tables, near);
+        show(&mut self.free, &self.homes, block);
         self.incumbent = least(self.incumbent, incumbent);
     }
 

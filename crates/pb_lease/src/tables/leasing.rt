@@ -1,5 +1,5 @@
 //! Leases, their renewals and their returns.
-ghost use Rattle.std.specs.Prelude.{◌≡◌, ◌==◌, ◌+◌, ◌-◌, ◌<◌, ◌≤◌, ℕ, min, [], ◌∷◌, IsTrue, IsFalse, IsSome, None, OnOk, OnErr, IfOk};
+ghost use Rattle.std.specs.Prelude.{◌≡◌, ◌==◌, ◌&&◌, nat_lt, is_none, ◌+◌, ◌-◌, ◌<◌, ◌≤◌, ℕ, min, [], ◌∷◌, IsTrue, IsFalse, IsSome, None, OnOk, OnErr, IfOk};
 ghost use Rattle.pb_machine.specs.declared.event.Event.TheVariants.{Lease, Renew, Release};
 ghost use Rattle.pb_machine.specs.Tables.{with_entry, one_if};
 ghost use Rattle.pb_machine.specs.Blocks.{interferes};
@@ -8,7 +8,7 @@ ghost use Rattle.pb_machine.specs.Counts.{is_lease_of, quota_of, is_any_out};
 ghost use Rattle.pb_machine.specs.Choice.{counts_with_lease_home};
 ghost use Rattle.pb_lease.specs.Tables.{blocks, counts_of, rooms};
 ghost use Rattle.pb_lease.specs.Events.{Adds, ending};
-ghost use Rattle.pb_lease.specs.Leasing.{can_be_leased};
+ghost use Rattle.pb_lease.specs.Leasing.{can_be_leased, is_clear};
 
 use crate::seat::Seat;
 use crate::tables::MachineTables;
@@ -41,6 +41,23 @@ impl MachineTables {
             return false;
         }
         !is_leased(&self.seats, block)
+    }
+
+    /// Whether the search has not ended, and something is left of the budget.
+    pub(crate) fn is_open(&self) -> bool
+        ensures { result ≡ (is_none self.now.end && nat_lt 0 self.now.left) }
+    {
+        self.end.is_none() & (self.left > 0)
+    }
+
+    /// Whether no hot block and no leased one forbids a lease of the block.
+    pub(crate) fn is_clear(&self, block: u32) -> bool
+        requires { block < (blocks self.now).count }
+        ensures { result ≡ is_clear (blocks self.now) self.now.settings.workers (counts_of self.now)
+            block }
+    {
+        let is_idle = (self.marks.near[block as usize] == 0) & (self.busy[block as usize] == 0);
+        is_idle && !is_leased(&self.seats, block)
     }
 
     /// Whether the block, with an Opened row, could be leased if the worker's lease were home after

@@ -8,6 +8,7 @@ use Rattle.pb_lease.specs.Steps.{GoesOn, IsRenewed, RenewsNext, IsReleased, Rele
 use Rattle.pb_lease.proofs.GraphKept.{places_vacant}
 use Rattle.pb_lease.proofs.MomentReturns.{released_next, renewed_next, chosen_by_rows}
 use Rattle.pb_lease.proofs.Renewals.{goes_on, is_renewed, stays_out, is_released}
+use Rattle.pb_lease.proofs.Free.{noted_kept, shows_noted}
 use Rattle.pb_lease.specs.contracts.graph.LeaseGraph.{the_view}
 use Rattle.pb_lease.specs.contracts.lease.Lease.{the_view as the_lease}
 use Rattle.pb_lease.proofs.graph.LeaseGraph.renew.Goals as goal
@@ -20,7 +21,18 @@ note-requires c block there =
     let t : GraphValue = the_view c.self.inside in
     let lease : LeaseValue = the_lease c.lease.inside in
     let of : IsOfGraph t lease = subst (λ (l : LeaseValue). IsOfGraph t l) (sym c.lease.view_is) (subst (λ (v : GraphValue). IsOfGraph v c.args.lease) (sym c.self.view_is) c.requires) in
-    places_vacant t c.self.invariant lease of block there
+    places_vacant t c.self.invariant.lawful lease of block there
+
+pub invariant_of-self : goal.invariant_of-self
+invariant_of-self c =
+    let t : GraphValue = the_view c.self.inside in
+    let k = c.self.invariant.lawful in
+    let lease : LeaseValue = the_lease c.lease.inside in
+    let of : IsOfGraph t lease = subst (λ (l : LeaseValue). IsOfGraph t l) (sym c.lease.view_is) (subst (λ (v : GraphValue). IsOfGraph v c.args.lease) (sym c.self.view_is) c.requires) in
+    record {
+      lawful = noted_kept t k c.note.new.self c.note.ensures.bundles c.note.ensures.noted.count;
+      shows = shows_noted t k lease of c.note.new.self.keys c.self.inside.free c.note.ensures.noted c.self.invariant.shows;
+    }
 
 pub returns-then-may_go_on-clause-kept : goal.returns-then-may_go_on-clause-kept
 returns-then-may_go_on-clause-kept c kept is =
@@ -52,7 +64,7 @@ returns-then-may_go_on-clause-kept_moment c kept is =
     is_renewed t lease homes c.note.ensures.bundles noted c.go_on.result new c.go_on.ensures.rest c.go_on.ensures.quota c.go_on.ensures.of_graph c.go_on.ensures.events c.go_on.ensures.room in
     subst (λ (k : LeaseValue). RenewsNext c.args.self.now c.args.lease k new) (kept_same c.go_on.result kept is)
     (subst (λ (v : GraphValue). RenewsNext v lease c.go_on.result new) c.self.view_is
-    (renewed_next t c.self.invariant lease of few goes.0.0.0 c.go_on.result new renewed))
+    (renewed_next t c.self.invariant.lawful lease of few goes.0.0.0 c.go_on.result new renewed))
 
 pub returns-else-may_go_on-clause-given : goal.returns-else-may_go_on-clause-given
 returns-else-may_go_on-clause-given c is =
@@ -79,7 +91,7 @@ returns-else-may_go_on-clause-given_moment c is =
     let new = c.release.new.self in
     let released : IsReleased mid lease false new = c.release.ensures.released in
     subst (λ (v : GraphValue). ReleasesNext v lease false new) c.self.view_is
-    (released_next t c.self.invariant lease of few false new (is_released t lease homes c.note.ensures.bundles noted new released))
+    (released_next t c.self.invariant.lawful lease of few false new (is_released t lease homes c.note.ensures.bundles noted new released))
 
 pub returns-then-may_go_on-clause-first : goal.returns-then-may_go_on-clause-first
 returns-then-may_go_on-clause-first c =
@@ -92,7 +104,7 @@ returns-then-may_go_on-clause-first c =
     let new = c.go_on.new.self in
     let renewed : IsRenewed t lease c.go_on.result new =
     is_renewed t lease homes c.note.ensures.bundles noted c.go_on.result new c.go_on.ensures.rest c.go_on.ensures.quota c.go_on.ensures.of_graph c.go_on.ensures.events c.go_on.ensures.room in
-    subst (λ (v : GraphValue). ChoosesByRows v lease new) c.self.view_is (chosen_by_rows t c.self.invariant lease of few new renewed.noted)
+    subst (λ (v : GraphValue). ChoosesByRows v lease new) c.self.view_is (chosen_by_rows t c.self.invariant.lawful lease of few new renewed.noted)
 
 pub returns-else-may_go_on-clause-first : goal.returns-else-may_go_on-clause-first
 returns-else-may_go_on-clause-first c =
@@ -105,4 +117,4 @@ returns-else-may_go_on-clause-first c =
     let mid : GraphValue = record { task = t.task; choice = t.choice; table = t.table; homes = homes; incumbent = t.incumbent } in
     let new = c.release.new.self in
     let released : IsReleased mid lease false new = c.release.ensures.released in
-    subst (λ (v : GraphValue). ChoosesByRows v lease new) c.self.view_is (chosen_by_rows t c.self.invariant lease of few new (is_released t lease homes c.note.ensures.bundles noted new released).noted)
+    subst (λ (v : GraphValue). ChoosesByRows v lease new) c.self.view_is (chosen_by_rows t c.self.invariant.lawful lease of few new (is_released t lease homes c.note.ensures.bundles noted new released).noted)

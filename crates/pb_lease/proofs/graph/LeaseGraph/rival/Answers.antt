@@ -18,7 +18,7 @@ interference-requires c =
     let t : GraphValue = the_view c.self.inside in
     let lease : LeaseValue = the_lease c.lease.inside in
     let leased = subst (λ (l : LeaseValue). (counts_in t).leases l.worker ≡ Some (grant_of l)) (sym c.lease.view_is) (subst (λ (v : GraphValue). (counts_in v).leases c.args.lease.now.worker ≡ Some (grant_of c.args.lease.now)) (sym c.self.view_is) c.requires) in
-    subst (λ (g : AbstractGraph). lease.block < (blocks_of g).count) (sym c.abstraction.ensures) ((lawful_in t c.self.invariant).known lease.worker (grant_of lease) leased).1
+    subst (λ (g : AbstractGraph). lease.block < (blocks_of g).count) (sym c.abstraction.ensures) ((lawful_in t c.self.invariant.lawful).known lease.worker (grant_of lease) leased).1
 
 pub returns-clause-rival : goal.returns-clause-rival
 returns-clause-rival c =

@@ -1,4 +1,4 @@
-use Rattle.std.proofs.Common.{◌≡◌, ◌<◌, true, false, ◌||◌, is_some, None, sym, refl, subst, ◌∷◌}
+use Rattle.std.proofs.Common.{◌≡◌, ◌<◌, true, false, ◌||◌, is_some, None, sym, ◌∙◌, refl, subst, ◌∷◌}
 use Rattle.pb_machine.specs.declared.event.Event.TheVariants.{Off}
 use Rattle.pb_lease.specs.Tables.{blocks}
 use Rattle.pb_lease.specs.Events.{ending}
@@ -7,6 +7,8 @@ use Rattle.pb_lease.specs.Steps.{KeepsLeases}
 use Rattle.pb_lease.proofs.NextEvents.{sign_off_may}
 use Rattle.pb_lease.proofs.GraphKept.{sign_off_kept}
 use Rattle.pb_lease.proofs.MomentNumbers.{signed_off_next}
+use Rattle.pb_machine.specs.Counts.{counts_after}
+use Rattle.pb_lease.proofs.Free.{ending_clear, shows_still}
 use Rattle.pb_lease.specs.contracts.graph.LeaseGraph.{the_view}
 use Rattle.pb_lease.proofs.graph.LeaseGraph.sign_off.Goals as goal
 
@@ -18,7 +20,11 @@ invariant_of-self c =
     let stays = subst (λ (v : GraphValue). (counts_in v).signed_off c.args.worker ≡ false) (sym c.self.view_is) c.requires.stays in
     let cause = subst (λ (v : GraphValue). (c.args.memory || is_some v.table.end) ≡ true) (sym c.self.view_is) c.requires.cause in
     let may = sign_off_may (blocks t.table) t.table.settings (counts_in t) c.args.worker c.args.memory inside stays vacant refl cause in
-    sign_off_kept t c.self.invariant c.sign_off.new.self c.args.worker c.args.memory c.sign_off.ensures.events may
+    record {
+      lawful = sign_off_kept t c.self.invariant.lawful c.sign_off.new.self c.args.worker c.args.memory c.sign_off.ensures.events may;
+      shows = shows_still t.table c.sign_off.new.self (Off c.args.worker c.args.memory ∷ ending c.args.memory t.table.end) c.sign_off.ensures.events t.homes.keys t.homes.keys c.self.inside.free c.self.invariant.shows refl
+          (λ block clear. sym (ending_clear (blocks t.table) t.table.settings (counts_after (blocks t.table) t.table.settings (counts_in t) (Off c.args.worker c.args.memory)) c.args.memory t.table.end block) ∙ clear);
+    }
 
 pub returns-clause-moment : goal.returns-clause-moment
 returns-clause-moment c =
@@ -30,4 +36,4 @@ returns-clause-moment c =
     let may = sign_off_may (blocks t.table) t.table.settings (counts_in t) c.args.worker c.args.memory inside stays vacant refl cause in
     let new : GraphValue = record { task = t.task; choice = t.choice; table = c.sign_off.new.self; homes = t.homes; incumbent = t.incumbent } in
     subst (λ (v : GraphValue). KeepsLeases v (Off c.args.worker c.args.memory ∷ ending c.args.memory v.table.end) new) c.self.view_is
-    (signed_off_next t c.self.invariant c.args.worker c.args.memory new c.sign_off.ensures.events refl may)
+    (signed_off_next t c.self.invariant.lawful c.args.worker c.args.memory new c.sign_off.ensures.events refl may)

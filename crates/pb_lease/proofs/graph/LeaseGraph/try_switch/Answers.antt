@@ -19,21 +19,21 @@ lease_at_once-requires-clause-worker c =
     let t : GraphValue = the_view c.self.inside in
     let of : IsOfGraph t c.args.lease = subst (λ (v : GraphValue). IsOfGraph v c.args.lease) (sym c.self.view_is) c.requires in
     let released : IsReleased t c.args.lease false c.renew.new.self = subst (λ (v : GraphValue). IsReleased v c.args.lease false c.renew.new.self) (sym c.self.view_is) (c.in-Given.ensures.given refl).1 in
-    subst (λ (l : LeaseValue). l.worker < c.renew.new.self.table.settings.workers) (sym c.lease.view_is) (worker_known t c.self.invariant c.args.lease of c.renew.new.self released)
+    subst (λ (l : LeaseValue). l.worker < c.renew.new.self.table.settings.workers) (sym c.lease.view_is) (worker_known t c.self.invariant.lawful c.args.lease of c.renew.new.self released)
 
 pub lease_at_once-requires-clause-vacant : goal.lease_at_once-requires-clause-vacant
 lease_at_once-requires-clause-vacant c =
     let t : GraphValue = the_view c.self.inside in
     let of : IsOfGraph t c.args.lease = subst (λ (v : GraphValue). IsOfGraph v c.args.lease) (sym c.self.view_is) c.requires in
     let released : IsReleased t c.args.lease false c.renew.new.self = subst (λ (v : GraphValue). IsReleased v c.args.lease false c.renew.new.self) (sym c.self.view_is) (c.in-Given.ensures.given refl).1 in
-    subst (λ (l : LeaseValue). (counts_in c.renew.new.self).leases l.worker ≡ None) (sym c.lease.view_is) (worker_vacant t c.self.invariant c.args.lease of c.renew.new.self released)
+    subst (λ (l : LeaseValue). (counts_in c.renew.new.self).leases l.worker ≡ None) (sym c.lease.view_is) (worker_vacant t c.self.invariant.lawful c.args.lease of c.renew.new.self released)
 
 pub lease_at_once-requires-clause-stays : goal.lease_at_once-requires-clause-stays
 lease_at_once-requires-clause-stays c =
     let t : GraphValue = the_view c.self.inside in
     let of : IsOfGraph t c.args.lease = subst (λ (v : GraphValue). IsOfGraph v c.args.lease) (sym c.self.view_is) c.requires in
     let released : IsReleased t c.args.lease false c.renew.new.self = subst (λ (v : GraphValue). IsReleased v c.args.lease false c.renew.new.self) (sym c.self.view_is) (c.in-Given.ensures.given refl).1 in
-    subst (λ (l : LeaseValue). (counts_in c.renew.new.self).signed_off l.worker ≡ false) (sym c.lease.view_is) (worker_stays t c.self.invariant c.args.lease of c.renew.new.self released)
+    subst (λ (l : LeaseValue). (counts_in c.renew.new.self).signed_off l.worker ≡ false) (sym c.lease.view_is) (worker_stays t c.self.invariant.lawful c.args.lease of c.renew.new.self released)
 
 pub returns-in-Kept-clause-kept : goal.returns-in-Kept-clause-kept
 returns-in-Kept-clause-kept c kept is = c.in-Kept.ensures.kept kept (ap Renews (kept_same c.in-Kept.kept kept is))

@@ -1,0 +1,6 @@
+use Rattle.std.proofs.Common.{take}
+use Rattle.pb_lease.specs.Free.{Shows, IsClearIn}
+use Rattle.pb_lease.proofs.graph.free.show_clear.Given as goal
+
+abbrev pub invariant-loop-block : goal.invariant-loop-block
+invariant-loop-block l = Shows (IsClearIn l.tables (take l.block-index l.near)) l.homes.keys l.initial.free l.free
