@@ -151,13 +151,14 @@ def drawn_checkers(random):
 @dataclasses.dataclass
 class Run:
     """How a run ended: its status (negative: a signal; None: the time ran out), what it said, how
-    long it took, and how long its threads had a processor together."""
+    long it took, how long its threads had a processor together, and the most MiB that it had."""
 
     status: int
     output: bytes
     errors: bytes
     seconds: float
     worked: float = 0.0
+    mebibytes: int = 0
 
     def alone(self):
         """At least as many seconds as it takes on a quiet machine."""
@@ -198,7 +199,8 @@ def run_program(words, folder, seconds, memory=None, variables=None):
         status, used = wait_for(number, seconds)
         ended = time.monotonic()
         output, errors = [file.read() for file in files if file.seek(0) == 0]
-    return Run(status, output, errors, ended - began, used.ru_utime + used.ru_stime)
+    worked, mebibytes = used.ru_utime + used.ru_stime, -(-used.ru_maxrss // 1024)
+    return Run(status, output, errors, ended - began, worked, mebibytes)
 
 
 def wait_for(number, seconds):
