@@ -85,28 +85,33 @@ fn only_successor<R: Abort>(rt: &R, alloc: Global, task: &Task, state: &Packed) 
     succ
 }
 
-// Offers a successor to the bundle of a block.
-fn offer<R: Abort>(
-    rt: &R,
-    alloc: Global,
-    task: &Task,
-    lease: &mut Lease,
-    block: u32,
-    succ: &Succ,
-    parent: &Packed,
-    g: u64,
-)
-    requires state { IsTrue ((space_of task.now).is_state succ.now.state) }
-    requires there { IsSome (content_in lease.old.parts block) }
-    ensures rows { OffersAt lease.old lease.new block succ.now.state g
-        (estimate_by task.now lease.old.choice succ.now.state) (Some parent.now) succ.now.action }
-    ensures changes { ChangesRows lease.old lease.new }
+// The estimate of a state, by the lease's choice.
+fn estimate<R: Abort>(rt: &R, alloc: Global, task: &Task, lease: &Lease, state: &Packed) -> Estimate
+    requires { IsTrue ((space_of task.now).is_state state.now) }
+    ensures { result ≡ estimate_by task.now lease.now.choice state.now }
 {
     if !lease.choice().suits(task) {
         panic!(rt; "a choice that suits the task");
     }
     let mut estimator = Estimator::of(alloc, task, lease.choice()).expect(rt, "memory");
-    let estimate = estimator.estimate(task, &succ.state);
+    estimator.estimate(task, state)
+}
+
+// Offers a successor to the bundle of a block.
+fn offer<R: Abort>(
+    rt: &R,
+    lease: &mut Lease,
+    block: u32,
+    succ: &Succ,
+    parent: &Packed,
+    g: u64,
+    estimate: Estimate,
+)
+    requires { IsSome (content_in lease.old.parts block) }
+    ensures rows { OffersAt lease.old lease.new block succ.now.state g
+        estimate (Some parent.now) succ.now.action }
+    ensures changes { ChangesRows lease.old lease.new }
+{
     let bundle = lease.bundle_mut(block);
     bundle
         .offer(succ.state, g, estimate, Some(*parent), succ.action)
@@ -157,16 +162,8 @@ fn expand_first<R: Abort>(
     see_that_it_is_expanded(rt, task, abstraction, lease, &state, &row);
     let succ = only_successor(rt, alloc, task, &state);
     let block = abstraction.block(task, &succ.state);
-    offer(
-        rt,
-        alloc,
-        task,
-        lease,
-        block,
-        &succ,
-        &state,
-        row.g + succ.cost,
-    );
+    let expected = estimate(rt, alloc, task, lease, &succ.state);
+    offer(rt, lease, block, &succ, &state, row.g + succ.cost, expected);
     close(rt, lease, &state);
     lease.spend();
 }

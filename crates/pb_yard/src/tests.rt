@@ -225,7 +225,6 @@ fn in_two_threads<R: Threads + Wait + Abort + Sync>(
     second: Pass,
     task: &Task,
     abstraction: &AbsGraph,
-    stage: &AtomicU64,
 ) -> (Pass, [(u32, u64, u64); 3], Pass)
     requires own { IsOf yard.now first × IsOf yard.now second }
     requires ready { IsReady (view_of first) }
@@ -239,6 +238,7 @@ fn in_two_threads<R: Threads + Wait + Abort + Sync>(
     ensures same { KeepsPass second result.2 }
     ensures view { view_of result.2 ≡ view_of second }
 {
+    let stage = AtomicU64::new(0);
     let (worked, second) = join(
         rt,
         || -> (Pass, [(u32, u64, u64); 3])
@@ -250,12 +250,12 @@ fn in_two_threads<R: Threads + Wait + Abort + Sync>(
             ensures parts { parts_of result.0 ≡ parts_of first }
             ensures workers { KeepsWorkers (view_of first) (view_of result.0) }
             ensures off { HasSignedOff (view_of result.0) }
-        { switch_twice(rt, alloc, yard, first, task, abstraction, stage) },
+        { switch_twice(rt, alloc, yard, first, task, abstraction, &stage) },
         || -> Pass
             requires { IsOf yard.now second }
             ensures same { KeepsPass second result }
             ensures view { view_of result ≡ view_of second }
-        { hold(rt, yard, second, stage) },
+        { hold(rt, yard, second, &stage) },
     );
     let (first, seen) = worked;
     (first, seen, second)
@@ -293,17 +293,7 @@ fn search_by_two<R: Threads + Wait + Abort + Sync>(
     requires of_task { IsGraphOf task.now abstraction.now }
 {
     let second = yard.split(&mut first);
-    let stage = AtomicU64::new(0);
-    let (first, seen, second) = in_two_threads(
-        rt,
-        alloc,
-        &yard,
-        first,
-        second,
-        task,
-        abstraction,
-        &stage,
-    );
+    let (first, seen, second) = in_two_threads(rt, alloc, &yard, first, second, task, abstraction);
     let second = sign_off(rt, &yard, second);
     (seen, finish(yard, first, second))
 }

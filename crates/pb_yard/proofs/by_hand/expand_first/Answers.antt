@@ -9,8 +9,8 @@ use Rattle.pb_lease.proofs.Callers.{still_there}
 use Rattle.pb_yard.proofs.ByHand.{only_leads, worked_by_hand, changes_by_hand}
 use Rattle.pb_yard.proofs.by_hand.expand_first.Goals as goal
 
-pub offer-requires-clause-there : goal.offer-requires-clause-there
-offer-requires-clause-there g c =
+pub offer-requires : goal.offer-requires
+offer-requires g c =
     let t = c.args.task.now in
     let a = c.args.abstraction.now in
     let s = c.first_row-state.result.0 in
@@ -37,7 +37,8 @@ returns-clause-worked g c =
     let see = c.see_that_it_is_expanded.ensures in
     worked_by_hand (space_of t) (guide_of t a c.args.lease.now.choice) c.args.lease.now c.offer.new.lease c.close.new.lease c.spend.new.self s c.first_row-state.result.1 succ c.first_row-state.ensures
     see.home see.no_goal see.kept c.only_successor-succ.ensures.only
-    (subst (λ block. OffersAt c.args.lease.now c.offer.new.lease block succ.state (c.first_row-state.result.1.g + succ.cost) (estimate_by t c.args.lease.now.choice succ.state) (Some s) succ.action) c.block-block.ensures.block c.offer.ensures.rows)
+    (subst (λ block. OffersAt c.args.lease.now c.offer.new.lease block succ.state (c.first_row-state.result.1.g + succ.cost) (estimate_by t c.args.lease.now.choice succ.state) (Some s) succ.action) c.block-block.ensures.block
+    (subst (λ h. OffersAt c.args.lease.now c.offer.new.lease c.block-block.result succ.state (c.first_row-state.result.1.g + succ.cost) h (Some s) succ.action) c.estimate-expected.ensures c.offer.ensures.rows))
     c.offer.ensures.changes c.close.ensures.rows c.close.ensures.changes c.spend.ensures
 
 pub returns-clause-changes : goal.returns-clause-changes
