@@ -10,6 +10,7 @@ mod graph_lessor;
 mod holding;
 mod lessor;
 mod marking;
+mod team;
 mod turning;
 mod worker;
 mod workers;

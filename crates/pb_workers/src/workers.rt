@@ -14,6 +14,7 @@ ghost use Rattle.pb_workers.specs.Tools.{AreFor, AllAreFor};
 ghost use Rattle.pb_workers.specs.Turns.{IsBetweenTurns, AllMarkInTurn};
 
 use crate::event_count::EventCount;
+use crate::team::Team;
 use crate::worker::Tools;
 use crate::yard_search::run_worker;
 use pb_abstract::AbsGraph;
@@ -49,21 +50,18 @@ fn tools_for(
 // from the first one's, which takes them in again.
 fn run_all<R: Threads + Wait + Sync, G: Gate>(
     rt: &R,
-    yard: &Yard,
-    count: &EventCount,
-    gate: &G,
-    task: &Task,
-    abstraction: &AbsGraph,
+    team: &Team<G>,
     first: Tools,
     mut others: Vec<Tools>,
     mut pass: Pass,
 ) -> Pass
-    requires own { IsOf yard.now pass }
+    requires own { IsOf team.now.yard.now pass }
     requires first { worker_of pass ≡ 0 }
-    requires tools { AreFor task.now (view_of pass).choice first
-        × AllAreFor task.now (view_of pass).choice others.items }
-    requires to_split { IsToSplit task.now abstraction.now (vec_len others) (view_of pass) }
-    ensures own { IsOf yard.now result }
+    requires tools { AreFor team.now.task.now (view_of pass).choice first
+        × AllAreFor team.now.task.now (view_of pass).choice others.items }
+    requires to_split { IsToSplit team.now.task.now team.now.abstraction.now (vec_len others)
+        (view_of pass) }
+    ensures own { IsOf team.now.yard.now result }
     ensures first { worker_of result ≡ 0 }
     ensures met { parts_of result ≡ parts_of pass }
     ensures signed_off { AllSignedOff (view_of result) }
@@ -71,9 +69,12 @@ fn run_all<R: Threads + Wait + Sync, G: Gate>(
     ensures search { KeepsSearch (view_of pass) (view_of result) }
 {
     let Some(tools) = others.pop() else {
-        return run_worker(rt, yard, count, gate, task, abstraction, first, pass);
+        return run_worker(rt, team, first, pass);
     };
-    let other = yard.split(&mut pass);
+    let other = team.yard.split(&mut pass);
+    // The closures take the parts, since a caller learns nothing of one that captures a lifetime.
+    let (yard, count, gate) = (team.yard, team.count, team.gate);
+    let (task, abstraction) = (team.task, team.abstraction);
     let (mut all, other) = join(
         rt,
         || -> Pass
@@ -86,17 +87,14 @@ fn run_all<R: Threads + Wait + Sync, G: Gate>(
                 × KeepsSearch (view_of pass) (view_of result)
                 × (IsBetweenTurns (view_of pass) → AllMarkInTurn (view_of result)) }
         {
-            run_all(
-                rt,
+            let team = Team {
+                task,
+                abstraction,
                 yard,
                 count,
                 gate,
-                task,
-                abstraction,
-                first,
-                others,
-                pass,
-            )
+            };
+            run_all(rt, &team, first, others, pass)
         },
         || -> Pass
             requires { IsOf yard.now other × AreFor task.now (view_of other).choice tools
@@ -106,9 +104,18 @@ fn run_all<R: Threads + Wait + Sync, G: Gate>(
                 × ((view_of result).lent ≡ None)
                 × IsTrue (list_any is_off (view_of result).journal.own.events)
                 × (IsBetweenTurns (view_of other) → IsBetweenTurns (view_of result)) }
-        { run_worker(rt, yard, count, gate, task, abstraction, tools, other) },
+        {
+            let team = Team {
+                task,
+                abstraction,
+                yard,
+                count,
+                gate,
+            };
+            run_worker(rt, &team, tools, other)
+        },
     );
-    yard.meet(&mut all, other);
+    team.yard.meet(&mut all, other);
     all
 }
 
@@ -162,16 +169,12 @@ pub fn run_workers<R: Threads + Wait + Sync, G: Gate>(
     let Ok(others) = tools_for(alloc, task, choice, workers.wrapping_sub(1), table) else {
         return Err((AllocError, pass));
     };
-    let count = EventCount::new();
-    Ok(run_all(
-        rt,
-        yard,
-        &count,
-        gate,
+    let team = Team {
         task,
         abstraction,
-        first,
-        others,
-        pass,
-    ))
+        yard,
+        count: &EventCount::new(),
+        gate,
+    };
+    Ok(run_all(rt, &team, first, others, pass))
 }

@@ -9,16 +9,14 @@ ghost use Rattle.pb_workers.specs.Sharing.{HasNone};
 ghost use Rattle.pb_workers.specs.Tools.{AreFor};
 ghost use Rattle.pb_workers.specs.Turns.{IsBetweenTurns};
 
-use crate::event_count::EventCount;
 use crate::holding::hold;
+use crate::team::Team;
 use crate::worker::{Tools, Worker};
 use crate::yard_lessor::YardLessor;
 use crate::yard_watch::YardWatch;
-use pb_abstract::AbsGraph;
 use pb_lease::LeaseReply;
 use pb_outside::Gate;
-use pb_task::Task;
-use pb_yard::{Pass, Yard};
+use pb_yard::Pass;
 use std::sync::Wait;
 
 // Leases blocks and works on them until the search ends, or memory for a lease runs out. Answers
@@ -52,33 +50,27 @@ fn take_leases<W: Wait, G: Gate>(
 }
 
 /// One worker of a yard, until it has signed off.
-pub fn run_worker<W: Wait, G: Gate>(
-    rt: &W,
-    yard: &Yard,
-    count: &EventCount,
-    gate: &G,
-    task: &Task,
-    abstraction: &AbsGraph,
-    tools: Tools,
-    pass: Pass,
-) -> Pass
-    requires own { IsOf yard.now pass }
-    requires tools { AreFor task.now (view_of pass).choice tools }
-    requires idle { IsIdle task.now abstraction.now (view_of pass) }
+pub fn run_worker<W: Wait, G: Gate>(rt: &W, team: &Team<G>, tools: Tools, pass: Pass) -> Pass
+    requires own { IsOf team.now.yard.now pass }
+    requires tools { AreFor team.now.task.now (view_of pass).choice tools }
+    requires idle { IsIdle team.now.task.now team.now.abstraction.now (view_of pass) }
     ensures same { IsSamePass pass result × (parts_of result ≡ parts_of pass) }
     ensures holder { IsSameHolder (view_of pass) (view_of result) }
     ensures vacant { (view_of result).lent ≡ None }
     ensures signed_off { IsTrue (list_any is_off (view_of result).journal.own.events) }
     ensures turn { IsBetweenTurns (view_of pass) → IsBetweenTurns (view_of result) }
 {
-    let mut worker = Worker::new(task, abstraction, tools);
+    let mut worker = Worker::new(team.task, team.abstraction, tools);
     let mut lessor = YardLessor {
         rt,
-        count,
-        watch: YardWatch { yard, pass },
+        count: team.count,
+        watch: YardWatch {
+            yard: team.yard,
+            pass,
+        },
         turns: rt.forever(),
     };
-    let memory = take_leases(rt, gate, &mut worker, &mut lessor);
+    let memory = take_leases(rt, team.gate, &mut worker, &mut lessor);
     let YardLessor {
         rt: _,
         count: _,
@@ -86,8 +78,8 @@ pub fn run_worker<W: Wait, G: Gate>(
         turns: _,
     } = lessor;
     let YardWatch { yard: _, mut pass } = watch;
-    yard.sign_off(rt, &mut pass, memory);
+    team.yard.sign_off(rt, &mut pass, memory);
     // A sign-off can end the search, which sleepers must see.
-    count.advance(rt);
+    team.count.advance(rt);
     pass
 }

@@ -42,7 +42,7 @@ returns-clause-marks g t c before =
 pub join-all-requires-after_bounds : goal.join-all-requires-after_bounds
 join-all-requires-after_bounds g t c κs within =
     let v : View = view_of c.args.pass in
-    let task : TaskParts = c.args.task.now in
+    let task : TaskParts = c.args.team.now.task.now in
     let split : view_of c.split-other.new.pass ≡ split_view v = c.split-other.ensures.kept in
     let next : view_of c.split-other.result ≡ next_pass_view v = c.split-other.ensures.view in
     let of_first : AreFor task (view_of c.split-other.new.pass).choice c.args.first = subst (λ (w : View). AreFor task w.choice c.args.first) (sym split) c.requires.tools.0 in
@@ -50,8 +50,8 @@ join-all-requires-after_bounds g t c κs within =
     All-pop (AreFor task v.choice) c.args.others.items c.pop.new.self.items (Some c.in-Some.tools) c.in-Some.ensures.items c.requires.tools.1 in
     let of_rest : AllAreFor task (view_of c.split-other.new.pass).choice c.pop.new.self.items = subst (λ (w : View). AllAreFor task w.choice c.pop.new.self.items) (sym split) split_off.0 in
     let of_other : AreFor task (view_of c.split-other.result).choice c.in-Some.tools = subst (λ (w : View). AreFor task w.choice c.in-Some.tools) (sym next) split_off.1 in
-    let more : IsToSplit task c.args.abstraction.now (vec_len c.pop.new.self) (view_of c.split-other.new.pass) = search rules in
-    let idle : IsIdle task c.args.abstraction.now (view_of c.split-other.result) = next_idle task c.args.abstraction.now v (vec_len c.args.others) (view_of c.split-other.result) c.requires.to_split next in (
+    let more : IsToSplit task c.args.team.now.abstraction.now (vec_len c.pop.new.self) (view_of c.split-other.new.pass) = search rules in
+    let idle : IsIdle task c.args.team.now.abstraction.now (view_of c.split-other.result) = next_idle task c.args.team.now.abstraction.now v (vec_len c.args.others) (view_of c.split-other.result) c.requires.to_split next in (
       (search rules, (λ a m. m, (λ a m. m, ((search rules, search rules, search rules, of_first, of_rest, more), (search rules, search rules))))),
       ((search rules, of_other, idle), (search rules, search rules)),
     )

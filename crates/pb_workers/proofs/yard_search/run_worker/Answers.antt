@@ -15,10 +15,10 @@ take_leases-memory-requires-clause-serves g c _ _ =
 
 pub take_leases-memory-requires-clause-idle : goal.take_leases-memory-requires-clause-idle
 take_leases-memory-requires-clause-idle g c _ _ =
-    let w : YardWatch = record { yard = c.args.yard; pass = c.args.pass } in
+    let w : YardWatch = record { yard = c.args.team.now.yard; pass = c.args.pass } in
     let v = view_of c.args.pass in
     let i = c.requires.idle in
-    record { own = c.requires.own; since = worker_self w; idle = idle_with c.args.task.now v.task c.args.abstraction.now v.abstraction i.task_is i.graph_is v i; turn = λ before. before }
+    record { own = c.requires.own; since = worker_self w; idle = idle_with c.args.team.now.task.now v.task c.args.team.now.abstraction.now v.abstraction i.task_is i.graph_is v i; turn = λ before. before }
 
 pub returns-clause-turn : goal.returns-clause-turn
 returns-clause-turn g c before =
