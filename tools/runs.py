@@ -1,6 +1,7 @@
 """How the tools run many cases: several at once, with a summary at the end or at an interrupt, and
 with a file in which the runs of one build add up."""
 
+import argparse
 import collections
 import concurrent.futures
 import dataclasses
@@ -61,7 +62,7 @@ def add_options(parser, cases, processes):
 
 def seed_of(word):
     if not word.isdecimal():
-        raise ValueError(word)
+        raise argparse.ArgumentTypeError(f"{word} isn't a number of at least 0")
     return int(word)
 
 
