@@ -14,6 +14,7 @@ import pathlib
 import signal
 import sys
 import time
+import traceback
 
 import shared
 
@@ -66,16 +67,18 @@ def seed_of(word):
     return int(word)
 
 
-def run_cases(options, call, begin=None, chunk=20, unit="cases"):
+def run_cases(options, call, begin=None, chunk=20, unit="cases", last=None):
     """Calls `call(seed)`, which gives a `Found`, for each case, and prints faults as they come and
-    a summary at the end; the status of the tool. Each process calls `begin` first."""
+    a summary at the end; the status of the tool. Each process calls `begin` first. There may be a
+    last seed."""
     tool = pathlib.Path(sys.argv[0]).name
     sums = Sums(options.add_to, tool, options.program)
     first = sums.next_seed() if options.seed is None else options.seed
     total, began = Total(), time.monotonic()
     try:
         with ending_by_signals(options.minutes):
-            seeds = range(first, first + options.cases)
+            end = first + options.cases
+            seeds = range(first, end if last is None else min(end, last + 1))
             for seed, found in in_order(call, seeds, options.processes, begin, chunk):
                 total.add(found)
                 for fault in found.faults:
@@ -157,9 +160,18 @@ def end_processes(pool):
 def call_each(call, seeds):
     """What the call gives of each seed. (A pool would go on after an exit.)"""
     try:
-        return [call(seed) for seed in seeds]
+        return [call_one(call, seed) for seed in seeds]
     except SystemExit:
         os._exit(1)
+
+
+def call_one(call, seed):
+    """What the call gives of a seed. If the tool itself fails, that is a fault, and no end."""
+    try:
+        return call(seed)
+    except Exception:  # pylint: disable=broad-except
+        said = traceback.format_exc().strip().split("\n")
+        return Found(collections.Counter(["the tool failed"]), 0.0, [" ".join(said[-3:])])
 
 
 def begin_process(begin):
