@@ -4,24 +4,18 @@
    number is 0 or isn't there. The file `refused` is made at the first refused allocation.
    DRAWN_SEED decides what each thread draws, in the order in which they begin. */
 #define _GNU_SOURCE
+#include "allocations.h"
+
 #include <dlfcn.h>
-#include <errno.h>
-#include <fcntl.h>
 #include <pthread.h>
 #include <sched.h>
 #include <stdarg.h>
 #include <stdatomic.h>
-#include <stddef.h>
 #include <stdint.h>
 #include <stdlib.h>
 #include <sys/syscall.h>
 #include <time.h>
-#include <unistd.h>
 
-extern void *__libc_malloc(size_t);
-extern void *__libc_calloc(size_t, size_t);
-extern void *__libc_realloc(void *, size_t);
-extern void *__libc_memalign(size_t, size_t);
 extern void __libc_free(void *);
 
 typedef int (*create_type)(pthread_t *, const pthread_attr_t *, void *(*)(void *), void *);
@@ -74,31 +68,7 @@ static void delay(void) {
 static int is_refused(void) {
     if (refused_allocation == 0 || draw() % refused_allocation != 0)
         return 0;
-    close(open("refused", O_CREAT | O_WRONLY, 0600));
-    errno = ENOMEM;
-    return 1;
-}
-
-void *malloc(size_t size) { return is_refused() ? NULL : __libc_malloc(size); }
-
-void *calloc(size_t count, size_t size) {
-    return is_refused() ? NULL : __libc_calloc(count, size);
-}
-
-void *realloc(void *block, size_t size) {
-    return is_refused() ? NULL : __libc_realloc(block, size);
-}
-
-void *aligned_alloc(size_t alignment, size_t size) {
-    return is_refused() ? NULL : __libc_memalign(alignment, size);
-}
-
-int posix_memalign(void **block, size_t alignment, size_t size) {
-    void *found = is_refused() ? NULL : __libc_memalign(alignment, size);
-    if (found == NULL)
-        return ENOMEM;
-    *block = found;
-    return 0;
+    return refuse();
 }
 
 struct started {
