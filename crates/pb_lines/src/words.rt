@@ -2,7 +2,7 @@
 ghost use Rattle.std.specs.Prelude.{◌≡◌, ◌≤◌, ◌+◌, ◌*◌, ◌<◌, ◌^◌, length, IfSome, IfNone, Some, None};
 ghost use Rattle.pb_lines.specs.Words.{place_of, part, behind, is_text, number_of, number_after, is_digit};
 
-/// How many bytes come before the first of this kind.
+// How many bytes come before the first of this kind.
 fn place_of(text: &[u8], byte: u8) -> usize
     ensures place { result ≡ place_of byte text.now }
     ensures within { result ≤ length text.now }

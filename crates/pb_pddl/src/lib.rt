@@ -4,14 +4,13 @@
 #![tactic(auto)]
 
 mod error;
-mod listed;
 mod parts;
 mod text;
 mod token;
 mod tree;
 
+pub use pb_listed::Listed;
 pub use error::{LeftOut, SyntaxError, Want};
-pub use listed::Listed;
 pub use parts::{ActionParts, DomainParts, EffectParts, Group, InitParts, ProblemParts};
 pub use text::Text;
 pub use token::{Cursor, Token, TokenKind};

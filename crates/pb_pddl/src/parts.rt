@@ -1,6 +1,6 @@
 //! What a reader has gathered while a list, an action or a whole form is still open.
 
-use crate::listed::Listed;
+use pb_listed::Listed;
 use crate::tree::{Action, Atom, Cost, Literal, Name, Predicate, Typed};
 
 /// The names of a list that have their type, and those that wait for a type.

@@ -1,7 +1,7 @@
 //! Ranges of shared bytes, as the text of a token or a name.
 ghost use Rattle.std.specs.Prelude.{◌≡◌, ◌+◌, ◌≤◌, IfOk, length, take, drop};
 
-use crate::listed::Listed;
+use pb_listed::Listed;
 use std::alloc::{AllocError, Global};
 use std::marker::Model;
 use std::rc::Rc;

@@ -1,6 +1,6 @@
 //! The tokens of a text, and where the next one may begin.
 
-use crate::listed::Listed;
+use pb_listed::Listed;
 use crate::text::Text;
 
 /// The kind of a token. Each place of a text has one: `Byte` if no token begins there, and `End` at

@@ -1,0 +1,6 @@
+//! Lists on the heap, which contracts see as lists.
+#![tactic(auto)]
+
+mod listed;
+
+pub use listed::Listed;
