@@ -9,9 +9,9 @@ mod text;
 mod token;
 mod tree;
 
-pub use pb_listed::Listed;
 pub use error::{LeftOut, SyntaxError, Want};
 pub use parts::{ActionParts, DomainParts, EffectParts, Group, InitParts, ProblemParts};
+pub use pb_listed::Listed;
 pub use text::Text;
 pub use token::{Cursor, Token, TokenKind};
 pub use tree::{Action, Atom, Cost, Domain, Literal, Name, Predicate, Problem, Term, Typed};

@@ -1,7 +1,7 @@
 //! What a reader has gathered while a list, an action or a whole form is still open.
 
-use pb_listed::Listed;
 use crate::tree::{Action, Atom, Cost, Literal, Name, Predicate, Typed};
+use pb_listed::Listed;
 
 /// The names of a list that have their type, and those that wait for a type.
 #[derive(Drop)]

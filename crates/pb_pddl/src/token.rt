@@ -1,7 +1,7 @@
 //! The tokens of a text, and where the next one may begin.
 
-use pb_listed::Listed;
 use crate::text::Text;
+use pb_listed::Listed;
 
 /// The kind of a token. Each place of a text has one: `Byte` if no token begins there, and `End` at
 /// the end of the text.

@@ -1,8 +1,8 @@
 //! The trees. Lists are in order of the text. Nested conditions and effects are flattened into one
 //! list. A section or part that is missing is an empty list.
 
-use pb_listed::Listed;
 use crate::text::Text;
+use pb_listed::Listed;
 
 /// A word or a variable: its bytes in lower case, a variable's with its `?`, and the place of its
 /// first byte.
