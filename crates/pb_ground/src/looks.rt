@@ -6,7 +6,7 @@ use crate::error::GroundError;
 use std::marker::Model;
 
 /// How many looks there may be.
-pub const MOST_LOOKS: u64 = 1_073_741_824;
+pub const MOST_LOOKS: u64 = 268_435_456;
 
 /// How many looks were taken. A look is one at a row: at the objects of an atom of `:init`, or at
 /// those of an instance of an action. Only a look raises the number, by one. A contract sees the

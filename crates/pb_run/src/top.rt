@@ -33,7 +33,7 @@ use std::thread::Threads;
 /// time before one is renewed or comes back. Of owners, and of workers that check a certificate, it
 /// is told before and after each part. No clause says so.
 ///
-/// `looks` counts the rows that grounding looks at. At 2^30 grounding is stopped. With
+/// `looks` counts the rows that grounding looks at. At 2^28 grounding is stopped. With
 /// `Looks::new()` the count begins at 0, so it is that of this call.
 ///
 /// The clauses speak of the calls that this call made on the shelf and the sink, and so of any
