@@ -4,11 +4,12 @@ ghost use Rattle.std.specs.List.{list_any, filter};
 ghost use Rattle.pb_machine.specs.Blocks.{interferes};
 ghost use Rattle.pb_abstract.specs.Graph.{has, blocks_in, AreSources, AreKnown, AreInterference};
 
-use crate::lists::{BlockList, NumberList};
+use crate::lists::BlockList;
+use pb_listed::Listed;
 use std::alloc::{AllocError, Global};
 
 // Adds a number to the lists at these places.
-fn add_to(lists: &mut [NumberList], places: &[u32], number: u32) -> Result<(), AllocError>
+fn add_to(lists: &mut [Listed<u32>], places: &[u32], number: u32) -> Result<(), AllocError>
     requires { All (λ place. place < length lists.old) places.now }
     ensures { OnOk result ((place c : ℕ) → has (slice_index_or lists.new place []) c
         ≡ (has (slice_index_or lists.old place []) c
@@ -21,18 +22,18 @@ fn add_to(lists: &mut [NumberList], places: &[u32], number: u32) -> Result<(), A
 }
 
 // As many lists without numbers.
-fn empty_lists(alloc: Global, count: usize) -> Result<Vec<NumberList>, AllocError>
+fn empty_lists(alloc: Global, count: usize) -> Result<Vec<Listed<u32>>, AllocError>
     ensures { IfOk result (λ lists. lists.items ≡ replicate count []) }
 {
     let mut lists = Vec::new(alloc);
     for _ in 0..count {
-        lists.push(NumberList::new(alloc))?;
+        lists.push(Listed::new(alloc))?;
     }
     Ok(lists)
 }
 
 // For each block the blocks in whose scope it is.
-fn sources(alloc: Global, scopes: &[BlockList]) -> Result<Vec<NumberList>, AllocError>
+fn sources(alloc: Global, scopes: &[BlockList]) -> Result<Vec<Listed<u32>>, AllocError>
     requires known { AreKnown scopes.now }
     requires few { length scopes.now ≤ 4096 }
     ensures len { IfOk result (λ lists. length lists.items ≡ length scopes.now) }
@@ -46,14 +47,14 @@ fn sources(alloc: Global, scopes: &[BlockList]) -> Result<Vec<NumberList>, Alloc
 }
 
 // The blocks that have a block of a scope in their own scope.
-fn near(alloc: Global, scope: &[u32], sources: &[NumberList]) -> Result<Vec<u32>, AllocError>
+fn near(alloc: Global, scope: &[u32], sources: &[Listed<u32>]) -> Result<Vec<u32>, AllocError>
     requires { All (λ shared. shared < length sources.now) scope.now }
     ensures { IfOk result (λ found. (c : ℕ) → has found.items c
         ≡ list_any (λ shared. has (slice_index_or sources.now shared []) c) scope.now) }
 {
     let mut found = Vec::new(alloc);
     for shared in scope {
-        found.extend_from_slice(sources[*shared as usize].numbers())?;
+        found.extend_from_slice(sources[*shared as usize].as_slice())?;
     }
     Ok(found)
 }

@@ -1,5 +1,5 @@
 //! Lists of the numbers of blocks.
-ghost use Rattle.std.specs.Prelude.{◌≡◌, ◌==◌, ◌||◌, ◌++◌, ◌∷◌, [], ℕ, OnOk, IfOk};
+ghost use Rattle.std.specs.Prelude.{◌≡◌, ◌==◌, ◌||◌, ℕ, IfOk};
 ghost use Rattle.std.specs.List.{list_any};
 ghost use Rattle.std.specs.List.Sorted.{IsStrictlyIncreasing};
 ghost use Rattle.pb_abstract.specs.Graph.{has};
@@ -42,46 +42,6 @@ impl BlockList {
     pub fn numbers(&self) -> &[u32]
         ensures numbers { result.now ≡ self.now }
         ensures ascending { IsStrictlyIncreasing result.now }
-    {
-        self.numbers.as_slice()
-    }
-}
-
-/// Numbers of blocks, in the order in which they came.
-#[derive(Drop)]
-pub struct NumberList {
-    numbers: Vec<u32>,
-}
-
-impl Model for NumberList {
-    ghost use Rattle.std.specs.Prelude.{List, ℕ};
-
-    ghost Value = { List ℕ };
-
-    ghost view = { λ l. l.numbers.items };
-}
-
-impl NumberList {
-    /// The list without numbers. It takes no memory.
-    pub fn new(alloc: Global) -> NumberList
-        ensures { result ≡ [] }
-    {
-        NumberList {
-            numbers: Vec::new(alloc),
-        }
-    }
-
-    /// Adds a number at the end.
-    pub fn push(&mut self, number: u32) -> Result<(), AllocError>
-        ensures { OnOk result (self.new ≡ self.old ++ number ∷ []) }
-    {
-        self.numbers.push(number)?;
-        Ok(())
-    }
-
-    /// The numbers.
-    pub fn numbers(&self) -> &[u32]
-        ensures { result.now ≡ self.now }
     {
         self.numbers.as_slice()
     }

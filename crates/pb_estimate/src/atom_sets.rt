@@ -4,46 +4,23 @@ ghost use Rattle.pb_packed.specs.Sizes.{most_atoms};
 ghost use Rattle.pb_task.specs.Strips.{has_atom};
 ghost use Rattle.pb_estimate.specs.Tables.{atoms_in};
 
+use pb_listed::Listed;
 use pb_packed::{Packed, fields_are_replaced};
 use pb_task::next_atom;
 use std::alloc::{AllocError, Global};
-use std::marker::Model;
 
-/// The numbers of some ground atoms.
-#[derive(Drop)]
-pub struct AtomList {
-    atoms: Vec<u16>,
-}
-
-impl Model for AtomList {
-    ghost use Rattle.std.specs.Prelude.{ℕ, List};
-
-    ghost Value = { List ℕ };
-
-    ghost view = { λ l. l.atoms.items };
-}
-
-impl AtomList {
-    /// The numbers, in ascending order.
-    pub fn as_slice(&self) -> &[u16]
-        ensures { result.now ≡ self.now }
-    {
-        self.atoms.as_slice()
-    }
-}
-
-/// The atoms of a set.
-pub fn atoms_in(alloc: Global, set: &Packed, count: u32) -> Result<AtomList, AllocError>
+/// The numbers of the atoms of a set, in ascending order.
+pub fn atoms_in(alloc: Global, set: &Packed, count: u32) -> Result<Listed<u16>, AllocError>
     requires { count ≤ most_atoms }
     ensures { IfOk result (λ atoms. atoms ≡ atoms_in set.now count) }
 {
-    let mut atoms = Vec::new(alloc);
+    let mut atoms = Listed::new(alloc);
     let mut atom = next_atom(set, 0, count);
     while atom < count {
         atoms.push(atom as u16)?;
         atom = next_atom(set, atom + 1, count);
     }
-    Ok(AtomList { atoms })
+    Ok(atoms)
 }
 
 /// Whether all atoms of the one set are in the other.

@@ -34,6 +34,6 @@ pub use flat_lists::FlatLists;
 pub use laws::{
     estimates_are_admissible, estimates_count_tiles, hmax_is_fixed, stated_lines_have_their_numbers,
 };
-pub use relaxed::{ActionList, RelaxedActions, RelaxedTask};
+pub use relaxed::{RelaxedActions, RelaxedTask};
 pub use spelling::{Spelling, Stated, Version};
 pub use strips::Counters;

@@ -9,50 +9,11 @@ ghost use Rattle.pb_estimate.specs.Tables.{AreRelaxed, IsRelaxation, IsWanted};
 use crate::atom_sets::atoms_in;
 use crate::flat_lists::FlatLists;
 use crate::merging::{MergedAction, merged_actions};
+use pb_listed::Listed;
 use pb_packed::Packed;
 use pb_task::StripsParts;
 use std::alloc::{AllocError, Global};
 use std::marker::Model;
-
-/// The numbers of some relaxed actions.
-#[derive(Drop)]
-pub struct ActionList {
-    actions: Vec<u16>,
-}
-
-impl Model for ActionList {
-    ghost use Rattle.std.specs.Prelude.{ℕ, List};
-
-    ghost Value = { List ℕ };
-
-    ghost view = { λ l. l.actions.items };
-}
-
-impl ActionList {
-    // The list without actions.
-    fn new(alloc: Global) -> ActionList
-        ensures { result ≡ [] }
-    {
-        ActionList {
-            actions: Vec::new(alloc),
-        }
-    }
-
-    // Adds an action at the end.
-    fn push(&mut self, action: u16) -> Result<(), AllocError>
-        ensures { OnOk result (self.new ≡ self.old ++ action ∷ []) }
-    {
-        self.actions.push(action)?;
-        Ok(())
-    }
-
-    /// The numbers, in ascending order.
-    pub fn as_slice(&self) -> &[u16]
-        ensures { result.now ≡ self.now }
-    {
-        self.actions.as_slice()
-    }
-}
 
 // What a relaxed action adds, as the place of a list in an array, and its cost.
 #[derive(Clone, Copy)]
@@ -127,17 +88,17 @@ impl RelaxedActions {
 }
 
 // Adds an action at the end of the list of one atom.
-fn push_at(lists: &mut Vec<ActionList>, atom: u16, action: u16) -> Result<(), AllocError>
+fn push_at(lists: &mut Vec<Listed<u16>>, atom: u16, action: u16) -> Result<(), AllocError>
     requires { atom < length lists.old.items }
     ensures { OnOk result (lists.new.items
         ≡ slice_set lists.old.items atom (slice_index_or lists.old.items atom [] ++ action ∷ [])) }
 {
-    let list = &mut lists[atom as usize];
-    list.push(action)
+    lists[atom as usize].push(action)?;
+    Ok(())
 }
 
 // Adds an action at the end of the lists of some atoms.
-fn push_each(lists: &mut Vec<ActionList>, atoms: &[u16], action: u16) -> Result<(), AllocError>
+fn push_each(lists: &mut Vec<Listed<u16>>, atoms: &[u16], action: u16) -> Result<(), AllocError>
     requires inside { All (λ atom. atom < length lists.old.items) atoms.now }
     requires ascend { (j k : ℕ) → j < k → k < length atoms.now
         → slice_index atoms.now j < slice_index atoms.now k }
@@ -154,7 +115,7 @@ fn push_each(lists: &mut Vec<ActionList>, atoms: &[u16], action: u16) -> Result<
 }
 
 // Some lists in one array.
-fn flat_lists(alloc: Global, lists: &[ActionList]) -> Result<FlatLists, AllocError>
+fn flat_lists(alloc: Global, lists: &[Listed<u16>]) -> Result<FlatLists, AllocError>
     ensures { IfOk result (λ flat. flat ≡ lists.now) }
 {
     let mut flat = FlatLists::new(alloc);
@@ -167,7 +128,7 @@ fn flat_lists(alloc: Global, lists: &[ActionList]) -> Result<FlatLists, AllocErr
 // For each atom the actions that need it, while more are added.
 #[derive(Drop)]
 pub(crate) struct Users {
-    lists: Vec<ActionList>,
+    lists: Vec<Listed<u16>>,
 }
 
 impl Model for Users {
@@ -185,7 +146,7 @@ impl Users {
     {
         let mut lists = Vec::new(alloc);
         for _atom in 0..count {
-            lists.push(ActionList::new(alloc))?;
+            lists.push(Listed::new(alloc))?;
         }
         Ok(Users { lists })
     }
@@ -232,7 +193,7 @@ pub struct RelaxedTask {
     /// For each atom the actions that need it.
     pub users: FlatLists,
     /// The actions that need nothing.
-    pub free: ActionList,
+    pub free: Listed<u16>,
     /// Whether each atom is in the goal.
     pub goal: Vec<bool>,
     /// How many atoms the goal has.
@@ -323,7 +284,7 @@ fn empty_task(alloc: Global, strips: &StripsParts) -> Result<RelaxedTask, AllocE
         actions: RelaxedActions::new(alloc),
         needs: Vec::new(alloc),
         users: FlatLists::new(alloc),
-        free: ActionList::new(alloc),
+        free: Listed::new(alloc),
         goal: flags(alloc, &strips.goal, strips.atoms)?,
         wanted: atoms_in(alloc, &strips.goal, strips.atoms)?
             .as_slice()

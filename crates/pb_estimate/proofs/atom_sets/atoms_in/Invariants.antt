@@ -5,7 +5,7 @@ use Rattle.pb_estimate.proofs.atom_sets.atoms_in.Given as goal
 
 abbrev pub invariant-loop-atom : goal.invariant-loop-atom
 invariant-loop-atom l = record {
-  atoms : l.atoms.items ≡ atoms_in l.set l.atom;
+  atoms : l.atoms ≡ atoms_in l.set l.atom;
   most : l.atom ≤ l.count;
   has : l.atom < l.count → has_atom l.set l.atom ≡ true;
 }
