@@ -1,7 +1,7 @@
 -- The marks of swamp: how loops add them, and that they are those of the rows that a map has.
-use Rattle.std.proofs.Common.{◌≡◌, ℕ, suc, ◌+◌, ◌-◌, ◌<◌, ◌≤◌, Bool, List, [], ◌∷◌, ◌++◌, length, take, drop, map, get_or, sym, ap, ◌∙◌, arith, append_assoc}
+use Rattle.std.proofs.Common.{◌≡◌, ℕ, suc, ◌+◌, ◌-◌, ◌<◌, ◌≤◌, Bool, false, List, [], ◌∷◌, ◌++◌, length, take, drop, map, replicate, get_or, refl, sym, ap, ◌∙◌, arith, append_assoc}
 use Rattle.std.specs.List.{concat}
-use Rattle.std.proofs.lemmas.List.{append-nil, drop_more, drop_all, map-append}
+use Rattle.std.proofs.lemmas.List.{append-nil, drop_more, drop_all, take_all, map-append}
 use Rattle.std.proofs.Math.Seq.{take-append_seam}
 use Rattle.pb_task.specs.declared.parts.Class.{Class}
 use Rattle.pb_grid.specs.Lines.{lines_of}
@@ -17,6 +17,17 @@ mark_added f before total row i less so_far =
 
 pub marks_done : (f : ℕ → Bool) (before total : List Bool) (row : List ℕ) (i : ℕ) → length row ≤ i → before ++ map f (drop i row) ≡ total → before ≡ total
 marks_done f before total row i le so_far = sym (append-nil before) ∙ (sym (ap (λ (bytes : List ℕ). before ++ map f bytes) (drop_all i row le)) ∙ so_far)
+
+none_marked : (row : List ℕ) → replicate (length row) false ≡ map (is_swamp_byte false) row
+none_marked [] = refl
+none_marked (byte ∷ row) = ap (λ (marks : List Bool). false ∷ marks) (none_marked row)
+
+-- a row without swamp
+pub none_added : (before : List Bool) (row : List ℕ) (len n : ℕ) → len ≡ length before → n ≡ len + length row → take n before ++ replicate (n - len) false ≡ before ++ map (is_swamp_byte false) row
+none_added before row len n len_is n_is =
+    let more : n - len ≡ length row = omega (arith, n_is) in
+    ap (λ (marks : List Bool). marks ++ replicate (n - len) false) (take_all n before (omega (arith, len_is, n_is)))
+    ∙ (ap (λ k. before ++ replicate k false) more ∙ ap (λ (marks : List Bool). before ++ marks) (none_marked row))
 
 -- ---- the marks of rows
 

@@ -5,6 +5,7 @@
 //! `grid_reading` which refusal comes first.
 #![tactic(auto)]
 
+mod classes;
 mod error;
 mod header;
 mod laws;

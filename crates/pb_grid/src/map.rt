@@ -1,16 +1,17 @@
-//! The map that a text spells, read in one pass: each byte gives its cell's class and its mark of
-//! swamp.
+//! The map that a text spells, read a row at a time: each byte gives its cell's class and its mark
+//! of swamp.
 ghost use Rattle.std.specs.Prelude.{◌≡◌, ◌≤◌, ◌^◌, ◌&&◌, ◌++◌, true, take, drop, map, IfOk};
 ghost use Rattle.std.specs.List.{concat};
 ghost use Rattle.pb_grid.specs.Lines.{lines_of};
-ghost use Rattle.pb_grid.specs.Reading.{Gives, added_to, is_side, class_of_byte, cells_of, row_of_map, rows_of_map, below_map, map_reading, is_swamp_byte, swamp_of};
+ghost use Rattle.pb_grid.specs.Reading.{Gives, added_to, is_side, cells_of, row_of_map, rows_of_map, below_map, map_reading, is_swamp_byte, swamp_of};
 
+use crate::classes::ClassTable;
 use crate::error::GridError;
 use crate::header::size_of_map;
 use crate::lines::split_line;
 use crate::words::is_blank_line;
 use pb_task::{Cells, Class, Swamp};
-use std::alloc::Global;
+use std::alloc::{AllocError, Global};
 
 // How many cells a side of a map may have.
 const LONGEST_SIDE: u32 = 2048;
@@ -26,65 +27,70 @@ pub struct MapParts {
     pub cells: Cells,
 }
 
-// The class of the cell that a byte represents.
-#[tactic(auto, unfolding(crate::specs::Reading::class_of_byte))]
-fn class_of_byte(byte: u8) -> Option<Class>
-    ensures { result ≡ class_of_byte byte }
-{
-    match byte {
-        b'.' | b'G' | b'S' => Some(Class::Land),
-        b'W' => Some(Class::Water),
-        b'@' | b'O' | b'T' => Some(Class::Blocked),
-        _ => None,
-    }
-}
-
-// Adds the cells that a row's bytes represent, and for each whether it is swamp. No cell is, unless
-// swamp is asked for.
+// Adds the cells that a row's bytes represent.
 fn add_cells(
     cells: &mut Vec<Class>,
-    marks: &mut Vec<bool>,
-    swamp: bool,
+    classes: &ClassTable,
     line: u64,
     row: &[u8],
 ) -> Result<(), GridError>
-    ensures gives { Gives (λ _. cells.new.items) result
+    ensures { Gives (λ _. cells.new.items) result
         (added_to cells.old.items (cells_of line 1 row.now)) }
-    ensures marks { IfOk result (λ _. marks.new.items ≡ marks.old.items
-        ++ map (is_swamp_byte swamp) row.now) }
 {
+    // The text has all of the row's bytes, so room for them all may be reserved.
+    cells.reserve(row.len())?;
     let mut col = 1;
     for byte in row {
-        let Some(class) = class_of_byte(*byte) else {
+        let Some(class) = classes.get(*byte) else {
             return Err(GridError::Cell { line, col });
         };
-        cells.push(class)?;
-        marks.push(swamp & (*byte == b'S'))?;
+        cells.push_reserved(class);
         col += 1;
     }
     Ok(())
 }
 
-// Adds the cells and marks of a row, which has as many bytes as the map is wide.
+// Adds the cells of a row, which has as many bytes as the map is wide.
 #[tactic(auto, unfolding(crate::specs::Reading::row_of_map))]
 fn add_row(
     cells: &mut Vec<Class>,
-    marks: &mut Vec<bool>,
-    swamp: bool,
+    classes: &ClassTable,
     width: u32,
     line: u64,
     row: &[u8],
 ) -> Result<(), GridError>
-    ensures gives { Gives (λ _. cells.new.items) result
+    ensures { Gives (λ _. cells.new.items) result
         (added_to cells.old.items (row_of_map width line row.now)) }
-    ensures marks { IfOk result (λ _. marks.new.items ≡ marks.old.items
-        ++ map (is_swamp_byte swamp) row.now) }
 {
     // The length is judged before the bytes, as the order of refusals has it.
     if row.len() != width as usize {
         return Err(GridError::Rows { line });
     }
-    add_cells(cells, marks, swamp, line, row)
+    add_cells(cells, classes, line, row)
+}
+
+// Adds for each byte of a row whether its cell is swamp, where swamp is asked for.
+fn add_swamp(marks: &mut Vec<bool>, row: &[u8]) -> Result<(), AllocError>
+    ensures { IfOk result (λ _. marks.new.items ≡ marks.old.items
+        ++ map (is_swamp_byte true) row.now) }
+{
+    marks.reserve(row.len())?;
+    for byte in row {
+        marks.push_reserved(*byte == b'S');
+    }
+    Ok(())
+}
+
+// Adds for each byte of a row whether its cell is swamp. No cell is, unless swamp is asked for.
+fn add_marks(marks: &mut Vec<bool>, swamp: bool, row: &[u8]) -> Result<(), AllocError>
+    ensures { IfOk result (λ _. marks.new.items ≡ marks.old.items
+        ++ map (is_swamp_byte swamp) row.now) }
+{
+    if swamp {
+        return add_swamp(marks, row);
+    }
+    marks.resize(marks.len() + row.len(), false)?;
+    Ok(())
 }
 
 // The cells of a map's rows, a mark for each of them, and the text below the rows.
@@ -103,13 +109,15 @@ fn rows_of_map(
     // No room is reserved for the stated size, which the text may not have.
     let mut cells = Vec::new(alloc);
     let mut marks = Vec::new(alloc);
+    let classes = ClassTable::new();
     let mut rest = text;
     for y in 0..height {
         let line = FIRST_ROW + u64::from(y);
         let Some((row, below)) = split_line(rest) else {
             return Err(GridError::Rows { line });
         };
-        add_row(&mut cells, &mut marks, swamp, width, line, row)?;
+        add_row(&mut cells, &classes, width, line, row)?;
+        add_marks(&mut marks, swamp, row)?;
         rest = below;
     }
     Ok((cells, marks, rest))

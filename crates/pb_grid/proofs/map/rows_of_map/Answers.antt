@@ -18,14 +18,14 @@ pub returns-in_err-add_row-clause-gives : goal.returns-in_err-add_row-clause-giv
 returns-in_err-add_row-clause-gives c =
     let p = err_from_is_err_and c.from_residual.result c.from_residual.ensures.1 in
     let number : c.from-line.result ≡ c.loop-y.y = c.from-line.ensures in
-    rw (p.1, p.2) (row_fails c.loop-y.cells.items c.args.width c.args.height c.loop-y.y (lines_of c.loop-y.rest.now) (rows_of_map c.args.width c.args.height 5 (lines_of c.args.text.now)) c.loop-y.invariant.so_far c.in_err-add_row.field-0.0 c.in-Some.row.now (lines_of c.in-Some.below.now) c.loop-y-test.true c.in-Some.ensures.some (rw number at c.in_err-add_row.ensures.gives))
+    rw (p.1, p.2) (row_fails c.loop-y.cells.items c.args.width c.args.height c.loop-y.y (lines_of c.loop-y.rest.now) (rows_of_map c.args.width c.args.height 5 (lines_of c.args.text.now)) c.loop-y.invariant.so_far c.in_err-add_row.field-0.0 c.in-Some.row.now (lines_of c.in-Some.below.now) c.loop-y-test.true c.in-Some.ensures.some (rw number at c.in_err-add_row.ensures))
 
 pub loop-y-preserved : goal.loop-y-preserved
 loop-y-preserved c =
     let number : c.from-line.result ≡ c.loop-y.y = c.from-line.ensures in
-    let added : c.add_row.new.marks.items ≡ c.loop-y.marks.items ++ map (is_swamp_byte c.args.swamp) c.in-Some.row.now = c.in_ok-add_row.ensures.marks in
+    let added : c.add_marks.new.marks.items ≡ c.loop-y.marks.items ++ map (is_swamp_byte c.args.swamp) c.in-Some.row.now = c.in_ok-add_marks.ensures in
     record {
-      so_far = row_read c.loop-y.cells.items c.args.width c.args.height c.loop-y.y (lines_of c.loop-y.rest.now) (rows_of_map c.args.width c.args.height 5 (lines_of c.args.text.now)) c.loop-y.invariant.so_far c.add_row.new.cells.items c.in-Some.row.now (lines_of c.in-Some.below.now) c.loop-y-test.true c.in-Some.ensures.some (rw number at c.in_ok-add_row.ensures.gives);
+      so_far = row_read c.loop-y.cells.items c.args.width c.args.height c.loop-y.y (lines_of c.loop-y.rest.now) (rows_of_map c.args.width c.args.height 5 (lines_of c.args.text.now)) c.loop-y.invariant.so_far c.add_row.new.cells.items c.in-Some.row.now (lines_of c.in-Some.below.now) c.loop-y-test.true c.in-Some.ensures.some (rw number at c.in_ok-add_row.ensures);
       marked = rw added (row_added (is_swamp_byte c.args.swamp) c.loop-y.marks.items (map (is_swamp_byte c.args.swamp) (concat (take c.args.height (lines_of c.args.text.now)))) c.args.height c.loop-y.y (lines_of c.loop-y.rest.now) (lines_of c.in-Some.below.now) c.in-Some.row.now c.loop-y-test.true c.in-Some.ensures.some c.loop-y.invariant.marked);
       behind = one_line_more c.loop-y.y c.in-Some.row.now (lines_of c.args.text.now) (lines_of c.loop-y.rest.now) (lines_of c.in-Some.below.now) c.loop-y.invariant.behind c.in-Some.ensures.some;
     }
