@@ -5,6 +5,11 @@ use Rattle.std.specs.Map.{lookup, set_value}
 use Rattle.pb_model.specs.Store.{Part, Rows}
 use Rattle.pb_lists.specs.Bundle.{Content, row_of}
 
+-- The list, and how many bundles fit in it without more memory.
+pub record PartList : Type 0 where
+  pub parts : List (ℕ × Content)
+  pub fits : ℕ
+
 -- the content of the block's bundle, or none if the block isn't among these
 abbrev pub content_in : List (ℕ × Content) → (block : ℕ) → Option Content
 content_in parts block = lookup (nat_eq block) parts
@@ -12,6 +17,10 @@ content_in parts block = lookup (nat_eq block) parts
 -- the block's bundle has this content, and all other bundles keep theirs
 abbrev pub with_content : List (ℕ × Content) → (block : ℕ) → Content → List (ℕ × Content)
 with_content parts block content = set_value (nat_eq block) parts content
+
+-- the same of a list with its room
+abbrev pub with_part : PartList → (block : ℕ) → Content → PartList
+with_part list block content = record list { parts = with_content list.parts block content }
 
 -- the rows of a bundle, or no row if there is none
 abbrev pub rows_in : Option Content → Part

@@ -27,12 +27,13 @@ impl Homes {
           bundles = vacated scope.now self.old.bundles;
           keys = self.old.keys;
         } }
-        ensures moved { result ≡ moved scope.now self.old.bundles }
+        ensures moved { result.parts ≡ moved scope.now self.old.bundles }
+        ensures fits { room ≤ result.fits }
         ensures out { (block : _) → content_at self.new block
             ≡ (if is_among scope.now block then None else content_at self.old block) }
-        ensures taken { (block : _) → content_in result block
+        ensures taken { (block : _) → content_in result.parts block
             ≡ (if is_among scope.now block then content_at self.old block else None) }
-        ensures order { keys_of result ≡ scope.now }
+        ensures order { keys_of result.parts ≡ scope.now }
     {
         let mut bundles = room.bundles;
         move_out(&mut self.bundles, scope, &mut bundles);
@@ -40,25 +41,28 @@ impl Homes {
     }
 
     /// Moves bundles home, each to its own place, which is empty. Their blocks' keys are noted
-    /// anew. The answer is the room that they leave empty. It takes no memory.
+    /// anew. The answer is the room that they leave empty: as many bundles fit as fitted in the
+    /// list. It takes no memory.
     pub fn bring_back(&mut self, parts: LentBundles) -> BundleRoom
-        requires { (block : _) → IsSome (content_in parts block) → IsVacant self.old.bundles block }
-        ensures back { self.new.bundles ≡ put_back parts self.old.bundles }
-        ensures noted { NotesKeys parts self.old.keys self.new.keys }
+        requires { (block : _) → IsSome (content_in parts.parts block)
+            → IsVacant self.old.bundles block }
+        ensures back { self.new.bundles ≡ put_back parts.parts self.old.bundles }
+        ensures noted { NotesKeys parts.parts self.old.keys self.new.keys }
         ensures home { (block : _) → content_at self.new block
-            ≡ option_or (content_in parts block) (content_at self.old block) }
+            ≡ option_or (content_in parts.parts block) (content_at self.old block) }
+        ensures room { parts.fits ≤ result }
     {
-        note_keys(&mut self.keys, &parts.bundles);
-        BundleRoom {
-            bundles: move_home(&mut self.bundles, parts.bundles),
-        }
+        let mut bundles = parts.bundles;
+        note_keys(&mut self.keys, &bundles);
+        move_home(&mut self.bundles, &mut bundles);
+        BundleRoom { bundles }
     }
 
     /// Notes the keys of blocks whose bundles are away, and stay so. It takes no memory.
     pub fn note(&mut self, parts: &LentBundles)
-        requires { (block : _) → IsSome (content_in parts.now block)
+        requires { (block : _) → IsSome (content_in parts.now.parts block)
             → IsVacant self.old.bundles block }
-        ensures noted { NotesKeys parts.now self.old.keys self.new.keys }
+        ensures noted { NotesKeys parts.now.parts self.old.keys self.new.keys }
         ensures bundles { self.new.bundles ≡ self.old.bundles }
     {
         note_keys(&mut self.keys, &parts.bundles);
@@ -74,6 +78,7 @@ fn move_out(bundles: &mut Vec<Option<Bundle>>, scope: &[u32], parts: &mut IndexM
     requires room { length scope.now ≤ spare parts.old }
     ensures left { bundles.new.items ≡ vacated scope.now bundles.old.items }
     ensures moved { parts.new.entries ≡ moved scope.now bundles.old.items }
+    ensures room { spare parts.old ≤ length parts.new.entries + spare parts.new }
 {
     for block in scope {
         move_one(bundles, *block, parts);
@@ -100,22 +105,20 @@ fn move_one(bundles: &mut Vec<Option<Bundle>>, block: u32, parts: &mut IndexMap<
     }
 }
 
-// Moves each bundle to its place. The answer is what is left, which is empty.
-fn move_home(
-    bundles: &mut Vec<Option<Bundle>>,
-    parts: IndexMap<u32, Bundle>,
-) -> IndexMap<u32, Bundle>
-    requires { (block : _) → IsSome (content_in parts.entries block)
+// Moves each bundle to its place. As many bundles fit afterwards as fitted in the list.
+fn move_home(bundles: &mut Vec<Option<Bundle>>, parts: &mut IndexMap<u32, Bundle>)
+    requires { (block : _) → IsSome (content_in parts.old.entries block)
         → block < length bundles.old.items }
-    ensures back { bundles.new.items ≡ put_back parts.entries bundles.old.items }
-    ensures empty { result.entries ≡ [] }
+    ensures back { bundles.new.items ≡ put_back parts.old.entries bundles.old.items }
+    ensures empty { parts.new.entries ≡ [] }
+    ensures room { length parts.old.entries + spare parts.old ≤ spare parts.new }
 {
-    let mut rest = parts;
+    // A drained map keeps its room, which a `pop` of each entry would not.
+    let mut rest = parts.drain(..);
     // Taken from the end, so that no entry has to move. Each goes to a place of its own.
-    while let Some((block, bundle)) = rest.pop() {
+    while let Some((block, bundle)) = rest.next_back() {
         put_home(bundles, block, bundle);
     }
-    rest
 }
 
 // Moves one bundle to its place.

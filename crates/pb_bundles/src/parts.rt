@@ -14,19 +14,23 @@ use std::marker::Model;
 const FEW: usize = 8;
 
 /// The bundles of some blocks that are away from home, as those of a lease are: each with its
-/// block, in the order in which they left.
+/// block, in the order in which they left. Contracts also see how many bundles fit in the list.
 #[derive(Drop)]
 pub struct LentBundles {
     pub(crate) bundles: IndexMap<u32, Bundle>,
 }
 
 impl Model for LentBundles {
-    ghost use Rattle.std.specs.Prelude.{List, ℕ};
-    ghost use Rattle.pb_lists.specs.Bundle.{Content};
+    ghost use Rattle.std.specs.Prelude.{◌+◌, length};
+    ghost use Rattle.indexmap.specs.IndexMap.{spare};
+    ghost use Rattle.pb_bundles.specs.Parts.{PartList};
 
-    ghost Value = { List (ℕ × Content) };
+    ghost Value = { PartList };
 
-    ghost view = { λ p. p.bundles.entries };
+    ghost view = { λ p. record {
+      parts = p.bundles.entries;
+      fits = length p.bundles.entries + spare p.bundles;
+    } };
 }
 
 /// Room for bundles that are to leave home, taken before they move. Contracts see how many bundles
@@ -71,8 +75,8 @@ impl BundleRoom {
 impl LentBundles {
     /// The bundle of a block that is among these.
     pub fn bundle(&self, block: u32) -> &Bundle
-        requires { IsSome (content_in self.now block) }
-        ensures { content_in self.now block ≡ Some result.now }
+        requires { IsSome (content_in self.now.parts block) }
+        ensures { content_in self.now.parts block ≡ Some result.now }
     {
         let at = self.place(block);
         match self.bundles.get_index(at) {
@@ -84,9 +88,9 @@ impl LentBundles {
     /// The bundle of a block that is among these, to be changed. A change to it changes no other
     /// bundle.
     pub fn bundle_mut(&mut self, block: u32) -> &mut Bundle
-        requires { IsSome (content_in self.old block) }
+        requires { IsSome (content_in self.old.parts block) }
         ensures* writes_back { sem 𝓛 (LendsBundle self.entry block result) }
-        ensures value { content_in self.old block ≡ Some result.now }
+        ensures value { content_in self.old.parts block ≡ Some result.now }
     {
         let at = self.place(block);
         self.bundles.pair_mut(at).1
@@ -95,9 +99,9 @@ impl LentBundles {
     // The place of a block that is among these. A few blocks are looked through, which is faster
     // than a hash.
     fn place(&self, block: u32) -> usize
-        requires { IsSome (content_in self.now block) }
-        ensures place { position (nat_eq block) (keys_of self.now) ≡ Some result }
-        ensures within { result < length self.now }
+        requires { IsSome (content_in self.now.parts block) }
+        ensures place { position (nat_eq block) (keys_of self.now.parts) ≡ Some result }
+        ensures within { result < length self.now.parts }
     {
         if self.bundles.len() <= FEW {
             match find(self.bundles.keys().as_slice(), block) {

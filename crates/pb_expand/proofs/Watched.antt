@@ -33,7 +33,7 @@ lesser_none (Some u) = refl
 
 -- it is the same lease after its incumbent fell
 same_lowered : (lease : LeaseValue) (found : Option ℕ) → IsSameLease lease (record lease { incumbent = lesser lease.incumbent found })
-same_lowered lease found = record { worker = refl; block = refl; quota = refl; weight = refl; choice = refl; places = refl; incumbent = lesser_at_most lease.incumbent found }
+same_lowered lease found = record { worker = refl; block = refl; quota = refl; weight = refl; choice = refl; places = refl; fits = refl; incumbent = lesser_at_most lease.incumbent found }
 
 -- ---- a watch
 

@@ -2,21 +2,21 @@
 -- have their noted keys.
 use Rattle.std.proofs.Common.{◌≡◌, ℕ, cond, ◌<◌, ◌⊎◌, inl, inr, Bool, true, false, not, ◌&&◌, ◌||◌, ◌==◌, List, [], ◌∷◌, Option, Some, None, is_some, is_none, length, get_or, nat_lt, refl, sym, ap, ◌∙◌, subst, arith, true≢false}
 use Rattle.pb_model.specs.declared.key.Key.{Key}
-use Rattle.pb_model.proofs.Callers.{and_true, not_true, by_cases, equal, below, not_below}
+use Rattle.pb_model.proofs.Callers.{and_true, not_true, by_cases, equal, equal_self, below, not_below}
 use Rattle.pb_machine.specs.declared.event.End.{End}
 use Rattle.pb_machine.specs.declared.event.End.TheVariants.{Memory}
 use Rattle.pb_machine.specs.declared.event.Event.{Event}
 use Rattle.pb_machine.specs.declared.event.Event.TheVariants.{Lease, Renew, Hot, Cold, Release, Ended}
 use Rattle.pb_machine.specs.declared.event.Grant.{Grant}
 use Rattle.pb_machine.specs.declared.settings.Settings.{Settings}
-use Rattle.pb_machine.specs.Tables.{with_entry}
 use Rattle.pb_machine.specs.Blocks.{Blocks, meets, interferes}
 use Rattle.pb_machine.specs.Choice.{ComesBefore}
-use Rattle.pb_machine.specs.Counts.{Counts, AreLawful, counts_after, is_lease_of, is_taken, is_near_hot, is_busy, with_quota}
+use Rattle.pb_machine.specs.Counts.{Counts, AreLawful, counts_after, is_lease_of, is_taken, is_near_hot, with_quota}
 use Rattle.pb_machine.proofs.Callers.{any_at, any_none, any_some, entry_else, entry_here, interference_is_mutual, releases_cool_near}
 use Rattle.pb_abstract.specs.Graph.{AbstractGraph, blocks_of, has}
 use Rattle.pb_bundles.specs.Choosing.{IsFirstBy, IsBetterBy}
 use Rattle.pb_bundles.proofs.Callers.{past}
+use Rattle.pb_machine.specs.Tables.{with_entry}
 use Rattle.pb_lease.specs.Tables.{Table, blocks, counts_of}
 use Rattle.pb_lists.specs.Bundle.{Content}
 use Rattle.pb_bundles.specs.Homes.{HomeTable}
@@ -24,7 +24,7 @@ use Rattle.pb_bundles.specs.Parts.{content_in}
 use Rattle.pb_bundles.specs.Moves.{NotesKeys}
 use Rattle.pb_lease.specs.Events.{Adds, counts_along, ending}
 use Rattle.pb_lease.specs.LeaseValue.{LeaseValue}
-use Rattle.pb_lease.specs.Leased.{grant_of}
+use Rattle.pb_lease.specs.Leased.{grant_of, FitsScopes}
 use Rattle.pb_lease.specs.GraphValue.{GraphValue, counts_in, IsLeaseGraph, IsOfGraph}
 use Rattle.pb_lease.proofs.GraphBasics.{setup_is, lawful_in}
 use Rattle.pb_lease.specs.Leasing.{can_be_leased, is_clear}
@@ -102,6 +102,16 @@ shows_on old new keys noted free shows same each = record {
   places = shows.places ∙ sym same;
   shown = λ block lt clear. let there : block < (blocks old).count = omega (arith, lt, same) in let both = each block there clear in shows.shown block there both.0 ∙ sym both.1;
 }
+
+-- the room for the greatest scope, after these events
+pub fits_on : (old new : Table) (events : List Event) → Adds old new events → (greatest : ℕ) → FitsScopes old.abstraction greatest → FitsScopes new.abstraction greatest
+fits_on old new events adds greatest = subst (λ (g : AbstractGraph). FitsScopes g greatest) (sym adds.abstraction)
+
+-- and after them or nothing
+pub fits_either : (old new : Table) (events : List Event) (answer : Bool) → (answer ≡ true → Adds old new events) → (answer ≡ false → new ≡ old) → (greatest : ℕ) → FitsScopes old.abstraction greatest → FitsScopes new.abstraction greatest
+fits_either old new events answer adds same greatest fits = by_cases answer
+    (λ e. fits_on old new events (adds e) greatest fits)
+    (λ e. subst (λ (table : Table). FitsScopes table.abstraction greatest) (sym (same e)) fits)
 
 -- ---- the choice
 
@@ -208,6 +218,17 @@ module _ (of : Blocks) (settings : Settings) (counts : Counts) (block : ℕ) whe
       go (inl cold) = inr (clear_to of workers counts block cold both.1)
       go (inr found) = inl (interference_is_mutual of cooled block ∙ subst (λ n. interferes of block n ≡ true) (equal found.0 cooled (by_cases (found.0 == cooled) (λ e. e) (λ e. absurd (true≢false (sym (ap (λ r. r && not (found.0 == cooled)) found.3 ∙ ap not e) ∙ found.4))))) found.2)
 
+  -- A lease forbids no other block that doesn't interfere with its own.
+  pub free_apart : (worker : ℕ) (own : Grant) → counts.leases worker ≡ Some own → (block == own.block) ≡ false → interferes of own.block block ≡ false
+      → is_taken of workers (with_entry counts.leases worker None) block ≡ false → is_taken of workers counts.leases block ≡ false
+  free_apart worker own leased other apart = taken_before of workers counts.leases (with_entry counts.leases worker None) block
+      (λ w it. by_cases (w == worker)
+      (λ e. absurd (true≢false (sym it ∙ ap (λ n. is_lease_of (meets of block) (counts.leases n)) (equal w worker e) ∙ ap (is_lease_of (meets of block)) leased ∙ meets_not)))
+      (λ e. ap (is_lease_of (meets of block)) (entry_else counts.leases worker w None e) ∙ it))
+    where
+      meets_not : meets of block own.block ≡ false
+      meets_not = sym (ap (λ r. not r && meets of block own.block) other) ∙ interference_is_mutual of block own.block ∙ apart
+
   -- It was clear, or near a hot block that became cold. Or it is the released block, or interferes with it.
   pub before_release : (worker used : ℕ) (memory : Bool) (own : Grant) → AreLawful of settings counts → counts.leases worker ≡ Some own → is_clear of workers (counts_after of settings counts (Release worker used memory)) block ≡ true
       → (block == own.block) ≡ false → interferes of own.block block ≡ false
@@ -217,14 +238,8 @@ module _ (of : Blocks) (settings : Settings) (counts : Counts) (block : ℕ) whe
       both : (is_near_hot of (counts_after of settings counts (Release worker used memory)).hot block ≡ false) × (is_taken of workers (counts_after of settings counts (Release worker used memory)).leases block ≡ false)
       both = clear_from of workers (counts_after of settings counts (Release worker used memory)) block clear
 
-      meets_not : meets of block own.block ≡ false
-      meets_not = sym (ap (λ r. not r && meets of block own.block) other) ∙ interference_is_mutual of block own.block ∙ apart
-
       free : is_taken of workers counts.leases block ≡ false
-      free = taken_before of workers counts.leases (counts_after of settings counts (Release worker used memory)).leases block
-          (λ w it. by_cases (w == worker)
-          (λ e. absurd (true≢false (sym it ∙ ap (λ n. is_lease_of (meets of block) (counts.leases n)) (equal w worker e) ∙ ap (is_lease_of (meets of block)) leased ∙ meets_not)))
-          (λ e. ap (is_lease_of (meets of block)) (entry_else counts.leases worker w None e) ∙ it)) both.1
+      free = free_apart worker own leased other apart both.1
 
       go : (is_near_hot of counts.hot block ≡ false) ⊎ ((hot : ℕ) × (hot < of.count) × (interferes of block hot ≡ true) × (counts.hot hot ≡ true) × ((counts_after of settings counts (Release worker used memory)).hot hot ≡ false))
           → ((hot : ℕ) × (interferes of own.block hot ≡ true) × (counts.hot hot ≡ true) × (interferes of hot block ≡ true)) ⊎ (is_clear of workers counts block ≡ true)
@@ -328,3 +343,24 @@ module _ (g : GraphValue) (k : IsLeaseGraph g) (lease : LeaseValue) (out : IsOfG
     where
       events : List Event
       events = Release lease.worker lease.used memory ∷ ending memory g.table.end
+
+  -- the lease came back, and its worker has another one
+  pub shows_switched : (leased quota : ℕ) (table : Table) (near : List ℕ) (noted free mid cleared after : List (Option Key)) → Adds g.table table (Release lease.worker lease.used false ∷ Lease lease.worker leased quota ∷ [])
+      → NotesKeys lease.parts g.homes.keys noted → ((c : ℕ) → has near c ≡ interferes (blocks g.table) lease.block c)
+      → ShowsClear g.table g.homes.keys free → Shows (IsBesideHot g.table lease.block) g.homes.keys free mid → Shows (IsClearIn table near) noted mid cleared → Shows (λ block. block ≡ lease.block) noted cleared after
+      → ShowsClear table noted after
+  shows_switched leased quota table near noted free mid cleared after adds notes each shows first second third =
+      shows_next g.table table (IsBesideHot g.table lease.block) (λ b. IsClearIn table near b ⊎ (b ≡ lease.block)) g.homes.keys noted free mid after shows first (shows_more (IsClearIn table near) (λ block. block ≡ lease.block) (λ b. IsClearIn table near b ⊎ (b ≡ lease.block)) noted mid cleared after second third (λ block it. it)) (blocks_stay g.table table events adds)
+      (λ block lt clear. by_cases (block == lease.block) (λ e. inl (inr (equal block lease.block e)))
+      (λ other. by_cases (interferes (blocks g.table) lease.block block) (λ e. inl (inl (each block ∙ e, clear)))
+      (λ apart. inr (
+        before_release (blocks g.table) g.table.settings (counts_in g) block lease.worker lease.used false (grant_of lease) (lawful_in g k) out.leased
+            (before_lease (blocks g.table) g.table.settings home block lease.worker leased quota (entry_here (counts_in g).leases lease.worker lease.worker None (equal_self lease.worker)) (sym (clear_moved g.table table events adds block) ∙ clear)) other apart,
+        notes.others block (apart_is_home block lt other apart),
+      ))))
+    where
+      events : List Event
+      events = Release lease.worker lease.used false ∷ Lease lease.worker leased quota ∷ []
+
+      home : Counts
+      home = counts_after (blocks g.table) g.table.settings (counts_in g) (Release lease.worker lease.used false)

@@ -1,5 +1,5 @@
 -- A lease that is given out.
-use Rattle.std.proofs.Common.{◌≡◌, ℕ, min, cond, is_some, Some, None, refl, sym, ap, ◌∙◌, List, [], ◌∷◌, true≢false}
+use Rattle.std.proofs.Common.{◌≡◌, ℕ, min, cond, is_some, Some, None, refl, sym, ap, subst, true, ◌∙◌, List, [], ◌∷◌, true≢false}
 use Rattle.pb_model.proofs.Callers.{by_cases, equal_self}
 use Rattle.pb_machine.specs.declared.event.Event.TheVariants.{Lease}
 use Rattle.pb_machine.specs.Settings.{weight_of}
@@ -12,26 +12,27 @@ use Rattle.pb_bundles.specs.Parts.{content_in}
 use Rattle.pb_bundles.specs.Homes.{HomeTable, content_at}
 use Rattle.pb_bundles.specs.Moves.{vacated}
 use Rattle.pb_lease.specs.Tables.{Table, blocks, rooms}
+use Rattle.pb_lease.specs.Leasing.{can_be_leased}
 use Rattle.pb_lease.specs.Events.{Adds}
 use Rattle.pb_lease.specs.LeaseValue.{LeaseValue}
-use Rattle.pb_lease.specs.Leased.{grant_of}
+use Rattle.pb_lease.specs.Leased.{grant_of, FitsScopes}
 use Rattle.pb_lease.specs.GraphValue.{GraphValue, counts_in, IsLeaseGraph, IsOfGraph}
 use Rattle.pb_lease.specs.Choices.{IsChoice}
 use Rattle.pb_lease.specs.Steps.{IsLeased}
 use Rattle.pb_lease.proofs.GraphBasics.{scope_home}
 
 module _ (old : GraphValue) (k : IsLeaseGraph old) (lease : LeaseValue) (table : Table) (homes : HomeTable) (scope : List ℕ) (each : (c : ℕ) → has scope c ≡ (blocks old.table).scope lease.block c)
-    (first : IsChoice old (Some lease.block)) (weight : lease.weight ≡ weight_of old.table.settings) (choice : lease.choice ≡ old.choice) (adds : Adds old.table table (Lease lease.worker lease.block lease.quota ∷ []))
+    (test : can_be_leased (blocks old.table) old.table.settings (counts_in old) lease.block ≡ true) (fits : FitsScopes old.table.abstraction lease.fits) (weight : lease.weight ≡ weight_of old.table.settings) (choice : lease.choice ≡ old.choice) (adds : Adds old.table table (Lease lease.worker lease.block lease.quota ∷ []))
     (taken : (c : ℕ) → content_in lease.parts c ≡ cond (has scope c) (content_at old.homes c) None) where
   abbrev New : GraphValue
   New = record { task = old.task; choice = old.choice; table = table; homes = homes; incumbent = old.incumbent }
 
-  moved : (c : ℕ) → content_in lease.parts c ≡ cond ((blocks old.table).scope lease.block c) (content_at old.homes c) None
+  pub moved : (c : ℕ) → content_in lease.parts c ≡ cond ((blocks old.table).scope lease.block c) (content_at old.homes c) None
   moved c = taken c ∙ ap (λ r. cond r (content_at old.homes c) None) (each c)
 
   has_scope : (c : ℕ) → is_some (content_in lease.parts c) ≡ (blocks old.table).scope lease.block c
   has_scope c = by_cases ((blocks old.table).scope lease.block c)
-      (λ e. ap is_some (moved c ∙ ap (λ r. cond r (content_at old.homes c) None) e) ∙ scope_home old k lease.block c first.0.0 e ∙ sym e)
+      (λ e. ap is_some (moved c ∙ ap (λ r. cond r (content_at old.homes c) None) e) ∙ scope_home old k lease.block c test e ∙ sym e)
       (λ e. ap is_some (moved c ∙ ap (λ r. cond r (content_at old.homes c) None) e) ∙ sym e)
 
   own_weight : (c : ℕ) (content : Content) → content_in lease.parts c ≡ Some content → content.weight ≡ lease.weight
@@ -39,17 +40,18 @@ module _ (old : GraphValue) (k : IsLeaseGraph old) (lease : LeaseValue) (table :
       (λ e. k.weights c content (sym (moved c ∙ ap (λ r. cond r (content_at old.homes c) None) e) ∙ is) ∙ sym weight)
       (λ e. absurd (true≢false (sym (ap is_some (sym (moved c ∙ ap (λ r. cond r (content_at old.homes c) None) e) ∙ is)))))
 
-  of_graph : IsOfGraph New lease
+  pub of_graph : IsOfGraph New lease
   of_graph = record {
     leased = ap (λ (c : Counts). c.leases lease.worker) adds.counts ∙ entry_here (counts_in old).leases lease.worker lease.worker (Some (grant_of lease)) (equal_self lease.worker);
     weight = weight ∙ ap weight_of (sym adds.settings);
     choice = choice;
     scope = record { blocks = λ c. has_scope c ∙ ap (λ (g : AbstractGraph). (blocks_of g).scope lease.block c) (sym adds.abstraction); weights = own_weight };
+    fits = subst (λ (g : AbstractGraph). FitsScopes g lease.fits) (sym adds.abstraction) fits;
   }
 
-  pub given : lease.quota ≡ min old.table.settings.lot old.table.left → lease.used ≡ 0 → lease.incumbent ≡ old.incumbent → homes ≡ record { bundles = vacated scope old.homes.bundles; keys = old.homes.keys }
+  pub given : IsChoice old (Some lease.block) → lease.quota ≡ min old.table.settings.lot old.table.left → lease.used ≡ 0 → lease.incumbent ≡ old.incumbent → homes ≡ record { bundles = vacated scope old.homes.bundles; keys = old.homes.keys }
       → ((c : ℕ) → content_at homes c ≡ cond (has scope c) None (content_at old.homes c)) → rooms table ≡ with_entry (rooms old.table) lease.worker 63 → IsLeased old lease.worker lease New
-  given quota used incumbent left out room = record {
+  given first quota used incumbent left out room = record {
     first = first;
     worker_is = refl;
     quota = quota;

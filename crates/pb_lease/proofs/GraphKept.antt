@@ -22,7 +22,7 @@ use Rattle.pb_lease.specs.declared.past.Past.{Past}
 use Rattle.pb_lease.specs.Tables.{Table, blocks, counts_of}
 use Rattle.pb_lease.specs.Events.{Adds, counts_along, ending}
 use Rattle.pb_lease.specs.LeaseValue.{LeaseValue}
-use Rattle.pb_lease.specs.Leased.{grant_of}
+use Rattle.pb_lease.specs.Leased.{grant_of, FitsScopes}
 use Rattle.pb_lease.specs.GraphValue.{GraphValue, counts_in, IsLeaseGraph, IsOfGraph}
 use Rattle.pb_lease.proofs.EndKept.{reported_counts, reported_history}
 use Rattle.pb_lease.proofs.GraphBasics.{lawful_in, known_block}
@@ -178,9 +178,9 @@ module _ (old : GraphValue) (k : IsLeaseGraph old) (lease : LeaseValue) (of : Is
       ∙ same_away (blocks old.table) old.table.settings.workers (counts_in old).leases lease.worker quota block)
 
   -- the lease is of the graph still, with its new quota
-  pub still_of_graph : (kept : LeaseValue) → kept.worker ≡ lease.worker → grant_of kept ≡ record { block = lease.block; quota = quota } → kept.weight ≡ lease.weight → kept.choice ≡ lease.choice → kept.parts ≡ lease.parts → kept.block ≡ lease.block
+  pub still_of_graph : (kept : LeaseValue) → kept.worker ≡ lease.worker → grant_of kept ≡ record { block = lease.block; quota = quota } → kept.weight ≡ lease.weight → kept.choice ≡ lease.choice → kept.parts ≡ lease.parts → kept.fits ≡ lease.fits → kept.block ≡ lease.block
       → (homes : HomeTable) (incumbent : Option ℕ) → IsOfGraph (record { task = old.task; choice = old.choice; table = table; homes = homes; incumbent = incumbent }) kept
-  still_of_graph kept worker grant weight choice parts block homes incumbent = record {
+  still_of_graph kept worker grant weight choice parts fits block homes incumbent = record {
     leased = ap (counts_of table).leases worker ∙ ap (λ (c : Counts). c.leases lease.worker) adds.counts
         ∙ entry_here (counts_in old).leases lease.worker lease.worker (with_quota quota ((counts_in old).leases lease.worker)) (equal_self lease.worker)
         ∙ ap (with_quota quota) of.leased ∙ ap (λ (g : Grant). Some g) (sym grant);
@@ -191,4 +191,5 @@ module _ (old : GraphValue) (k : IsLeaseGraph old) (lease : LeaseValue) (of : Is
           ∙ ap (λ (g : AbstractGraph). (blocks_of g).scope kept.block b) (sym adds.abstraction);
       weights = λ b content is. of.scope.weights b content (ap (λ (ps : List (ℕ × Content)). content_in ps b) (sym parts) ∙ is) ∙ sym weight;
     };
+    fits = subst (λ (g : AbstractGraph). FitsScopes g kept.fits) (sym adds.abstraction) (subst (FitsScopes old.table.abstraction) (sym fits) of.fits);
   }

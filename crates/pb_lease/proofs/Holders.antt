@@ -1,5 +1,5 @@
 -- What those who have a lease know of it while other events come.
-use Rattle.std.proofs.Common.{◌≡◌, ◌==◌, ℕ, Bool, false, List, [], ◌∷◌, Option, Some, None, refl, sym, ap, ◌∙◌}
+use Rattle.std.proofs.Common.{◌≡◌, ◌==◌, ℕ, Bool, false, List, [], ◌∷◌, Option, Some, None, refl, sym, ap, subst, ◌∙◌}
 use Rattle.pb_machine.specs.declared.event.End.{End}
 use Rattle.pb_machine.specs.declared.event.Event.{Event}
 use Rattle.pb_machine.specs.declared.event.Event.TheVariants.{Lease, Release}
@@ -11,6 +11,7 @@ use Rattle.pb_abstract.specs.Graph.{AbstractGraph, blocks_of}
 use Rattle.pb_lease.specs.Tables.{blocks}
 use Rattle.pb_lease.specs.Events.{Adds, counts_along, ending}
 use Rattle.pb_lease.specs.LeaseValue.{LeaseValue}
+use Rattle.pb_lease.specs.Leased.{FitsScopes}
 use Rattle.pb_lease.specs.GraphValue.{GraphValue, counts_in, IsOfGraph}
 use Rattle.pb_lease.specs.Steps.{IsLeased, IsReleased, IsEnded, end_events}
 use Rattle.pb_lease.proofs.MomentReturns.{ending_leases}
@@ -23,6 +24,7 @@ stays_of_graph old new events adds choice lease same of = record {
   weight = of.weight ∙ ap weight_of (sym adds.settings);
   choice = of.choice ∙ sym choice;
   scope = record { blocks = λ b. of.scope.blocks b ∙ ap (λ (g : AbstractGraph). (blocks_of g).scope lease.block b) (sym adds.abstraction); weights = of.scope.weights };
+  fits = subst (λ (g : AbstractGraph). FitsScopes g lease.fits) (sym adds.abstraction) of.fits;
 }
 
 -- another worker's lease changes no lease

@@ -1,5 +1,5 @@
 -- What a lease and a renewal keep.
-use Rattle.std.proofs.Common.{◌≡◌, ℕ, ◌+◌, ◌-◌, ◌<◌, ◌≤◌, ◌^◌, min, true, false, if◌then◌else◌, not, is_some, nat_lt, List, [], ◌∷◌, ◌++◌, length, get_or, slice_set, Option, Some, None, refl, sym, ap, ◌∙◌, arith, subst, length-set}
+use Rattle.std.proofs.Common.{◌≡◌, ℕ, ◌+◌, ◌-◌, ◌<◌, ◌≤◌, ◌^◌, min, true, false, if◌then◌else◌, not, ◌==◌, is_some, nat_lt, List, [], ◌∷◌, ◌++◌, length, get_or, slice_set, Option, Some, None, refl, sym, ap, ◌∙◌, arith, subst, length-set}
 use Rattle.std.proofs.lemmas.List.{get_or_past}
 use Rattle.pb_model.proofs.Callers.{by_cases, below, not_below}
 use Rattle.pb_machine.specs.declared.event.Event.{Event}
@@ -11,13 +11,13 @@ use Rattle.pb_machine.specs.Counts.{Counts, AreLawful, counts_after, with_quota,
 use Rattle.pb_machine.specs.Counters.{busy_count}
 use Rattle.pb_machine.specs.Legality.{refusal}
 use Rattle.pb_machine.specs.Choice.{counts_with_lease_home}
-use Rattle.pb_machine.proofs.Callers.{sum_with_entry, counts_same, events_change_busy, interference_is_mutual, counters_fit, histories_are_lawful}
+use Rattle.pb_machine.proofs.Callers.{entry_here, entry_else, sum_with_entry, counts_same, events_change_busy, interference_is_mutual, counters_fit, histories_are_lawful}
 use Rattle.pb_lease.specs.declared.seat.Seat.{Seat}
 use Rattle.pb_lease.specs.Tables.{Table, blocks, counts_of, seat_of, rooms}
 use Rattle.pb_lease.specs.Events.{Adds}
 use Rattle.pb_lease.specs.Leasing.{can_be_leased}
 use Rattle.pb_lease.specs.Kept.{IsKept, AreBusy}
-use Rattle.pb_lease.proofs.RoomKept.{LeavesRoom, event_room}
+use Rattle.pb_lease.proofs.RoomKept.{LeavesRoom, event_room, fewer_room}
 use Rattle.pb_lease.proofs.NextEvents.{history_with, lease_may, renewal_may}
 use Rattle.pb_lease.proofs.SeatLists.{seat_set, seat_kept, seat_bound, due_set}
 
@@ -45,9 +45,9 @@ module _ (t : Table) (busy near : List ℕ) (promised spare : ℕ) (k : IsKept t
 
   -- ---- a lease
 
-  module _ (worker block quota : ℕ) (quota_is : quota ≡ min t.settings.lot t.left) (after : List Event) (busier : List ℕ) (there : worker < length t.seats) where
+  module _ (worker block quota : ℕ) (quota_is : quota ≡ min t.settings.lot t.left) (after : List Event) (busier : List ℕ) (there : worker < length t.seats) (space : ℕ) where
     abbrev Leased : Seat
-    Leased = record { grant = Some (record { block = block; quota = quota }); room = 63; signed_off = false }
+    Leased = record { grant = Some (record { block = block; quota = quota }); room = space; signed_off = false }
 
     abbrev leased_table : Table
     leased_table = record t { seats = slice_set t.seats worker Leased; left = t.left - quota; journal = after }
@@ -60,24 +60,31 @@ module _ (t : Table) (busy near : List ℕ) (promised spare : ℕ) (k : IsKept t
     pub lease_adds : (counts_of t).signed_off worker ≡ false → after ≡ t.journal ++ Lease worker block quota ∷ [] → Adds t leased_table (Lease worker block (min t.settings.lot t.left) ∷ [])
     lease_adds stays is = subst (λ q. Adds t leased_table (Lease worker block q ∷ [])) quota_is (record { counts = leased_counts stays; journal = is; abstraction = refl; settings = refl; past = refl })
 
-    pub lease_room : rooms leased_table ≡ with_entry (rooms t) worker 63
+    pub lease_room : rooms leased_table ≡ with_entry (rooms t) worker space
     lease_room = λ i k'. seat_set t.seats worker Leased there (λ (s : Seat). s.room) k' i
 
-    pub lease_kept : (room : ℕ) → worker < t.settings.workers → (counts_of t).leases worker ≡ None → (counts_of t).signed_off worker ≡ false → block < (blocks t).count
+    -- no worker has more room than after a lease with a whole one
+    less_room : space ≤ 63 → (w : ℕ) → rooms leased_table w ≤ with_entry (rooms t) worker 63 w
+    less_room few w = by_cases (w == worker)
+        (λ e. let one = ap (λ (r : ℕ → ℕ). r w) lease_room in let two = entry_here (rooms t) worker w space e in let three = entry_here (rooms t) worker w 63 e in omega (arith, one, two, three, few))
+        (λ e. let one = ap (λ (r : ℕ → ℕ). r w) lease_room in let two = entry_else (rooms t) worker w space e in let three = entry_else (rooms t) worker w 63 e in omega (arith, one, two, three))
+
+    pub lease_kept : (room : ℕ) → space ≤ 63 → worker < t.settings.workers → (counts_of t).leases worker ≡ None → (counts_of t).signed_off worker ≡ false → block < (blocks t).count
         → can_be_leased (blocks t) t.settings (counts_of t) block ≡ true → after ≡ t.journal ++ Lease worker block quota ∷ [] → length busier ≡ length busy
-        → ((c : ℕ) → get_or busier c 0 ≡ get_or busy c 0 + one_if (interferes (blocks t) block c)) → promised + 64 ≤ room
-        → IsKept leased_table busier near (promised + 64) room
-    lease_kept room inside vacant stays known test is same each enough =
+        → ((c : ℕ) → get_or busier c 0 ≡ get_or busy c 0 + one_if (interferes (blocks t) block c)) → promised + (space + 1) ≤ room
+        → IsKept leased_table busier near (promised + (space + 1)) room
+    lease_kept room small inside vacant stays known test is same each enough =
         let allowed = lease_may (blocks t) t.settings (counts_of t) worker block known inside stays vacant refl k.history.range.lot.0 test in
         let may = subst (λ q. refusal (blocks t) t.settings (counts_of t) (Lease worker block q) ≡ None) (sym quota_is) allowed in
         let counts = leased_counts stays in
         let sums = due_set t.seats worker Leased there in
         let empty = ap (λ (o : Option Grant). if is_some o then (seat_of t.seats worker).room + 1 else 0) vacant in
         let stayed = ap (λ r. one_if (not r)) stays in
-        let left : LeavesRoom after (rooms leased_table) = event_room t.journal after (Lease worker block quota) (rooms t) (rooms leased_table) (k.within, k.left) tt lease_room is in
+        let left : LeavesRoom after (rooms leased_table) = fewer_room after (with_entry (rooms t) worker 63) (rooms leased_table)
+        (event_room t.journal after (Lease worker block quota) (rooms t) (with_entry (rooms t) worker 63) (k.within, k.left) tt refl is) (less_room small) in
         record {
           seats = length-set t.seats worker Leased ∙ k.seats;
-          rooms = seat_bound t.seats worker Leased there (λ (s : Seat). s.room) 63 (omega arith) k.rooms;
+          rooms = seat_bound t.seats worker Leased there (λ (s : Seat). s.room) 63 small k.rooms;
           own = k.own;
           busy_is = record {
             places = same ∙ k.busy_is.places;

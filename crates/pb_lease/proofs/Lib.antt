@@ -8,6 +8,7 @@ mod LeaseKept
 mod MarkKept
 mod RoomKept
 mod ReleaseKept
+mod SwitchKept
 mod FreeBlocks
 mod Opening
 mod LeasingLaws
@@ -24,6 +25,8 @@ mod Rivals
 mod Renewals
 mod Holders
 mod Switches
+mod Switched
+mod GoingOn
 mod StaysOut
 mod InOrder
 mod WorkedOut
@@ -37,3 +40,4 @@ mod Beginnings
 mod TableReopened
 mod GraphReopened
 mod Free
+mod WithHome

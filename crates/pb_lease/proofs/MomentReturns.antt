@@ -34,7 +34,7 @@ use Rattle.pb_lease.specs.Leased.{grant_of, IsOut, IsInTurns, IsOutInTurns}
 use Rattle.pb_lease.specs.GraphValue.{GraphValue, setup_in, counts_in, IsLeaseGraph, IsOfGraph}
 use Rattle.pb_lease.specs.Moments.{IsMomentAt, Follows, moves_of, ShowsTold, IsKnownThen}
 use Rattle.pb_lease.specs.Choices.{IsChoiceWithHome}
-use Rattle.pb_lease.specs.Steps.{ChoosesByRows, IsReleased, ReleasesNext, IsRenewed, RenewsNext, renewed_quota}
+use Rattle.pb_lease.specs.Steps.{ChoosesByRows, ChoosesAnyByRows, IsReleased, ReleasesNext, IsRenewed, RenewsNext, renewed_quota}
 use Rattle.pb_lease.proofs.NextEvents.{release_may, renewal_may}
 use Rattle.pb_lease.proofs.GraphBasics.{setup_is, lawful_in, passes_from, passes_to}
 use Rattle.pb_lease.proofs.MomentSteps.{same_setup, moment_as, may_then}
@@ -105,18 +105,21 @@ module _ (old : GraphValue) (k : IsLeaseGraph old) (lease : LeaseValue) (of : Is
     leased_then = ap (λ (c : Counts). c.leases lease.worker) m.counts ∙ of.leased
 
   -- the choice with the lease home, by the keys that are noted then
-  pub chosen_by_rows : (new : GraphValue) → NotesKeys lease.parts old.homes.keys new.homes.keys → ChoosesByRows old lease new
-  chosen_by_rows new noted recorded machine m =
+  pub chosen_any_by_rows : (new : GraphValue) → NotesKeys lease.parts old.homes.keys new.homes.keys → ChoosesAnyByRows old lease new
+  chosen_any_by_rows new noted recorded machine m block =
       let pass = can_be_leased (blocks old.table) old.table.settings (counts_with_lease_home (counts_in old) lease.worker lease.used) in
       let both = (first_choices_are_by_key (blocks old.table) old.table.settings (counts_with_lease_home (counts_in old) lease.worker lease.used) (Merged machine) (key_at new.homes) pass
-      (merged_keys recorded machine m new.homes.keys noted) (λ block le. get_or_past new.homes.keys block None (omega (arith, le, noted.count, k.key_places)))
-      (λ block lt. (
-        passes_from (blocks old.table) old.table.settings (counts_with_lease_home (counts_in old) lease.worker lease.used) block,
-        λ p. passes_to (blocks old.table) old.table.settings (counts_with_lease_home (counts_in old) lease.worker lease.used) block p.0 p.1 p.2 p.3,
-      ))).0 lease.block in
-      subst (λ (c : Counts). (IsChoiceWithHome old lease new (Some lease.block) → IsFirstChoice (blocks old.table) old.table.settings (counts_with_lease_home c lease.worker lease.used) (Merged machine) lease.block)
-      × (IsFirstChoice (blocks old.table) old.table.settings (counts_with_lease_home c lease.worker lease.used) (Merged machine) lease.block → IsChoiceWithHome old lease new (Some lease.block)))
+      (merged_keys recorded machine m new.homes.keys noted) (λ other le. get_or_past new.homes.keys other None (omega (arith, le, noted.count, k.key_places)))
+      (λ other lt. (
+        passes_from (blocks old.table) old.table.settings (counts_with_lease_home (counts_in old) lease.worker lease.used) other,
+        λ p. passes_to (blocks old.table) old.table.settings (counts_with_lease_home (counts_in old) lease.worker lease.used) other p.0 p.1 p.2 p.3,
+      ))).0 block in
+      subst (λ (c : Counts). (IsChoiceWithHome old lease new (Some block) → IsFirstChoice (blocks old.table) old.table.settings (counts_with_lease_home c lease.worker lease.used) (Merged machine) block)
+      × (IsFirstChoice (blocks old.table) old.table.settings (counts_with_lease_home c lease.worker lease.used) (Merged machine) block → IsChoiceWithHome old lease new (Some block)))
       (sym m.counts) both
+
+  pub chosen_by_rows : (new : GraphValue) → NotesKeys lease.parts old.homes.keys new.homes.keys → ChoosesByRows old lease new
+  chosen_by_rows new noted recorded machine m = chosen_any_by_rows new noted recorded machine m lease.block
 
   -- ---- a lease that comes back
 
@@ -188,6 +191,11 @@ module _ (old : GraphValue) (k : IsLeaseGraph old) (lease : LeaseValue) (of : Is
         refl,
         ordered recorded machine m out shows,
       )
+
+      pub released_store : (recorded : (worker : ℕ) → Rows) (machine : Machine) (m : IsMomentAt old recorded machine) (out : IsOut (setup_in old) machine (one_if memory) lease) (shows : ShowsTold old machine lease)
+          → (known : IsKnownThen machine lease new.incumbent) → (released_next recorded machine m out shows known).0.store ≡ merged_store ((blocks old.table).scope lease.block) (leased_store lease) machine.store
+      unfolding released_next
+      released_store recorded machine m out shows known = refl
 
   -- ---- a lease that goes on
 

@@ -1,5 +1,5 @@
 -- From one moment of a graph to the next: a lease, a renewal, a release.
-use Rattle.std.proofs.Common.{◌≡◌, ◌==◌, ℕ, ◌<◌, Bool, true, false, cond, List, [], ◌∷◌, Option, Some, None, refl, sym, ap, ◌∙◌, arith, subst, get_or}
+use Rattle.std.proofs.Common.{◌≡◌, ◌==◌, ℕ, ◌<◌, min, Bool, true, false, cond, is_some, List, [], ◌∷◌, Option, Some, None, refl, sym, ap, ◌∙◌, arith, subst, get_or}
 use Rattle.pb_model.specs.declared.key.Key.{Key}
 use Rattle.pb_model.specs.Store.{Rows}
 use Rattle.pb_model.proofs.Callers.{by_cases, equal_self, not_true}
@@ -14,17 +14,20 @@ use Rattle.pb_machine.specs.Machine.{Setup, Machine, lent_store, Moves, event_mo
 use Rattle.pb_machine.specs.Lawful.{IsLawful}
 use Rattle.pb_machine.specs.Whole.{IsWhole}
 use Rattle.pb_machine.proofs.Callers.{entry_here, entry_else, moves_keep_lawful, leasing_keeps_whole, recorded_rows_are_lent}
-use Rattle.pb_bundles.specs.Parts.{rows_in, away_rows}
+use Rattle.pb_bundles.specs.Parts.{content_in, rows_in, away_rows}
 use Rattle.pb_bundles.specs.Homes.{content_at, key_at, home_rows}
 use Rattle.pb_bundles.specs.Stores.{HasKeys}
 use Rattle.pb_lease.specs.Tables.{blocks}
+use Rattle.pb_lease.specs.Leasing.{can_be_leased}
+use Rattle.pb_lease.specs.Events.{Adds}
 use Rattle.pb_lease.specs.LeaseValue.{LeaseValue, leased_store}
 use Rattle.pb_lease.specs.Leased.{setup_of, grant_of, IsOutInTurns}
-use Rattle.pb_lease.specs.GraphValue.{GraphValue, setup_in, counts_in, IsLeaseGraph}
+use Rattle.pb_lease.specs.GraphValue.{GraphValue, setup_in, counts_in, IsLeaseGraph, IsOfGraph}
+use Rattle.pb_lease.specs.Choices.{IsChoice}
 use Rattle.pb_lease.specs.Moments.{IsMomentAt, Follows}
 use Rattle.pb_lease.specs.Steps.{IsLeased, LeasesNext}
 use Rattle.pb_lease.proofs.NextEvents.{lease_may}
-use Rattle.pb_lease.proofs.GraphBasics.{setup_is, chosen_known, has_opened, choice_is}
+use Rattle.pb_lease.proofs.GraphBasics.{setup_is, key_known, has_opened, choice_is}
 
 module _ (old new : GraphValue) where
   pub same_setup : new.task ≡ old.task → new.choice ≡ old.choice → new.table.abstraction ≡ old.table.abstraction → new.table.settings ≡ old.table.settings → new.table.past ≡ old.table.past → setup_in new ≡ setup_in old
@@ -51,14 +54,30 @@ none_told told worker none k = by_cases (k == worker) (λ e. entry_here told wor
 
 -- ---- a lease
 
-module _ (old : GraphValue) (k : IsLeaseGraph old) (lease : LeaseValue) (new : GraphValue) (l : IsLeased old lease.worker lease new) (inside : lease.worker < old.table.settings.workers)
+-- What a lease from a graph leaves, whether or not its block is the first choice there, and whatever room it has.
+pub record IsLent (old : GraphValue) (lease : LeaseValue) (new : GraphValue) : Type 0 where
+  pub may : can_be_leased (blocks old.table) old.table.settings (counts_in old) lease.block ≡ true
+  pub opened : is_some (key_at old.homes lease.block) ≡ true
+  pub quota : lease.quota ≡ min old.table.settings.lot old.table.left
+  pub used : lease.used ≡ 0
+  pub lent_incumbent : lease.incumbent ≡ old.incumbent
+  pub of_graph : IsOfGraph new lease
+  pub moved : (block : ℕ) → content_in lease.parts block ≡ cond ((blocks old.table).scope lease.block block) (content_at old.homes block) None
+  pub left : (block : ℕ) → content_at new.homes block ≡ cond ((blocks old.table).scope lease.block block) None (content_at old.homes block)
+  pub keys : new.homes.keys ≡ old.homes.keys
+  pub events : Adds old.table new.table (Lease lease.worker lease.block lease.quota ∷ [])
+  pub task : new.task ≡ old.task
+  pub choice : new.choice ≡ old.choice
+  pub incumbent : new.incumbent ≡ old.incumbent
+
+module _ (old : GraphValue) (k : IsLeaseGraph old) (lease : LeaseValue) (new : GraphValue) (l : IsLent old lease new) (inside : lease.worker < old.table.settings.workers)
     (vacant : (counts_in old).leases lease.worker ≡ None) (stays : (counts_in old).signed_off lease.worker ≡ false) where
   abbrev Scope : ℕ → Bool
   Scope = (blocks old.table).scope lease.block
 
   pub lease_is_legal : refusal (blocks old.table) old.table.settings (counts_in old) (Lease lease.worker lease.block lease.quota) ≡ None
   lease_is_legal = subst (λ q. refusal (blocks old.table) old.table.settings (counts_in old) (Lease lease.worker lease.block q) ≡ None) (sym l.quota)
-      (lease_may (blocks old.table) old.table.settings (counts_in old) lease.worker lease.block (chosen_known old k lease.block l.first) inside stays vacant refl k.legal.range.lot.0 l.first.0.0)
+      (lease_may (blocks old.table) old.table.settings (counts_in old) lease.worker lease.block (key_known old k lease.block l.opened) inside stays vacant refl k.legal.range.lot.0 l.may)
 
   setup : setup_in new ≡ setup_in old
   setup = same_setup old new l.task l.choice l.events.abstraction l.events.settings l.events.past
@@ -78,7 +97,7 @@ module _ (old : GraphValue) (k : IsLeaseGraph old) (lease : LeaseValue) (new : G
     moved = record {
       may = legal;
       counts = refl;
-      rows = (has_opened old k recorded machine m lease.block l.first.0.1, refl, (old.incumbent, m.incumbent lease.worker, refl), refl, refl, refl);
+      rows = (has_opened old k recorded machine m lease.block l.opened, refl, (old.incumbent, m.incumbent lease.worker, refl), refl, refl, refl);
     }
 
     whole : IsWhole (setup_in old) Next.counts (home_rows new.homes) (with_entry recorded lease.worker (away_rows lease.parts)) machine.store
@@ -127,14 +146,49 @@ module _ (old : GraphValue) (k : IsLeaseGraph old) (lease : LeaseValue) (new : G
           counts whole (λ worker. ap (machine.known worker) l.incumbent ∙ m.incumbent worker) (subst (λ (ks : List (Option Key)). HasKeys machine.store (λ block. get_or ks block None)) (sym l.keys) m.keys);
     }
 
-  pub leases_next : LeasesNext old lease new
-  leases_next recorded machine m = (
+  -- the machine with the lease, and what is true of it
+  pub lent_next : (recorded : (worker : ℕ) → Rows) (machine : Machine) → IsMomentAt old recorded machine
+      → (next : Machine) × Follows old machine (Lease lease.worker lease.block lease.quota ∷ []) new (with_entry recorded lease.worker (away_rows lease.parts)) next
+      × (next.given lease.worker ≡ lease.incumbent) × IsOutInTurns (setup_in new) next 0 lease
+      × (next.store ≡ machine.store) × (next.told ≡ with_entry machine.told lease.worker None)
+      × Moves (setup_in old) machine (event_move (Lease lease.worker lease.block lease.quota)) next
+      × (leased_store lease ≡ lent_store (setup_in old) lease.block next.store (next.given lease.worker))
+  lent_next recorded machine m = (
     Next recorded machine m,
     follows recorded machine m,
     given recorded machine m,
     subst (λ (s : Setup). IsOutInTurns s (Next recorded machine m) 0 lease) (sym setup) (out recorded machine m),
     refl,
     refl,
-    (Next recorded machine m, moved recorded machine m, choice_is old k recorded machine m lease.block l.first, refl),
+    moved recorded machine m,
     begins recorded machine m,
   )
+
+  pub leases_next : IsChoice old (Some lease.block) → LeasesNext old lease new
+  leases_next first recorded machine m = (
+    Next recorded machine m,
+    follows recorded machine m,
+    given recorded machine m,
+    subst (λ (s : Setup). IsOutInTurns s (Next recorded machine m) 0 lease) (sym setup) (out recorded machine m),
+    refl,
+    refl,
+    (Next recorded machine m, moved recorded machine m, choice_is old k recorded machine m lease.block first, refl),
+    begins recorded machine m,
+  )
+
+pub leased_lent : (old : GraphValue) (lease : LeaseValue) (new : GraphValue) → IsLeased old lease.worker lease new → IsLent old lease new
+leased_lent old lease new l = record {
+  may = l.first.0.0;
+  opened = l.first.0.1;
+  quota = l.quota;
+  used = l.used;
+  lent_incumbent = l.lent_incumbent;
+  of_graph = l.of_graph;
+  moved = l.moved;
+  left = l.left;
+  keys = l.keys;
+  events = l.events;
+  task = l.task;
+  choice = l.choice;
+  incumbent = l.incumbent;
+}

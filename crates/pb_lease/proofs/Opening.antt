@@ -8,7 +8,7 @@ use Rattle.pb_machine.specs.declared.settings.Settings.{Settings}
 use Rattle.pb_machine.specs.Settings.{AreInRange}
 use Rattle.pb_machine.specs.Counts.{Counts, opening_counts}
 use Rattle.pb_machine.specs.History.{replay}
-use Rattle.pb_machine.specs.Room.{room_after, KeepsWithinRoom}
+use Rattle.pb_machine.specs.Room.{KeepsWithinRoom}
 use Rattle.pb_machine.proofs.Callers.{any_false, defaults, counts_same, counters_begin_at_none}
 use Rattle.pb_abstract.specs.Graph.{AbstractGraph, IsGraph, blocks_of}
 use Rattle.pb_lease.specs.declared.seat.Seat.{Seat}
@@ -53,7 +53,7 @@ module _ (abstraction : AbstractGraph) (settings : Settings) (seats : List Seat)
       replays = ap (λ (j : List Event). replay (blocks_of abstraction) settings (opening_counts settings 0) j) journal_is ∙ ap (λ (n : Counts). Some n) (sym opening_is);
     };
     within = subst KeepsWithinRoom (sym journal_is) tt;
-    left = (λ i w. ap (λ (s : Seat). s.room) (seat_at w) i) ∙ ap room_after (sym journal_is);
+    left = λ w. let none = ap (λ (s : Seat). s.room) (seat_at w) in omega (arith, none);
     promised_is = let sums = ap (λ (s : List Seat). sum_by due_of s) seats_is ∙ sum_by-replicate due_of settings.workers vacant in omega (arith, sums);
     room = enough;
   }

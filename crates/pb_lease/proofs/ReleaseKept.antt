@@ -97,6 +97,15 @@ module _ (t : Table) (busy near : List ℕ) (promised spare : ℕ) (k : IsKept t
         pub release_room : rooms home_table ≡ with_entry (rooms t) worker 0
         release_room = λ i w. seat_set t.seats worker Home there (λ (s : Seat). s.room) w i
 
+        -- the room of the lease is among what is due
+        pub room_due : was.room + 1 ≤ promised
+        room_due =
+            let sums = due_set t.seats worker Home there in
+            let same_room = ap (λ (s : Seat). s.room) is_was in
+            let out = ap (λ (o : Option Grant). if is_some o then (seat_of t.seats worker).room + 1 else 0) has_lease in
+            let stayed = ap (λ (s : Seat). one_if (not s.signed_off)) is_was in
+            omega (arith, k.promised_is, sums, same_room, out, stayed)
+
         pub release_kept : (near' : List ℕ) (ended room : ℕ) → ended ≡ one_if (memory && is_none t.end) → AreMarks (blocks t) cooler near'
             → after ≡ (t.journal ++ Release worker used memory ∷ []) ++ ending memory t.end → room + (1 + ended) ≡ spare
             → IsKept home_table fewer near' (promised - (was.room + 1 + ended)) room

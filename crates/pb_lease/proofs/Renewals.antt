@@ -26,7 +26,7 @@ noted_twice parts old mid new first second block = by_cases (is_some (content_in
     best_keys_are_unique found.0.weight (row_of found.0) (get_or new block None) (get_or mid block None) (second.noted block found.0 found.1) (first.noted block found.0 found.1))
     (λ e. second.others block (none_found (content_in parts block) e))
 
-notes_both : (parts : List (ℕ × Content)) (old mid new : List (Option Key)) → NotesKeys parts old mid → NotesKeys parts mid new → NotesKeys parts old new
+pub notes_both : (parts : List (ℕ × Content)) (old mid new : List (Option Key)) → NotesKeys parts old mid → NotesKeys parts mid new → NotesKeys parts old new
 notes_both parts old mid new first second = record {
   noted = second.noted;
   others = λ block none. second.others block none ∙ first.others block none;

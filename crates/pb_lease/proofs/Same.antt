@@ -40,7 +40,7 @@ changes_on old mid new first second = record {
 }
 
 pub same_none : (lease : LeaseValue) → IsSameLease lease lease
-same_none lease = record { worker = refl; block = refl; quota = refl; weight = refl; choice = refl; places = refl; incumbent = at_most_self lease.incumbent }
+same_none lease = record { worker = refl; block = refl; quota = refl; weight = refl; choice = refl; places = refl; fits = refl; incumbent = at_most_self lease.incumbent }
 
 pub same_on : (old mid new : LeaseValue) → IsSameLease old mid → IsSameLease mid new → IsSameLease old new
 same_on old mid new first second = record {
@@ -50,6 +50,7 @@ same_on old mid new first second = record {
   weight = second.weight ∙ first.weight;
   choice = second.choice ∙ first.choice;
   places = second.places ∙ first.places;
+  fits = second.fits ∙ first.fits;
   incumbent = at_most_trans new.incumbent mid.incumbent old.incumbent second.incumbent first.incumbent;
 }
 
@@ -61,6 +62,7 @@ same_changed old new changes = record {
   weight = ap (λ (lease : LeaseValue). lease.weight) changes.others;
   choice = ap (λ (lease : LeaseValue). lease.choice) changes.others;
   places = changes.places;
+  fits = ap (λ (lease : LeaseValue). lease.fits) changes.others;
   incumbent = subst (λ (u : Option ℕ). AtMost u old.incumbent) (sym (ap (λ (lease : LeaseValue). lease.incumbent) changes.others)) (at_most_self old.incumbent);
 }
 

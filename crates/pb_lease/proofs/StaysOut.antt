@@ -10,7 +10,7 @@ use Rattle.pb_machine.specs.declared.event.Grant.{Grant}
 use Rattle.pb_machine.specs.Tables.{with_entry}
 use Rattle.pb_machine.specs.Counts.{Counts, with_quota}
 use Rattle.pb_machine.specs.History.{is_event_of}
-use Rattle.pb_machine.specs.Machine.{Setup, IsSetup, Machine, IsWorked, lent_store, with_incumbent, KeepsRows, CameBack, Happens, Move, event_move, tell_move, Moves, is_move_of}
+use Rattle.pb_machine.specs.Machine.{Setup, IsSetup, Machine, IsWorked, lent_store, with_incumbent, KeepsRows, CameBack, Happens, Move, event_move, tell_move, switch_move, Moves, is_move_of}
 use Rattle.pb_machine.specs.Turns.{AreLeaseTurns}
 use Rattle.pb_machine.specs.Lawful.{IsLawful}
 use Rattle.pb_machine.proofs.Callers.{entry_else, known_more, lease_work_stays, scopes_are_apart, known_stays, moves_keep_lawful}
@@ -97,9 +97,15 @@ module _ (setup : Setup) (greatest_cost : ℕ) (is_setup : IsSetup setup greates
       (known_stays setup (tell_move by cost ∷ []) machine next (next, told, refl) lease.worker)
       (λ i. lent_store setup lease.block (sym told.store i) (ap (λ (f : ℕ → Option ℕ). f lease.worker) (sym told.given) i))
 
-  one : (move : Move) → Moves setup machine move next → is_move_of lease.worker move ≡ false → Stays setup machine lease most_broken out next
-  one (event_move event) moved else = go event moved else
-  one (tell_move by cost) moved else = tell by cost moved
+one : (setup : Setup) (greatest_cost : ℕ) (is_setup : IsSetup setup greatest_cost) (machine : Machine) (lawful : IsLawful setup machine) (lease : LeaseValue) (most_broken : ℕ)
+    (out : IsOut setup machine most_broken lease) (next : Machine) (move : Move) → Moves setup machine move next → is_move_of lease.worker move ≡ false → Stays setup machine lease most_broken out next
+one setup greatest_cost is_setup machine lawful lease most_broken out next (event_move event) moved else = go setup greatest_cost is_setup machine lawful lease most_broken out next event moved else
+one setup greatest_cost is_setup machine lawful lease most_broken out next (tell_move by cost) moved else = tell setup greatest_cost is_setup machine lawful lease most_broken out next by cost moved
+one setup greatest_cost is_setup machine lawful lease most_broken out next (switch_move by used block quota) moved else =
+    let first = go setup greatest_cost is_setup machine lawful lease most_broken out moved.0 (Release by used false) moved.1 else in
+    let between = moves_keep_lawful setup greatest_cost (event_move (Release by used false)) machine moved.0 is_setup lawful moved.1 in
+    let second = go setup greatest_cost is_setup moved.0 between lease most_broken first.0 next (Lease by block quota) moved.2 else in
+    (second.0, λ turns. second.1 (first.1 turns))
 
 pub leases_stay_out : LeasesStayOut
 leases_stay_out setup greatest_cost [] machine next is lawful runs lease most_broken others out =

@@ -10,7 +10,7 @@ use Rattle.pb_machine.specs.Settings.{AreInRange, settings_with}
 use Rattle.pb_machine.specs.Tables.{sum_below}
 use Rattle.pb_machine.specs.Counts.{Counts, AreLawful, opening_counts, quota_of, quotas_out, is_any_out}
 use Rattle.pb_machine.specs.History.{replay}
-use Rattle.pb_machine.specs.Room.{room_after, KeepsWithinRoom}
+use Rattle.pb_machine.specs.Room.{KeepsWithinRoom}
 use Rattle.pb_machine.proofs.Callers.{any_false, any_none, defaults, counts_same, counters_begin_at_none, histories_are_lawful, none_leased, none_out_none_hot}
 use Rattle.pb_lease.specs.declared.seat.Seat.{Seat}
 use Rattle.pb_lease.specs.Tables.{Table, vacant, seat_of, blocks, counts_of, past_after}
@@ -76,7 +76,7 @@ module _ (t : Table) (busy near : List ℕ) (promised spare : ℕ) (k : IsKept t
         replays = ap (λ (j : List Event). replay (blocks t) again.settings (opening_counts again.settings t.spent) j) journal_is ∙ ap (λ (n : Counts). Some n) (sym again_counts);
       };
       within = subst KeepsWithinRoom (sym journal_is) tt;
-      left = (λ i w. rooms_are w i) ∙ ap room_after (sym journal_is);
+      left = λ w. let none = rooms_are w in omega (arith, none);
       promised_is = let sums = ap (λ (s : List Seat). sum_by due_of s) seats_are ∙ sum_by-replicate due_of (length t.seats) vacant in omega (arith, due_is, sums);
       room = enough;
     }

@@ -1,5 +1,5 @@
 -- Which block a graph leases next, and when the search is over.
-use Rattle.std.specs.Prelude.{◌≡◌, ℕ, ◌<◌, Bool, IsTrue, IsFalse, IsSome, Option, Some, None, ◌⊎◌}
+use Rattle.std.specs.Prelude.{◌≡◌, ℕ, ◌<◌, Bool, ◌&&◌, IsTrue, IsFalse, IsSome, Option, Some, None, ◌⊎◌}
 use Rattle.pb_machine.specs.declared.event.End.{End}
 use Rattle.pb_machine.specs.declared.event.End.TheVariants.{Quiet, Budget, Memory}
 use Rattle.pb_machine.specs.Blocks.{interferes}
@@ -8,7 +8,7 @@ use Rattle.pb_machine.specs.Choice.{counts_with_lease_home}
 use Rattle.pb_bundles.specs.Homes.{key_at}
 use Rattle.pb_bundles.specs.Choosing.{IsBetterBy, IsFirstBy}
 use Rattle.pb_lease.specs.Tables.{blocks, rooms}
-use Rattle.pb_lease.specs.Leasing.{can_be_leased}
+use Rattle.pb_lease.specs.Leasing.{can_be_leased, is_clear}
 use Rattle.pb_lease.specs.LeaseValue.{LeaseValue}
 use Rattle.pb_lease.specs.GraphValue.{GraphValue, counts_in}
 
@@ -24,6 +24,22 @@ abbrev pub IsChoiceWithHome : (old : GraphValue) → LeaseValue → (keyed : Gra
 IsChoiceWithHome old lease keyed =
     IsFirstBy (can_be_leased (blocks old.table) old.table.settings
     (counts_with_lease_home (counts_in old) lease.worker lease.used)) (key_at keyed.homes)
+
+-- whether the block may be leased with the lease home, if it has an Opened row
+abbrev pub can_be_leased_home : GraphValue → LeaseValue → (block : ℕ) → Bool
+can_be_leased_home g lease =
+    can_be_leased (blocks g.table) g.table.settings
+    (counts_with_lease_home (counts_in g) lease.worker lease.used)
+
+-- It is the best of those of these blocks that may be leased with the lease home. Or it is none, and
+-- there is no such block.
+abbrev pub IsBestWithHome : GraphValue → LeaseValue → (listed : ℕ → Bool) → Option ℕ → Type 0
+IsBestWithHome g lease listed =
+    IsFirstBy (λ block. listed block && can_be_leased_home g lease block) (key_at g.homes)
+
+-- whether no hot block and no leased one forbids a lease of the block
+abbrev pub is_clear_in : GraphValue → (block : ℕ) → Bool
+is_clear_in g = is_clear (blocks g.table) g.table.settings.workers (counts_in g)
 
 abbrev pub is_out_in : GraphValue → Bool
 is_out_in g = is_any_out g.table.settings.workers (counts_in g).leases

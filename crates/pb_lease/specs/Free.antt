@@ -2,11 +2,11 @@
 -- are noted. Any other block may have any key among them, since it can't be leased.
 use Rattle.std.specs.Prelude.{◌≡◌, ℕ, ◌<◌, ◌⊎◌, IsTrue, List, Option, None, length, get_or}
 use Rattle.pb_model.specs.declared.key.Key.{Key}
-use Rattle.pb_machine.specs.Blocks.{Blocks, interferes}
-use Rattle.pb_machine.specs.Counts.{Counts}
+use Rattle.pb_machine.specs.Blocks.{interferes}
 use Rattle.pb_abstract.specs.Graph.{has}
 use Rattle.pb_lease.specs.Tables.{Table, blocks, counts_of}
 use Rattle.pb_lease.specs.Leasing.{is_clear}
+use Rattle.pb_lease.specs.Leased.{FitsScopes}
 use Rattle.pb_lease.specs.GraphValue.{GraphValue, IsLeaseGraph}
 
 -- each clear block has its noted key
@@ -16,10 +16,11 @@ pub record ShowsClear (table : Table) (keys free : List (Option Key)) : Type 0 w
       → IsTrue (is_clear (blocks table) table.settings.workers (counts_of table) block)
       → get_or free block None ≡ get_or keys block None
 
--- what is true of every graph and of its keys for the choice
-pub record IsKeptGraph (g : GraphValue) (free : List (Option Key)) : Type 0 where
+-- what is true of every graph, of its keys for the choice, and of the length of its greatest scope
+pub record IsKeptGraph (g : GraphValue) (free : List (Option Key)) (greatest : ℕ) : Type 0 where
   pub lawful : IsLeaseGraph g
   pub shows : ShowsClear g.table g.homes.keys free
+  pub greatest_is : FitsScopes g.table.abstraction greatest
 
 -- Each of these blocks has its noted key now, and any other block has its noted key or what it had.
 pub record Shows (listed : ℕ → Type 0) (keys old new : List (Option Key)) : Type 0 where

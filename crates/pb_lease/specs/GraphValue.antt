@@ -15,7 +15,7 @@ use Rattle.pb_abstract.specs.Graph.{IsGraphOf}
 use Rattle.pb_bundles.specs.Homes.{HomeTable, content_at}
 use Rattle.pb_lease.specs.Tables.{Table, blocks, counts_of}
 use Rattle.pb_lease.specs.LeaseValue.{LeaseValue}
-use Rattle.pb_lease.specs.Leased.{setup_of, grant_of, HasScope}
+use Rattle.pb_lease.specs.Leased.{setup_of, grant_of, HasScope, FitsScopes}
 
 pub record GraphValue : Type 0 where
   pub task : TaskParts
@@ -51,8 +51,10 @@ pub record IsLeaseGraph (g : GraphValue) : Type 0 where
 
 -- The lease is the one that the graph gave to this worker. The graph's grant is the lease's, at the
 -- weight of the search and with its estimate, and the lease has the bundles of its block's scope.
+-- The bundles of any scope fit in their list without more memory.
 pub record IsOfGraph (g : GraphValue) (lease : LeaseValue) : Type 0 where
   pub leased : (counts_in g).leases lease.worker ≡ Some (grant_of lease)
   pub weight : lease.weight ≡ weight_of g.table.settings
   pub choice : lease.choice ≡ g.choice
   pub scope : HasScope g.table.abstraction lease
+  pub fits : FitsScopes g.table.abstraction lease.fits

@@ -36,13 +36,14 @@ due_of seat = (if is_some seat.grant then seat.room + 1 else 0) + one_if (not se
 abbrev pub due : List Seat → Option End → ℕ
 due seats end = sum_by due_of seats + one_if (is_none end)
 
--- the seats have the room that the journal leaves
+-- The seats have no more room than the journal leaves. They have less after a worker went on to
+-- another block at once: its new lease has what was left of the room, and no whole one.
 abbrev pub HasRoomLeft : Table → Type 0
-HasRoomLeft table = rooms table ≡ room_after table.journal
+HasRoomLeft table = (worker : ℕ) → rooms table worker ≤ room_after table.journal worker
 
 -- What holds of the tables, of the counters beside them, of the number of events that are due, and
 -- of the room in the journal. Each event was within the room of its worker's lease, and the seats
--- have the room that the journal leaves.
+-- have no more room than the journal leaves.
 pub record IsKept (table : Table) (busy near : List ℕ) (promised spare : ℕ) : Type 0 where
   pub seats : length table.seats ≡ table.settings.workers
   pub rooms : (worker : ℕ) → (seat_of table.seats worker).room ≤ 63

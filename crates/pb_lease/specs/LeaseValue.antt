@@ -9,7 +9,8 @@ use Rattle.pb_bundles.specs.Parts.{content_in, with_content, away_rows}
 
 -- The worker that has the lease, its block, and how many expansions it may make and has made. Then
 -- the least cost at which a goal is known to be reached, or none. Then the weight of the search,
--- the choice of its estimate, and the bundles of the block's scope.
+-- the choice of its estimate, the bundles of the block's scope, and how many bundles fit in their
+-- list without more memory.
 pub record LeaseValue : Type 0 where
   pub worker : ℕ
   pub block : ℕ
@@ -19,6 +20,7 @@ pub record LeaseValue : Type 0 where
   pub weight : Weight
   pub choice : Choice
   pub parts : List (ℕ × Content)
+  pub fits : ℕ
 
 -- the lease's rows with its incumbent, as a store
 abbrev pub leased_store : LeaseValue → Store
@@ -42,7 +44,8 @@ pub record IsLease (lease : LeaseValue) : Type 0 where
   pub few : lease.quota ≤ 2 ^ 20
 
 -- It is a lease of the same block for the same worker, with the same quota, weight and estimate and
--- with bundles of the same blocks. The incumbent is no greater.
+-- with bundles of the same blocks. As many bundles fit in their list, and the incumbent is no
+-- greater.
 pub record IsSameLease (old new : LeaseValue) : Type 0 where
   pub worker : new.worker ≡ old.worker
   pub block : new.block ≡ old.block
@@ -50,4 +53,5 @@ pub record IsSameLease (old new : LeaseValue) : Type 0 where
   pub weight : new.weight ≡ old.weight
   pub choice : new.choice ≡ old.choice
   pub places : keys_of new.parts ≡ keys_of old.parts
+  pub fits : new.fits ≡ old.fits
   pub incumbent : AtMost new.incumbent old.incumbent

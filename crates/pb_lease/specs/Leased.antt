@@ -1,5 +1,6 @@
 -- What a search by leases is, and what the holder of a lease that is out has done with it.
-use Rattle.std.specs.Prelude.{◌≡◌, ℕ, Some, is_some}
+use Rattle.std.specs.Prelude.{◌≡◌, ℕ, ◌<◌, ◌≤◌, List, length, Some, is_some}
+use Rattle.std.specs.List.Sorted.{IsStrictlyIncreasing}
 use Rattle.pb_model.specs.Guide.{Guide}
 use Rattle.pb_machine.specs.declared.event.Grant.{Grant}
 use Rattle.pb_machine.specs.declared.settings.Settings.{Settings}
@@ -9,7 +10,7 @@ use Rattle.pb_task.specs.declared.parts.TaskParts.{TaskParts}
 use Rattle.pb_task.specs.Parts.{space_of}
 use Rattle.pb_estimate.specs.Choices.{Choice}
 use Rattle.pb_estimate.specs.Estimates.{estimate_by}
-use Rattle.pb_abstract.specs.Graph.{AbstractGraph, blocks_of, home_of}
+use Rattle.pb_abstract.specs.Graph.{AbstractGraph, blocks_of, has, home_of}
 use Rattle.pb_bundles.specs.Parts.{content_in}
 use Rattle.pb_lease.specs.LeaseValue.{LeaseValue, leased_store, HasWeights}
 
@@ -61,3 +62,11 @@ pub record HasScope (abstraction : AbstractGraph) (lease : LeaseValue) : Type 0 
   pub blocks : (block : ℕ) → is_some (content_in lease.parts block)
       ≡ (blocks_of abstraction).scope lease.block block
   pub weights : HasWeights lease
+
+-- so many bundles are enough for those of any scope
+abbrev pub FitsScopes : AbstractGraph → (fits : ℕ) → Type 0
+FitsScopes abstraction fits =
+    (block : ℕ) (scope : List ℕ) → block < (blocks_of abstraction).count
+    → IsStrictlyIncreasing scope
+    → ((other : ℕ) → has scope other ≡ (blocks_of abstraction).scope block other)
+    → length scope ≤ fits

@@ -37,13 +37,19 @@ abbrev pub moves_of : List Event → List Move
 moves_of [] = []
 moves_of (event ∷ events) = event_move event ∷ moves_of events
 
--- From this machine these events lead to one that the new graph is a moment of. The search is the
+-- From this machine these moves lead to one that the new graph is a moment of. The search is the
 -- same.
-pub record Follows (old : GraphValue) (machine : Machine) (events : List Event) (new : GraphValue)
+pub record FollowsBy (old : GraphValue) (machine : Machine) (made : List Move) (new : GraphValue)
     (recorded : (worker : ℕ) → Rows) (next : Machine) : Type 0 where
   pub setup : setup_in new ≡ setup_in old
-  pub moves : Runs (setup_in old) machine (moves_of events) next
+  pub moves : Runs (setup_in old) machine made next
   pub moment : IsMomentAt new recorded next
+
+-- the same by these events
+abbrev pub Follows : (old : GraphValue) → Machine → List Event → (new : GraphValue)
+    → (recorded : (worker : ℕ) → Rows) → (next : Machine) → Type 0
+Follows old machine events new recorded next =
+    FollowsBy old machine (moves_of events) new recorded next
 
 -- The same, with each of the events in order, and with both graphs having their machine's
 -- incumbent.

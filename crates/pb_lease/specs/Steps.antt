@@ -1,5 +1,5 @@
 -- What each call of a graph leaves.
-use Rattle.std.specs.Prelude.{◌≡◌, ℕ, ◌+◌, ◌-◌, ◌<◌, ◌↔◌, min, Bool, false, IsTrue, if◌then◌else◌, List, [], ◌∷◌, Option, Some, None}
+use Rattle.std.specs.Prelude.{◌≡◌, ◌≢◌, ℕ, ◌+◌, ◌-◌, ◌<◌, ◌≤◌, ◌↔◌, ◌⊎◌, min, Bool, false, IsTrue, if◌then◌else◌, List, [], ◌∷◌, Option, Some, None}
 use Rattle.std.specs.Option.{option_or}
 use Rattle.pb_model.specs.Store.{Rows, lesser}
 use Rattle.pb_model.specs.Local.{merged_store}
@@ -8,7 +8,7 @@ use Rattle.pb_machine.specs.declared.event.Event.{Event}
 use Rattle.pb_machine.specs.declared.event.Event.TheVariants.{Lease, Renew, Release, Off, Ended}
 use Rattle.pb_machine.specs.Tables.{with_entry, one_if}
 use Rattle.pb_machine.specs.Choice.{IsFirstChoice, counts_with_lease_home}
-use Rattle.pb_machine.specs.Machine.{Machine, lent_store, KeepsRows}
+use Rattle.pb_machine.specs.Machine.{Machine, Move, switch_move, lent_store, KeepsRows}
 use Rattle.pb_machine.specs.Turns.{RunsInOrder}
 use Rattle.pb_bundles.specs.Parts.{content_in, away_rows}
 use Rattle.pb_bundles.specs.Homes.{content_at}
@@ -19,7 +19,7 @@ use Rattle.pb_lease.specs.LeaseValue.{LeaseValue, leased_store}
 use Rattle.pb_lease.specs.Leased.{IsOut, IsInTurns, IsOutInTurns}
 use Rattle.pb_lease.specs.GraphValue.{GraphValue, setup_in, IsOfGraph}
 use Rattle.pb_lease.specs.Choices.{IsChoice, IsChoiceWithHome}
-use Rattle.pb_lease.specs.Moments.{IsMomentAt, Follows, ShowsTold, IsKnownThen, brought_incumbent, moves_of}
+use Rattle.pb_lease.specs.Moments.{IsMomentAt, Follows, FollowsBy, ShowsTold, IsKnownThen, brought_incumbent, moves_of}
 
 -- ---- a lease
 
@@ -196,19 +196,86 @@ ChoosesByRows old lease new =
     (merged_store ((blocks old.table).scope lease.block) (leased_store lease) machine.store)
     lease.block
 
--- ---- a lease that comes back, and another one at once
+-- The same of whichever block is the first choice with the lease home.
+abbrev pub ChoosesAnyByRows : (old : GraphValue) → LeaseValue → (new : GraphValue) → Type 0
+ChoosesAnyByRows old lease new =
+    (recorded : (worker : ℕ) → Rows) (machine : Machine) → IsMomentAt old recorded machine
+    → (block : ℕ) → IsChoiceWithHome old lease new (Some block)
+    ↔ IsFirstChoice (blocks old.table) old.table.settings
+    (counts_with_lease_home machine.counts lease.worker lease.used)
+    (merged_store ((blocks old.table).scope lease.block) (leased_store lease) machine.store)
+    block
 
--- The lease doesn't go on: with it home its block isn't the first choice, or its room is used up.
--- It comes back, which leaves the graph `between`. From there the worker has the next lease, of the
--- first choice. The release and the lease are the two events, each by its own law.
+-- ---- a worker that goes on to another block
+
+-- With the lease home another block is the first choice, and the room is enough for the return of
+-- the lease and for the next lease.
+abbrev pub GoesOver : (old : GraphValue) → LeaseValue → (new : GraphValue) → (block : ℕ) → Type 0
+GoesOver old lease new block =
+    IsChoiceWithHome old lease new (Some block) × (block ≢ lease.block)
+    × (1 < rooms old.table lease.worker)
+
+-- The worker can't go on: with the lease home no block may be leased, or the room is too small. A
+-- renewal takes one of it, and another block takes two.
+abbrev pub ComesBack : (old : GraphValue) → LeaseValue → (new : GraphValue) → Type 0
+ComesBack old lease new =
+    IsChoiceWithHome old lease new None
+    ⊎ (IsChoiceWithHome old lease new (Some lease.block)
+    × (rooms old.table lease.worker ≡ 0))
+    ⊎ ((block : ℕ) × IsChoiceWithHome old lease new (Some block) × (block ≢ lease.block)
+    × (rooms old.table lease.worker ≤ 1))
+
+-- the move of a worker that goes on to the block of the next lease
+abbrev pub switch_of : (lease next : LeaseValue) → Move
+switch_of lease next = switch_move lease.worker lease.used next.block next.quota
+
+-- its events
+abbrev pub switch_events : (lease next : LeaseValue) → List Event
+switch_events lease next =
+    Release lease.worker lease.used false ∷ Lease lease.worker next.block next.quota ∷ []
+
+-- The lease came back, and its worker has the next one. The bundles of the lease are home, but for
+-- those of the next one's scope, and their keys are noted. The incumbent is the lesser of both. The
+-- next lease has a lot, or all that is left with what the lease didn't use, and the rest of its
+-- room. The release and the lease are the two events, and all else is as before.
 pub record IsSwitched (old : GraphValue) (lease next : LeaseValue) (new : GraphValue) : Type 0 where
-  pub between : GraphValue
-  pub stays_not : GoesOn old lease between → ⊥
-  pub first : ChoosesByRows old lease between
-  pub released : IsReleased old lease false between
-  pub released_moment : ReleasesNext old lease false between
-  pub leased : IsLeased between lease.worker next new
-  pub leased_moment : LeasesNext between next new
+  pub worker_is : next.worker ≡ lease.worker
+  pub quota : next.quota ≡ renewed_quota old lease
+  pub used : next.used ≡ 0
+  pub lent_incumbent : next.incumbent ≡ lesser old.incumbent lease.incumbent
+  pub of_graph : IsOfGraph new next
+  pub moved : (block : ℕ) → content_in next.parts block
+      ≡ (if (blocks old.table).scope next.block block
+      then option_or (content_in lease.parts block) (content_at old.homes block) else None)
+  pub left : (block : ℕ) → content_at new.homes block
+      ≡ (if (blocks old.table).scope next.block block then None
+      else option_or (content_in lease.parts block) (content_at old.homes block))
+  pub noted : NotesKeys lease.parts old.homes.keys new.homes.keys
+  pub events : Adds old.table new.table (switch_events lease next)
+  pub room : rooms new.table ≡ with_entry (rooms old.table) lease.worker
+      (rooms old.table lease.worker - 2)
+  pub task : new.task ≡ old.task
+  pub choice : new.choice ≡ old.choice
+  pub incumbent : new.incumbent ≡ lesser old.incumbent lease.incumbent
+
+-- From each such moment of the old graph the worker goes on to one of the new graph in one move.
+-- What the next lease has is recorded for it there, and it has done nothing yet: it has the rows
+-- that it is lent. The move is in order if the lease has worked in turns.
+abbrev pub SwitchesNext : (old : GraphValue) → (lease next : LeaseValue) → (new : GraphValue)
+    → Type 0
+SwitchesNext old lease next new =
+    (recorded : (worker : ℕ) → Rows) (machine : Machine) → IsMomentAt old recorded machine
+    → (out : IsOut (setup_in old) machine 0 lease)
+    → ShowsTold old machine lease → IsKnownThen machine lease new.incumbent
+    → (after : Machine) × FollowsBy old machine (switch_of lease next ∷ []) new
+    (with_entry recorded lease.worker (away_rows next.parts)) after
+    × (after.given next.worker ≡ next.incumbent) × IsOutInTurns (setup_in new) after 0 next
+    × (after.store.incumbent ≡ brought_incumbent machine lease)
+    × (after.told ≡ with_entry machine.told lease.worker None)
+    × (IsInTurns (setup_in old) machine 0 lease out
+    → RunsInOrder (setup_in old) machine (switch_of lease next ∷ []) after)
+    × (leased_store next
+    ≡ lent_store (setup_in old) next.block after.store (after.given next.worker))
 
 -- ---- a cost that is known before its lease comes back
 

@@ -25,12 +25,11 @@ pub enum Renewed {
 
 /// The reply to a worker that asks to go on with its lease, or else with another one.
 pub enum SwitchReply {
-    /// The lease came back, and the worker has this one, of the first choice then.
+    /// The lease came back, and the worker has this one: with the lease home its block was the
+    /// first choice.
     Switched(Lease),
     /// The lease goes on: with it home its block would be the first choice.
     Kept(Lease),
-    /// The lease came back, and its room was used up, or no block may be leased.
+    /// The lease came back: with it home no block may be leased, or its room is too small.
     Given,
-    /// The lease came back. Out of memory: no other lease was given.
-    Memory,
 }

@@ -39,7 +39,8 @@ impl Model for Lease {
       incumbent = l.incumbent;
       weight = record { num = l.num; den = l.den };
       choice = l.choice;
-      parts = l.parts;
+      parts = l.parts.parts;
+      fits = l.parts.fits;
     } };
 
     ghost invariant = { λ l. IsLease (record {
@@ -50,7 +51,8 @@ impl Model for Lease {
       incumbent = l.incumbent;
       weight = record { num = l.num; den = l.den };
       choice = l.choice;
-      parts = l.parts;
+      parts = l.parts.parts;
+      fits = l.parts.fits;
     }) };
 }
 

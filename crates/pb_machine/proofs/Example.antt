@@ -16,8 +16,8 @@ use Rattle.pb_machine.specs.declared.event.Event.{Event}
 use Rattle.pb_machine.specs.declared.event.Event.TheVariants.{Lease, Release, Off, Ended}
 use Rattle.pb_machine.specs.Tables.{with_entry}
 use Rattle.pb_machine.specs.Counts.{counts_after}
-use Rattle.pb_machine.specs.Machine.{Setup, IsSetup, with_known, with_incumbent, Machine, opening_machine, lent_store, CameBack, Happens, Tells, event_move, tell_move, Runs}
-use Rattle.pb_machine.specs.Choice.{IsBetter, IsFirstChoice}
+use Rattle.pb_machine.specs.Machine.{Setup, IsSetup, with_known, with_incumbent, Machine, opening_machine, lent_store, CameBack, Happens, Tells, event_move, tell_move, switch_move, Runs}
+use Rattle.pb_machine.specs.Choice.{IsBetter, IsFirstChoice, counts_with_lease_home}
 use Rattle.pb_machine.specs.Turns.{CameBackInTurns, RunsInOrder}
 use Rattle.pb_machine.specs.Lawful.{IsLawful}
 use Rattle.pb_machine.proofs.Moments.{opening_keeps, run_keeps, sound_after}
@@ -244,18 +244,18 @@ first_is_start = record {
         let bad : ◌≡◌ {A = Option Row} None (Some row) = ap (m0.store.rows 1) (own_row m0 lawful_start 1 state row found) ∙ found in cc
     which (suc (suc other)) lt opened = absurd (omega arith)
 
+goal_is_best : (other : ℕ) → other < 2 → HasOpened (m2.store.rows other) → (other ≡ 1) ⊎ IsBetter m2.store 1 other
+goal_is_best zero lt (state, row, found, opened) =
+    let is : ◌≡◌ {A = Option Row} (Some (record start_row { status = Closed })) (Some row) = ap (m2.store.rows 0) (own_row m2 lawful_between 0 state row found) ∙ found in
+    let bad : Closed ≡ Opened = ap (λ (r : Row). r.status) (some_row (record start_row { status = Closed }) row is) ∙ opened in cc
+goal_is_best (suc zero) lt opened = inl refl
+goal_is_best (suc (suc other)) lt opened = absurd (omega arith)
+
 first_is_goal : IsFirstChoice setup.blocks setup.settings m2.counts m2.store 1
 first_is_goal = record {
   may = record { known = omega arith; opened = (1, goal_row, refl, refl); free = refl; not_near_hot = refl; left = omega arith; no_end = refl };
-  best = λ other may. which other may.known may.opened;
+  best = λ other may. goal_is_best other may.known may.opened;
 }
-  where
-    which : (other : ℕ) → other < 2 → HasOpened (m2.store.rows other) → (other ≡ 1) ⊎ IsBetter m2.store 1 other
-    which zero lt (state, row, found, opened) =
-        let is : ◌≡◌ {A = Option Row} (Some (record start_row { status = Closed })) (Some row) = ap (m2.store.rows 0) (own_row m2 lawful_between 0 state row found) ∙ found in
-        let bad : Closed ≡ Opened = ap (λ (r : Row). r.status) (some_row (record start_row { status = Closed }) row is) ∙ opened in cc
-    which (suc zero) lt opened = inl refl
-    which (suc (suc other)) lt opened = absurd (omega arith)
 
 expanded_in_turns : CameBackInTurns setup m1 0 1 0 m2.store
 unfolding came_from_start
@@ -275,5 +275,26 @@ example_runs_in_order = (
     expanded_start,
     expanded_in_turns,
     (m3, leased_goal, first_is_goal, (told, told_cost, tt, (m4, took_goal, took_in_turns, refl))),
+  ),
+)
+
+-- ---- the same search with a switch from the first block to the second
+
+goal_is_next : IsFirstChoice setup.blocks setup.settings (counts_with_lease_home m1.counts 0 1) m3.store 1
+goal_is_next = record {
+  may = record { known = omega arith; opened = (1, goal_row, refl, refl); free = refl; not_near_hot = refl; left = omega arith; no_end = refl };
+  best = λ other may. goal_is_best other may.known may.opened;
+}
+
+pub example_switches_in_order : RunsInOrder setup m0 (event_move (Lease 0 0 5) ∷ switch_move 0 1 1 5 ∷ tell_move 0 1 ∷ event_move (Release 0 0 false) ∷ []) m4
+example_switches_in_order = (
+  m1,
+  leased_start,
+  first_is_start,
+  (
+    m3,
+    (m2, expanded_start, leased_goal),
+    (expanded_in_turns, goal_is_next),
+    (told, told_cost, tt, (m4, took_goal, took_in_turns, refl)),
   ),
 )

@@ -1,5 +1,5 @@
 -- The turns of a lease, and runs in order.
-use Rattle.std.proofs.Common.{◌≡◌, ℕ, Bool, true, cond, refl, List, [], ◌∷◌, ◌++◌, Option, Some, None, sym, ap, ◌∙◌, subst, arith}
+use Rattle.std.proofs.Common.{◌≡◌, ℕ, Bool, true, false, cond, refl, List, [], ◌∷◌, ◌++◌, Option, Some, None, sym, ap, ◌∙◌, subst, arith}
 use Rattle.std.specs.List.{AllByRecursion}
 use Rattle.pb_model.specs.Space.{Space}
 use Rattle.pb_model.specs.Guide.{Guide}
@@ -9,7 +9,8 @@ use Rattle.pb_model.specs.Work.{Work, expand, break_off, cut, take_goal, lower, 
 use Rattle.pb_model.specs.Turns.{IsFirst}
 use Rattle.pb_model.specs.Local.{IsWithin, AgreesOn}
 use Rattle.pb_model.proofs.Callers.{work_is_local}
-use Rattle.pb_machine.specs.Machine.{lent_store, Setup, Machine, Move, event_move, tell_move, Runs, journal_of}
+use Rattle.pb_machine.specs.declared.event.Event.TheVariants.{Lease, Release}
+use Rattle.pb_machine.specs.Machine.{lent_store, Setup, Machine, Move, event_move, tell_move, switch_move, Runs, journal_of}
 use Rattle.pb_machine.specs.Turns.{IsLeaseTurn, AreLeaseTurns, IsOnFirst, AreOnFirst, RunsInOrder}
 use Rattle.pb_machine.specs.Laws.{TurnsCarryOver, OrderedRunsAreRuns, LeaseTurnsGoOn, RunsGoOn}
 use Rattle.pb_machine.proofs.LeaseWork.{within}
@@ -79,6 +80,7 @@ events_of_both : (moves more : List Move) → journal_of (moves ++ more) ≡ jou
 events_of_both [] more = refl
 events_of_both (event_move event ∷ moves) more = ap (λ l. event ∷ l) (events_of_both moves more)
 events_of_both (tell_move worker cost ∷ moves) more = events_of_both moves more
+events_of_both (switch_move worker used block quota ∷ moves) more = ap (λ l. Release worker used false ∷ Lease worker block quota ∷ l) (events_of_both moves more)
 
 pub runs_go_on : RunsGoOn
 runs_go_on setup moves more old between new = (run_on setup moves more old between new, run_on_in_order setup moves more old between new, events_of_both moves more)

@@ -11,6 +11,7 @@ mod Holding
 mod Splitting
 mod Meeting
 mod WorkedJournals
+mod WorkedSwitches
 mod LeaseWork
 mod LeaseTurns
 mod Known
@@ -23,6 +24,8 @@ mod WholeStore
 mod OwnMoves
 mod EndsTold
 mod Rooms
+mod Switches
+mod MovedRooms
 mod Example
 mod ExampleEnds
 mod ExampleTwo

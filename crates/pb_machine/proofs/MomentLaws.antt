@@ -19,7 +19,7 @@ use Rattle.pb_machine.specs.Settings.{weight_of}
 use Rattle.pb_machine.specs.Counts.{quota_of, is_lease_of, is_any_out, is_taken}
 use Rattle.pb_machine.specs.History.{replay}
 use Rattle.pb_machine.specs.Choice.{MayBeLeased}
-use Rattle.pb_machine.specs.Machine.{Setup, IsSetup, with_known, with_incumbent, Machine, CameBack, RowPart, Move, event_move, tell_move, Moves, Runs, journal_of}
+use Rattle.pb_machine.specs.Machine.{Setup, IsSetup, with_known, with_incumbent, Machine, CameBack, RowPart, Happens, Move, event_move, tell_move, switch_move, Moves, Runs, journal_of}
 use Rattle.pb_machine.specs.Lawful.{broken_leases, IsTold, IsLawful}
 use Rattle.pb_machine.specs.Laws.{JournalsAreHistories, LawfulStoresAreSound, IncumbentsArePlans, IncumbentsFall, KnownStays, CostsGrowByExpansions, CostsStaySmall, CostsFit, LeaseCostsStaySmall, LeaseCostsFit, ScopesAreApart, NoneOutMayLease, NoneOutIsShown, QuietEndsAreBest, BudgetEndsAreSpent}
 use Rattle.pb_machine.proofs.TableLaws.{entry_here, entry_else, sum_zero, none_counted, sum_with_entry, any_none, any_some, any_false}
@@ -67,14 +67,18 @@ module _ (p : Setup) (greatest_cost : ℕ) (is_setup : IsSetup p greatest_cost) 
       subst (λ w. IncumbentHolds p.space w m.store.incumbent) l.weight
       (quiet_incumbents_hold p.space greatest_cost p.guide m.store is_setup.space (sound_after p greatest_cost is_setup m l).0 (λ u is. shown m u (l.counts.quiet quiet) l (l.backed u is)) (l.quiet quiet) admissible)
 
+event_replays : (p : Setup) (m n : Machine) (e : Event) (es : List Event) → Happens p m e n → replay p.blocks p.settings m.counts (e ∷ es) ≡ replay p.blocks p.settings n.counts es
+event_replays p m n e es h = replay_first p.blocks p.settings m.counts e es h.may ∙ ap (λ c. replay p.blocks p.settings c es) (sym h.counts)
+
 -- the events of a run are a legal history
 run_replays : (p : Setup) (moves : List Move) (m n : Machine) → Runs p m moves n → replay p.blocks p.settings m.counts (journal_of moves) ≡ Some n.counts
 run_replays p [] m n r = ap (λ (q : Machine). Some q.counts) (sym r)
-run_replays p (event_move e ∷ moves) m n r =
-    replay_first p.blocks p.settings m.counts e (journal_of moves) r.1.may
-    ∙ ap (λ c. replay p.blocks p.settings c (journal_of moves)) (sym r.1.counts)
-    ∙ run_replays p moves r.0 n r.2
+run_replays p (event_move e ∷ moves) m n r = event_replays p m r.0 e (journal_of moves) r.1 ∙ run_replays p moves r.0 n r.2
 run_replays p (tell_move i u ∷ moves) m n r = ap (λ c. replay p.blocks p.settings c (journal_of moves)) (sym r.1.counts) ∙ run_replays p moves r.0 n r.2
+run_replays p (switch_move i used b q ∷ moves) m n r =
+    event_replays p m r.1.0 (Release i used false) (Lease i b q ∷ journal_of moves) r.1.1
+    ∙ event_replays p r.1.0 r.0 (Lease i b q) (journal_of moves) r.1.2
+    ∙ run_replays p moves r.0 n r.2
 
 -- ---- incumbents fall
 
@@ -99,6 +103,8 @@ row_part_lower p m n (Ended Memory) r = same_lower m.store n.store r.0
 move_lower : (p : Setup) (m n : Machine) (move : Move) → Moves p m move n → AtMost n.store.incumbent m.store.incumbent
 move_lower p m n (event_move e) s = row_part_lower p m n e s.rows
 move_lower p m n (tell_move i u) s = subst (λ (q : Store). AtMost q.incumbent m.store.incumbent) (sym s.store) (lesser_at_most m.store.incumbent (Some u))
+move_lower p m n (switch_move i used b q) s =
+    at_most_trans n.store.incumbent s.0.store.incumbent m.store.incumbent (row_part_lower p s.0 n (Lease i b q) s.2.rows) (row_part_lower p m s.0 (Release i used false) s.1.rows)
 
 pub incumbents_fall : IncumbentsFall
 incumbents_fall setup [] old new runs = same_lower old.store new.store (ap (λ (q : Machine). q.store) runs)
@@ -131,6 +137,7 @@ move_knows p m n (tell_move i u) s j o h =
     grown (with_entry m.known i (with_known (m.known i) (Some u))) n.known n.store.incumbent s.known j o (by_cases (j == i)
     (λ e. ap (λ (f : Option ℕ → Bool). f o) (entry_here m.known i j (with_known (m.known i) (Some u)) e) ∙ known_more (m.known i) (Some u) o (ap (λ k. m.known k o) (sym (equal j i e)) ∙ h))
     (λ e. ap (λ (f : Option ℕ → Bool). f o) (entry_else m.known i j (with_known (m.known i) (Some u)) e) ∙ h))
+move_knows p m n (switch_move i used b q) s j o h = row_part_knows p s.0 n (Lease i b q) s.2.rows j o (row_part_knows p m s.0 (Release i used false) s.1.rows j o h)
 
 pub known_stays : KnownStays
 known_stays setup [] old new runs j o h = ap (λ (q : Machine). q.known j o) runs ∙ h

@@ -1,4 +1,4 @@
--- Every event and every told cost keeps the machine lawful.
+-- Every event, every told cost and every switch keeps the machine lawful.
 use Rattle.std.proofs.Common.{true≢false, ◌≡◌, ℕ, ◌+◌, ◌*◌, ◌≤◌, min, Bool, true, false, ◌==◌, List, [], ◌∷◌, ◌++◌, Option, Some, None, refl, sym, ap, ◌∙◌, subst, ◌⊎◌, inl, inr, arith, le_trans, mul-le-mul_left}
 use Rattle.pb_model.specs.Store.{Store, HasGoalWithin, HasOpened, IsQuiet, CostsAtMost, lesser, AtMost}
 use Rattle.pb_model.specs.Work.{Work, expand, break_off, cut, take_goal, reopen, lower, Comes, LowersTo, opening_store}
@@ -14,7 +14,7 @@ use Rattle.pb_machine.specs.Tables.{with_entry, count_below}
 use Rattle.pb_machine.specs.Settings.{weight_of}
 use Rattle.pb_machine.specs.Counts.{Counts, is_any_out, with_quota, counts_after}
 use Rattle.pb_machine.specs.Legality.{refusal}
-use Rattle.pb_machine.specs.Machine.{IsOn, Setup, IsSetup, is_same, with_known, with_incumbent, Machine, opening_machine, HasWorked, IsWorked, lent_store, CameBack, KeepsRows, Happens, Tells, Move, event_move, tell_move, Moves, Runs}
+use Rattle.pb_machine.specs.Machine.{IsOn, Setup, IsSetup, is_same, with_known, with_incumbent, Machine, opening_machine, HasWorked, IsWorked, lent_store, CameBack, KeepsRows, Happens, Tells, Move, event_move, tell_move, switch_move, Moves, Runs}
 use Rattle.pb_machine.specs.Lawful.{broken_leases, AreReported, IsRead, IsReached, IsTold, IsLawful}
 use Rattle.pb_machine.specs.Laws.{OpeningIsLawful, MovesKeepLawful, RunsAreLawful}
 use Rattle.pb_machine.proofs.TableLaws.{entry_here, entry_else}
@@ -423,6 +423,7 @@ module _ (p : Setup) (greatest_cost : ℕ) (is_setup : IsSetup p greatest_cost) 
   pub move_keeps : (m n : Machine) (move : Move) → IsLawful p m → Moves p m move n → IsLawful p n
   move_keeps m n (event_move e) l s = event_keeps_lawful m n e l s
   move_keeps m n (tell_move i u) l s = tell_keeps_lawful m n i u l s
+  move_keeps m n (switch_move i used b q) l s = event_keeps_lawful s.0 n (Lease i b q) (event_keeps_lawful m s.0 (Release i used false) l s.1) s.2
 
   pub run_keeps : (moves : List Move) (m n : Machine) → IsLawful p m → Runs p m moves n → IsLawful p n
   run_keeps [] m n l r = subst (IsLawful p) (sym r) l

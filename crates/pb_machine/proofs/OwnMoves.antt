@@ -8,7 +8,7 @@ use Rattle.pb_machine.specs.declared.event.Grant.{Grant}
 use Rattle.pb_machine.specs.Tables.{with_entry}
 use Rattle.pb_machine.specs.Counts.{Counts, with_quota}
 use Rattle.pb_machine.specs.History.{is_event_of}
-use Rattle.pb_machine.specs.Machine.{Setup, Machine, Happens, KeepsRows, Move, event_move, tell_move, Moves, is_move_of}
+use Rattle.pb_machine.specs.Machine.{Setup, Machine, Happens, Tells, KeepsRows, Move, event_move, tell_move, switch_move, Moves, is_move_of}
 use Rattle.pb_machine.specs.Laws.{OthersAreLeft, RecordedWhereLeased, NoneOutUntold}
 use Rattle.pb_machine.proofs.TableLaws.{entry_else, any_none}
 
@@ -50,21 +50,28 @@ module _ (setup : Setup) (m n : Machine) (worker : ℕ) where
   event_left (Ended Budget) h e = rows_left (ap (λ (c : Counts). c.leases) h.counts) h.rows.1
   event_left (Ended Memory) h e = rows_left (ap (λ (c : Counts). c.leases) h.counts) h.rows
 
-  move_left : (move : Move) → Moves setup m move n → is_move_of worker move ≡ false → Left
-  move_left (event_move event) moved e = event_left event moved e
-  move_left (tell_move by cost) moved e = (
-    ap (λ (c : Counts). c.leases worker) moved.counts,
-    ap (λ (f : ℕ → Option ℕ). f worker) moved.given,
-    else_here m.told n.told by _ e moved.told,
+  tell_left : (by cost : ℕ) → Tells setup m by cost n → (by == worker) ≡ false → Left
+  tell_left by cost tells e = (
+    ap (λ (c : Counts). c.leases worker) tells.counts,
+    ap (λ (f : ℕ → Option ℕ). f worker) tells.given,
+    else_here m.told n.told by _ e tells.told,
   )
+
+left_twice : (setup : Setup) (m between n : Machine) (worker : ℕ) → Left setup m between worker → Left setup between n worker → Left setup m n worker
+left_twice setup m between n worker first later = (later.0 ∙ first.0, later.1 ∙ first.1, later.2 ∙ first.2)
+
+move_left : (setup : Setup) (m n : Machine) (worker : ℕ) (move : Move) → Moves setup m move n → is_move_of worker move ≡ false → Left setup m n worker
+move_left setup m n worker (event_move event) moved e = event_left setup m n worker event moved e
+move_left setup m n worker (tell_move by cost) moved e = tell_left setup m n worker by cost moved e
+move_left setup m n worker (switch_move by used block quota) moved e =
+    left_twice setup m moved.0 n worker (event_left setup m moved.0 worker (Release by used false) moved.1 e) (event_left setup moved.0 n worker (Lease by block quota) moved.2 e)
 
 pub others_are_left : OthersAreLeft
 others_are_left setup [] old new worker runs are =
     (ap (λ (q : Machine). q.counts.leases worker) runs, ap (λ (q : Machine). q.given worker) runs, ap (λ (q : Machine). q.told worker) runs)
 others_are_left setup (move ∷ moves) old new worker runs are =
     let first = move_left setup old runs.0 worker move runs.1 are.0 in
-    let later = others_are_left setup moves runs.0 new worker runs.2 are.1 in
-    (later.0 ∙ first.0, later.1 ∙ first.1, later.2 ∙ first.2)
+    left_twice setup old runs.0 new worker first (others_are_left setup moves runs.0 new worker runs.2 are.1)
 
 pub recorded_where_leased : RecordedWhereLeased
 recorded_where_leased setup counts store home recorded other same whole = record {

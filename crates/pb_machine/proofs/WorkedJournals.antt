@@ -16,7 +16,7 @@ abbrev counts_of : Settings → Option Counts → Counts
 counts_of settings None = opening_counts settings 0
 counts_of settings (Some counts) = counts
 
-abbrev after : Blocks → Settings → List Event → Counts
+abbrev pub after : Blocks → Settings → List Event → Counts
 after blocks settings journal = counts_of settings (replay blocks settings (opening_counts settings 0) journal)
 
 in_range : AreInRange one_worker

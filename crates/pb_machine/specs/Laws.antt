@@ -31,7 +31,7 @@ OpeningIsLawful =
     (setup : Setup) (greatest_cost : ℕ) → IsSetup setup greatest_cost → setup.reopenings ≡ 0
     → IsLawful setup (opening_machine setup)
 
--- Every event and every told cost keeps the machine lawful.
+-- Every event, every told cost and every switch keeps the machine lawful.
 abbrev pub MovesKeepLawful : Type 0
 MovesKeepLawful =
     (setup : Setup) (greatest_cost : ℕ) (move : Move) (old new : Machine)

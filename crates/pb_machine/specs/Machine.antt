@@ -198,13 +198,19 @@ pub record Tells (setup : Setup) (old : Machine) (worker cost : ℕ) (new : Mach
       (with_known (old.known worker) (Some cost))) new.store.incumbent
   pub broken : new.broken ≡ old.broken
 
+-- An event, a cost that a worker tells, or a switch: a lease comes back after so many expansions, and
+-- its worker leases another block in the same step. Nothing comes between.
 pub data Move : Type 0 where
   event_move : Event → Move
   tell_move : (worker cost : ℕ) → Move
+  switch_move : (worker used block quota : ℕ) → Move
 
 abbrev pub Moves : Setup → (old : Machine) → Move → (new : Machine) → Type 0
 Moves setup old (event_move event) new = Happens setup old event new
 Moves setup old (tell_move worker cost) new = Tells setup old worker cost new
+Moves setup old (switch_move worker used block quota) new =
+    (between : Machine) × Happens setup old (Release worker used false) between
+    × Happens setup between (Lease worker block quota) new
 
 -- these moves, one after another
 abbrev pub Runs : Setup → (old : Machine) → List Move → (new : Machine) → Type 0
@@ -212,16 +218,19 @@ Runs setup old [] new = new ≡ old
 Runs setup old (move ∷ moves) new =
     (between : Machine) × Moves setup old move between × Runs setup between moves new
 
--- the events among the moves
+-- the events of the moves: a switch has two
 abbrev pub journal_of : List Move → List Event
 journal_of [] = []
 journal_of (event_move event ∷ moves) = event ∷ journal_of moves
 journal_of (tell_move worker cost ∷ moves) = journal_of moves
+journal_of (switch_move worker used block quota ∷ moves) =
+    Release worker used false ∷ Lease worker block quota ∷ journal_of moves
 
--- whether the move is one of this worker's: an event of its own, or a cost that it told
+-- whether the move is one of this worker's: an event of its own, a cost that it told, or its switch
 abbrev pub is_move_of : (worker : ℕ) → Move → Bool
 is_move_of worker (event_move event) = is_event_of worker event
 is_move_of worker (tell_move by cost) = by == worker
+is_move_of worker (switch_move by used block quota) = by == worker
 
 -- no move is one of this worker's
 abbrev pub AreOfOthers : (worker : ℕ) → List Move → Type 0

@@ -1,9 +1,10 @@
 -- How long a journal may grow. Each lease has room for so many events: this room bounds what the
 -- lease may add between its start and its return.
-use Rattle.std.specs.Prelude.{ℕ, ◌+◌, ◌-◌, ◌<◌, Bool, false, ◌==◌, List, [], ◌∷◌, ⊤}
+use Rattle.std.specs.Prelude.{ℕ, ◌+◌, ◌-◌, ◌<◌, ◌≤◌, Bool, false, ◌==◌, List, [], ◌∷◌, ⊤}
 use Rattle.pb_machine.specs.declared.event.Event.{Event}
 use Rattle.pb_machine.specs.declared.event.Event.TheVariants.{Lease, Renew, Hot, Cold, Release, Off, Ended}
 use Rattle.pb_machine.specs.Tables.{with_entry}
+use Rattle.pb_machine.specs.Machine.{Move, event_move, tell_move, switch_move}
 
 -- By worker, for how many events its lease has room after this one. A lease begins with room for 63
 -- renewals, hot marks and marks taken away. Each of these takes one, and the return of the lease
@@ -63,3 +64,29 @@ takes_room worker (Renew by used quota) = by == worker
 takes_room worker (Hot by block) = by == worker
 takes_room worker (Cold by block) = by == worker
 takes_room worker event = false
+
+-- ---- room by moves
+
+-- The room after a move. A switch takes two of the room of its worker's lease, for its two events.
+-- The new lease has only what is left, though by its journal alone it has room for 63 events.
+abbrev pub room_moved : (room : ℕ → ℕ) → Move → ℕ → ℕ
+room_moved room (event_move event) = room_with room event
+room_moved room (tell_move worker cost) = room
+room_moved room (switch_move worker used block quota) = with_entry room worker (room worker - 2)
+
+-- the same after all these moves
+abbrev pub rooms_after : (room : ℕ → ℕ) → List Move → ℕ → ℕ
+rooms_after room [] = room
+rooms_after room (move ∷ moves) = rooms_after (room_moved room move) moves
+
+-- the move may be made in this room: a switch needs room for two events
+abbrev pub HasRoomMoved : (room : ℕ → ℕ) → Move → Type 0
+HasRoomMoved room (event_move event) = HasRoom room event
+HasRoomMoved room (tell_move worker cost) = ⊤
+HasRoomMoved room (switch_move worker used block quota) = 2 ≤ room worker
+
+-- each move has room after those before it
+abbrev pub AreWithinRoomMoved : (room : ℕ → ℕ) → List Move → Type 0
+AreWithinRoomMoved room [] = ⊤
+AreWithinRoomMoved room (move ∷ moves) =
+    HasRoomMoved room move × AreWithinRoomMoved (room_moved room move) moves

@@ -7,8 +7,8 @@ use Rattle.pb_model.specs.Store.{Store}
 use Rattle.pb_model.specs.Work.{Work, expand, break_off, cut, take_goal, lower, reopen, store_after}
 use Rattle.pb_model.specs.Turns.{IsFirst, IsFirstToKeep, IsTurn}
 use Rattle.pb_machine.specs.declared.event.Event.TheVariants.{Lease, Renew, Release}
-use Rattle.pb_machine.specs.Choice.{IsFirstChoice}
-use Rattle.pb_machine.specs.Machine.{Setup, Machine, lent_store, CameBack, Move, event_move, Moves}
+use Rattle.pb_machine.specs.Choice.{IsFirstChoice, counts_with_lease_home}
+use Rattle.pb_machine.specs.Machine.{Setup, Machine, lent_store, CameBack, Move, event_move, switch_move, Moves}
 
 -- ---- the rows of a lease
 
@@ -51,7 +51,9 @@ CameBackInTurns setup old worker used most_broken new =
     (lent_store setup back.grant.block old.store (old.given worker))
 
 -- The move is in order: the block that is leased is the first choice, and a lease that comes back
--- has worked in turns.
+-- has worked in turns. At a switch the next block is the first choice with the lease home and the
+-- hot blocks as before the switch, though its release may make some of them cold. The rows are
+-- those of the new store: the second event of a switch, a lease, changes no row.
 abbrev pub IsInOrder : Setup → (old : Machine) → Move → (new : Machine) → Type 0
 IsInOrder setup old (event_move (Lease worker block quota)) new =
     IsFirstChoice setup.blocks setup.settings old.counts old.store block
@@ -61,6 +63,10 @@ IsInOrder setup old (event_move (Release worker used false)) new =
     CameBackInTurns setup old worker used 0 new.store
 IsInOrder setup old (event_move (Release worker used true)) new =
     CameBackInTurns setup old worker used 1 new.store
+IsInOrder setup old (switch_move worker used block quota) new =
+    CameBackInTurns setup old worker used 0 new.store
+    × IsFirstChoice setup.blocks setup.settings (counts_with_lease_home old.counts worker used)
+    new.store block
 IsInOrder setup old move new = ⊤
 
 -- these moves, one after another, each in order

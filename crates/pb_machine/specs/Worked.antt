@@ -1,6 +1,6 @@
 -- Worked journals. One worker, and then two, look for a cheapest path over a map of 3 by 3 land
 -- cells, from first to last. Each cell is a block of its own. One worker goes along a corridor
--- until its budget is spent. Other journals differ from these in a few places. A journal's text has
+-- until its budget is spent. The first search is also made by switches. Other journals differ from these in a few places. A journal's text has
 -- six lines before its first event, which is thus on line 7.
 use Rattle.std.specs.Prelude.{◌≡◌, ℕ, ◌+◌, Bool, true, false, ◌&&◌, ◌||◌, ◌==◌, not, nat_lt, length, List, [], ◌∷◌, ◌++◌, Some}
 use Rattle.std.specs.List.{AllByRecursion}
@@ -15,6 +15,7 @@ use Rattle.pb_machine.specs.Settings.{standard}
 use Rattle.pb_machine.specs.Blocks.{Blocks}
 use Rattle.pb_machine.specs.Counts.{Counts, opening_counts}
 use Rattle.pb_machine.specs.History.{IsHistory, AreFinished, first_refused}
+use Rattle.pb_machine.specs.Machine.{Move, event_move, switch_move}
 
 -- whether the one cell is directly left of the other or above it; cells are numbered row by row
 abbrev pub is_before : (cell other : ℕ) → Bool
@@ -91,6 +92,32 @@ two_workers_journal =
 abbrev pub both_report : List Event
 both_report =
     both_out ++ Release 1 1 true ∷ Ended Memory ∷ Release 0 1 true ∷ Off 0 true ∷ Off 1 false ∷ []
+
+-- ---- switches
+
+-- The search of one worker over the nine cells, by moves. The worker leases the first block,
+-- switches six times, and brings the last block back. The journal is `nine_cells_journal`.
+abbrev pub switches : List Move
+switches =
+    event_move (Lease 0 0 256) ∷ switch_move 0 1 1 256 ∷ switch_move 0 1 2 256
+    ∷ switch_move 0 1 5 256 ∷ switch_move 0 1 8 256 ∷ switch_move 0 0 4 256 ∷ switch_move 0 0 3 256
+    ∷ []
+
+abbrev pub nine_cells_moves : List Move
+nine_cells_moves =
+    switches ++ event_move (Release 0 0 false) ∷ event_move (Ended Quiet) ∷ event_move (Off 0 false)
+    ∷ []
+
+-- The worker has the first block, and has marked block 2 hot. Its release makes block 2 cold, so it
+-- may then lease block 4, which is near block 2. In one switch that is never in order: with the hot
+-- blocks as before, block 4 is hidden.
+abbrev pub marked : List Event
+marked = Lease 0 0 256 ∷ Hot 0 2 ∷ []
+
+abbrev pub back_and_next : List Event
+back_and_next = Release 0 1 false ∷ Lease 0 4 256 ∷ []
+
+-- ---- what is said of journals
 
 -- the journal is a finished legal history of this many events, with this end and so many expansions
 abbrev pub IsFinishedHistory : Blocks → Settings → List Event → (events : ℕ) → End → (spent : ℕ)

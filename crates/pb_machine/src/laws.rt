@@ -6,7 +6,7 @@ pub fn opening_is_lawful()
     ensures { OpeningIsLawful }
 {}
 
-/// Every event and every reported cost keeps the machine lawful.
+/// Every event, every reported cost and every switch keeps the machine lawful.
 pub fn moves_keep_lawful()
     ensures { MovesKeepLawful }
 {}
@@ -135,7 +135,7 @@ pub fn ordered_runs_are_runs()
 {}
 
 /// Moves may go on after other moves, in order if both are in order. The events of all together are
-/// those of the first and then those of the later ones.
+/// those of the first and then those of the later ones; a switch has two.
 pub fn runs_go_on()
     ensures { RunsGoOn }
 {}

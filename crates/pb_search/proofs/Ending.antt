@@ -6,14 +6,14 @@ use Rattle.pb_machine.specs.declared.event.End.TheVariants.{Quiet, Budget}
 use Rattle.pb_machine.specs.declared.settings.Settings.{Settings}
 use Rattle.pb_machine.specs.Counts.{Counts, opening_counts, is_any_out}
 use Rattle.pb_machine.specs.History.{AreFinished, events_of}
-use Rattle.pb_machine.specs.Room.{no_room, room_after, KeepsWithinRoom}
+use Rattle.pb_machine.specs.Room.{no_room, KeepsWithinRoom}
 use Rattle.pb_machine.specs.Machine.{Setup, Machine, journal_of, opening_machine}
 use Rattle.pb_machine.proofs.Callers.{any_false}
 use Rattle.pb_task.specs.declared.parts.TaskParts.{TaskParts}
 use Rattle.pb_estimate.specs.Choices.{Choice}
 use Rattle.pb_abstract.specs.Graph.{AbstractGraph}
 use Rattle.pb_lease.specs.Leased.{setup_of}
-use Rattle.pb_lease.specs.Tables.{blocks}
+use Rattle.pb_lease.specs.Tables.{blocks, rooms}
 use Rattle.pb_lease.specs.GraphValue.{GraphValue, setup_in, counts_in, IsLeaseGraph}
 use Rattle.pb_lease.specs.Begins.{begin_machine, IsBegin, IsOfRun, FitsWord, IsFirstMoment}
 use Rattle.pb_lease.specs.Choices.{is_out_in}
@@ -73,8 +73,8 @@ module _ (old : GraphValue) (first : IsFirstMoment old) where
         let one : new.table.settings.workers ≡ 1 = ap (λ (s : Settings). s.workers) same.settings ∙ alone in
         subst MarksInTurn (sym (others_have_none (blocks new.table) new.table.settings (suc worker) (omega (arith, one)) (opening_counts new.table.settings new.table.past.spent) new.table.journal (counts_in new) lawful.legal.replays)) refl
 
-    pub alone_ran : IsLeaseGraph new → KeepsWithinRoom new.table.journal → RunsOn old new → is_out_in new ≡ false → (counts_in new).signed_off 0 ≡ true → HasEnded new → (HasTurn old 0 no_turn → MarksInTurn (events_of 0 new.table.journal)) → HasRun old new
-    alone_ran lawful within runs home off ended marks =
+    pub alone_ran : rooms old.table ≡ no_room → IsLeaseGraph new → KeepsWithinRoom new.table.journal → RunsOn old new → is_out_in new ≡ false → (counts_in new).signed_off 0 ≡ true → HasEnded new → (HasTurn old 0 no_turn → MarksInTurn (events_of 0 new.table.journal)) → HasRun old new
+    alone_ran none lawful within runs home off ended marks =
         let last = runs (λ worker home state. None) (begin_machine old) (first.moment (λ worker home state. None)) in
         let to = last.1 in
         record {
@@ -85,7 +85,7 @@ module _ (old : GraphValue) (first : IsFirstMoment old) where
           moves = to.moves;
           journal = to.events ∙ ap (λ (j : List Event). j ++ journal_of to.moves) first.empty;
           machine = last.0;
-          ordered = subst (λ (j : List Event). RunsInTime (setup_in old) (room_after j) (begin_machine old) to.moves last.0) first.empty to.run;
+          ordered = subst (λ (r : ℕ → ℕ). RunsInTime (setup_in old) r (begin_machine old) to.moves last.0) none to.run;
           recorded = λ worker home state. None;
           moment = to.moment;
           finished = all_off last.0.counts to.moment.at.counts off ended;

@@ -6,7 +6,7 @@ use Rattle.pb_machine.specs.declared.event.Event.{Event}
 use Rattle.pb_machine.specs.declared.event.Event.TheVariants.{Lease, Renew, Hot, Cold, Release, Off, Ended}
 use Rattle.pb_machine.specs.Counts.{Counts}
 use Rattle.pb_machine.specs.Legality.{tests, refusal}
-use Rattle.pb_machine.specs.Machine.{Setup, Machine, Move, event_move, tell_move, Runs, journal_of}
+use Rattle.pb_machine.specs.Machine.{Setup, Machine, Move, event_move, tell_move, switch_move, Runs, journal_of}
 use Rattle.pb_machine.proofs.Callers.{none_true, rest_passes}
 use Rattle.pb_search.specs.Ends.{is_mark, MarksNothing}
 
@@ -29,3 +29,4 @@ module _ (setup : Setup) (plain : setup.settings.plain ≡ true) where
   marks_nothing (event_move event ∷ moves) old new runs =
       ap (λ mark. mark || list_any is_mark (journal_of moves)) (no_mark old.counts event runs.1.may) ∙ marks_nothing moves runs.0 new runs.2
   marks_nothing (tell_move worker cost ∷ moves) old new runs = marks_nothing moves runs.0 new runs.2
+  marks_nothing (switch_move worker used block quota ∷ moves) old new runs = marks_nothing moves runs.0 new runs.2

@@ -33,6 +33,8 @@ pub fn search_alone<G: Gate>(
     ensures { IfOk result (HasRun opening) }
 {
     let mut graph = opening;
+    // The call shows that no lease has room in the journal yet.
+    let _begins = graph.abstraction();
     run_alone(alloc, task, abstraction, &mut graph, gate, table)?;
     let _lawful = graph.abstraction();
     let _events = graph.journal();

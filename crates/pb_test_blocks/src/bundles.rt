@@ -57,8 +57,8 @@ fn the_best_block_is_chosen(rt: HostRuntime) -> Result<(), Fail> {
 
 // Opens a row of a block that is away.
 fn open(parts: &mut LentBundles, block: u32, number: u8, h: u64) -> Result<(), AllocError>
-    requires { IsSome (content_in parts.old block) }
-    ensures { OnOk result (keys_of parts.new ≡ keys_of parts.old) }
+    requires { IsSome (content_in parts.old.parts block) }
+    ensures { OnOk result (keys_of parts.new.parts ≡ keys_of parts.old.parts) }
 {
     parts
         .bundle_mut(block)

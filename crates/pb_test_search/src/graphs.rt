@@ -104,9 +104,7 @@ fn is_told_to_wait(graph: &mut LeaseGraph) -> bool
 fn ask_beside(graph: &mut LeaseGraph) -> Option<(u32, bool, usize)>
     requires { IsNewGraph graph.old }
 {
-    let Some(lease) = lease_first(graph) else {
-        return None;
-    };
+    let lease = lease_first(graph)?;
     let waits = is_told_to_wait(graph);
     let seen = (lease.block(), waits, graph.journal().len());
     graph.release(lease, false);
@@ -155,6 +153,21 @@ fn mark(graph: &mut LeaseGraph, lease: &Lease) -> [bool; 6]
     ]
 }
 
+// Block 1 is marked hot and the mark is taken away, as many times as this. The answer is whether all
+// was done.
+fn mark_often(graph: &mut LeaseGraph, lease: &Lease, times: u32) -> bool
+    requires { IsOfGraph graph.old lease.now }
+    ensures { IsOfGraph graph.new lease.now }
+{
+    let mut done = true;
+    for _ in 0..times {
+        let marked = mark_one(graph, lease, 1, true);
+        let cooled = mark_one(graph, lease, 1, false);
+        done = done & marked & cooled;
+    }
+    done
+}
+
 // How many blocks there are, the block of worker 0's lease, its rival, what the worker's marks are
 // answered, and the room that is left.
 type Marked = (u32, u32, Option<u32>, [bool; 6], u32);
@@ -162,9 +175,7 @@ type Marked = (u32, u32, Option<u32>, [bool; 6], u32);
 fn mark_with_lease(graph: &mut LeaseGraph) -> Option<Marked>
     requires { IsNewGraph graph.old }
 {
-    let Some(lease) = lease_first(graph) else {
-        return None;
-    };
+    let lease = lease_first(graph)?;
     let rival = graph.rival(&lease);
     let answers = mark(graph, &lease);
     let room = graph.room(lease.worker());
@@ -262,40 +273,58 @@ fn work_on(
     Ok(work_with(graph, task, &mut estimator, lease, &mut succs))
 }
 
-// Gives a lease back and asks for the next one: the block and the quota of that, which comes back
-// too. None if there is no next lease.
-fn switch(graph: &mut LeaseGraph, lease: Lease) -> Option<(u32, u64)>
+// The room that is left after the lease is renewed, which then comes back. None if it isn't renewed.
+fn renewed_room(graph: &mut LeaseGraph, lease: Lease) -> Option<u32>
+    requires { IsOfGraph graph.old lease }
+{
+    match graph.renew(lease) {
+        Renewed::Kept(kept) => {
+            let room = graph.room(kept.worker());
+            graph.release(kept, false);
+            Some(room)
+        }
+        Renewed::Given => None,
+    }
+}
+
+// The block and the quota of the lease that a worker goes on to, and the room that is left then and
+// after that lease is renewed.
+type Next = (u32, u64, u32, Option<u32>);
+
+// Asks to go on with a lease, or else with another block. The next lease comes back after it is
+// renewed. None if there is no next lease.
+fn switch(graph: &mut LeaseGraph, lease: Lease) -> Option<Next>
     requires { IsOfGraph graph.old lease }
 {
     match graph.try_switch(lease) {
         SwitchReply::Switched(next) => {
             let (block, quota) = (next.block(), next.quota());
-            graph.release(next, false);
-            Some((block, quota))
+            let room = graph.room(next.worker());
+            Some((block, quota, room, renewed_room(graph, next)))
         }
         SwitchReply::Kept(kept) => {
             graph.release(kept, false);
             None
         }
-        SwitchReply::Given | SwitchReply::Memory => None,
+        SwitchReply::Given => None,
     }
 }
 
-// Why worker 0's work on a lease stopped, and after how many expansions. Then the block and the
-// quota of the next lease.
-type Went = (Option<(Worked, u64)>, Option<(u32, u64)>);
+// Why worker 0's work on a lease stopped, and after how many expansions. Then whether all marks were
+// made, and what is seen of the next lease.
+type Went = (Option<(Worked, u64)>, bool, Option<Next>);
 
-// Worker 0 leases a block, works on it, and asks to go on. The next lease comes back.
-fn go_over(alloc: Global, graph: &mut LeaseGraph, task: &Task) -> Option<Went>
+// Worker 0 leases a block, works on it, marks block 1 as many times as this, and asks to go on. The
+// next lease comes back.
+fn go_over(alloc: Global, graph: &mut LeaseGraph, task: &Task, marks: u32) -> Option<Went>
     requires opening { IsNewGraph graph.old }
     requires task { graph.old.task ≡ task.now }
 {
-    let Some(mut lease) = lease_first(graph) else {
-        return None;
-    };
+    let mut lease = lease_first(graph)?;
     let worked = work_on(alloc, graph, task, &mut lease);
+    let marked = mark_often(graph, &lease, marks);
     let next = switch(graph, lease);
-    Some((worked.ok(), next))
+    Some((worked.ok(), marked, next))
 }
 
 // What is seen as the one worker goes on from the start of the open square, and whether the journal
@@ -303,12 +332,21 @@ fn go_over(alloc: Global, graph: &mut LeaseGraph, task: &Task) -> Option<Went>
 fn switched(alloc: Global, journal: &[Event]) -> Result<(Option<Went>, bool), AllocError> {
     let task = Arc::new(alloc, open_square(alloc)?)?;
     let mut graph = open(alloc, Arc::clone(&task)?, settings_of(1, 1000, 256))?;
-    let seen = go_over(alloc, &mut graph, &task);
+    let seen = go_over(alloc, &mut graph, &task, 0);
     Ok((seen, graph.journal() == journal))
 }
 
+// What is seen as one of two workers goes on there after so many marks, and how many events the
+// journal has.
+fn marked_before(alloc: Global, marks: u32) -> Result<(Option<Went>, usize), AllocError> {
+    let task = Arc::new(alloc, open_square(alloc)?)?;
+    let mut graph = open(alloc, Arc::clone(&task)?, settings_of(2, 1000, 256))?;
+    let seen = go_over(alloc, &mut graph, &task, marks);
+    Ok((seen, graph.journal().len()))
+}
+
 // The journal of a worker that goes over to another block.
-const GOING_OVER: [Event; 4] = [
+const GOING_OVER: [Event; 5] = [
     Event::Lease {
         worker: 0,
         block: 0,
@@ -324,6 +362,11 @@ const GOING_OVER: [Event; 4] = [
         block: 1,
         quota: 256,
     },
+    Event::Renew {
+        worker: 0,
+        used: 0,
+        quota: 256,
+    },
     Event::Release {
         worker: 0,
         used: 0,
@@ -332,7 +375,7 @@ const GOING_OVER: [Event; 4] = [
 ];
 
 // A second worker waits. A mark is refused if a better block is hot. A lease goes on while
-// something is left of the budget. A worker goes on to another block.
+// something is left of the budget. A worker goes on to another block, if its room is enough.
 #[test]
 fn graphs_lease_mark_renew_and_switch(rt: HostRuntime) {
     let settings = Settings {
@@ -347,9 +390,15 @@ fn graphs_lease_mark_renew_and_switch(rt: HostRuntime) {
     for (budget, goes_on) in [(1, false), (2, true)] {
         assert_eq!(rt; going_on(rt.alloc(), budget), Ok((Some(goes_on), None)));
     }
-    let went = Some((Some((Worked::Empty, 1)), Some((1, 256))));
+    let worked = Some((Worked::Empty, 1));
+    let went = Some((worked, true, Some((1, 256, 61, Some(60)))));
     assert_eq!(rt;
         switched(rt.alloc(), GOING_OVER.as_slice()),
         Ok((went, true))
     );
+    // Each mark takes one of the room, and so does its end. The next lease takes two.
+    for (marks, next, events) in [(30, Some((1, 256, 1, Some(0))), 65), (31, None, 64)] {
+        let went = Some((worked, true, next));
+        assert_eq!(rt; marked_before(rt.alloc(), marks), Ok((went, events)));
+    }
 }

@@ -34,13 +34,19 @@ struct Seen {
     events: u64,
 }
 
+// What work on leases needs memory for: an estimator, and a list for successors.
+#[derive(Drop)]
+struct Tools {
+    estimator: Estimator,
+    succs: Vec<Succ>,
+}
+
 // Works on a lease, and brings it back after the other pass has looked.
 fn work_beside<W: Wait>(
     rt: &W,
     task: &Task,
     abstraction: &AbsGraph,
-    estimator: &mut Estimator,
-    succs: &mut Vec<Succ>,
+    tools: &mut Tools,
     watch: &mut YardWatch,
     mut lease: Lease,
     other: &mut Pass,
@@ -49,18 +55,25 @@ fn work_beside<W: Wait>(
     requires other { IsOf watch.old.yard.now other.old }
     requires leased { IsLeased task.now abstraction.now (view_of watch.old.pass) lease }
     requires ready { IsReady (view_of other.old) }
-    requires tools { IsOfTask estimator.old task.now (view_of watch.old.pass).choice }
-    requires room { max_degree_of task.now ≤ vec_capacity succs.old }
+    requires tools { IsOfTask tools.old.estimator task.now (view_of watch.old.pass).choice }
+    requires room { max_degree_of task.now ≤ vec_capacity tools.old.succs }
     ensures yard { watch.new.yard.now ≡ watch.old.yard.now }
     ensures own { IsWatchOf watch.new }
     ensures other { IsOf watch.old.yard.now other.new }
     ensures ready { IsReady (view_of watch.new.pass) × IsReady (view_of other.new) }
     ensures workers { KeepsWorkers (view_of other.old) (view_of other.new) }
-    ensures tools { IsOfTask estimator.new task.now (view_of watch.old.pass).choice }
-    ensures room { max_degree_of task.now ≤ vec_capacity succs.new }
+    ensures tools { IsOfTask tools.new.estimator task.now (view_of watch.old.pass).choice }
+    ensures room { max_degree_of task.now ≤ vec_capacity tools.new.succs }
 {
     let before = watch.yard.glance(other);
-    let worked = work_watched(task, estimator, abstraction, &mut lease, succs, watch);
+    let worked = work_watched(
+        task,
+        &mut tools.estimator,
+        abstraction,
+        &mut lease,
+        &mut tools.succs,
+        watch,
+    );
     let after = watch.yard.glance(other);
     let waits = is_told_to_wait(rt, watch.yard, other);
     match worked {
@@ -83,8 +96,7 @@ fn lease_beside<W: Wait>(
     rt: &W,
     task: &Task,
     abstraction: &AbsGraph,
-    estimator: &mut Estimator,
-    succs: &mut Vec<Succ>,
+    tools: &mut Tools,
     watch: &mut YardWatch,
     other: &mut Pass,
 ) -> Option<Seen>
@@ -92,27 +104,20 @@ fn lease_beside<W: Wait>(
     requires other { IsOf watch.old.yard.now other.old }
     requires idle { IsIdle task.now abstraction.now (view_of watch.old.pass) }
     requires ready { IsReady (view_of other.old) }
-    requires tools { IsOfTask estimator.old task.now (view_of watch.old.pass).choice }
-    requires room { max_degree_of task.now ≤ vec_capacity succs.old }
+    requires tools { IsOfTask tools.old.estimator task.now (view_of watch.old.pass).choice }
+    requires room { max_degree_of task.now ≤ vec_capacity tools.old.succs }
     ensures yard { watch.new.yard.now ≡ watch.old.yard.now }
     ensures own { IsWatchOf watch.new }
     ensures other { IsOf watch.old.yard.now other.new }
     ensures ready { IsReady (view_of watch.new.pass) × IsReady (view_of other.new) }
     ensures workers { KeepsWorkers (view_of other.old) (view_of other.new) }
-    ensures tools { IsOfTask estimator.new task.now (view_of watch.old.pass).choice }
-    ensures room { max_degree_of task.now ≤ vec_capacity succs.new }
+    ensures tools { IsOfTask tools.new.estimator task.now (view_of watch.old.pass).choice }
+    ensures room { max_degree_of task.now ≤ vec_capacity tools.new.succs }
 {
     match watch.yard.lease(rt, &mut watch.pass) {
-        LeaseReply::Leased(lease) => Some(work_beside(
-            rt,
-            task,
-            abstraction,
-            estimator,
-            succs,
-            watch,
-            lease,
-            other,
-        )),
+        LeaseReply::Leased(lease) => {
+            Some(work_beside(rt, task, abstraction, tools, watch, lease, other))
+        }
         LeaseReply::NotYet => None,
         LeaseReply::Over(_) => None,
         LeaseReply::Memory => None,
@@ -127,7 +132,7 @@ fn both<W: Wait>(
 ) -> Result<(Option<Seen>, Option<Seen>), AllocError> {
     let abstraction = AbsGraph::of(alloc, &task, 256)?;
     let estimate = start_estimate(alloc, &task)?;
-    let mut succs = Vec::with_capacity(alloc, task.max_degree() as usize)?;
+    let succs = Vec::with_capacity(alloc, task.max_degree() as usize)?;
     let settings = Settings {
         workers: 2,
         budget: 1000,
@@ -147,20 +152,15 @@ fn both<W: Wait>(
         return Err(AllocError);
     };
     let mut second = yard.split(&mut first);
-    let mut estimator = Estimator::of(alloc, &task, &Choice::plain())?;
+    let mut tools = Tools {
+        estimator: Estimator::of(alloc, &task, &Choice::plain())?,
+        succs,
+    };
     let mut watch = YardWatch {
         yard: &yard,
         pass: first,
     };
-    let one = lease_beside(
-        rt,
-        &task,
-        &abstraction,
-        &mut estimator,
-        &mut succs,
-        &mut watch,
-        &mut second,
-    );
+    let one = lease_beside(rt, &task, &abstraction, &mut tools, &mut watch, &mut second);
     let YardWatch {
         yard: _,
         pass: mut first,
@@ -169,15 +169,7 @@ fn both<W: Wait>(
         yard: &yard,
         pass: second,
     };
-    let two = lease_beside(
-        rt,
-        &task,
-        &abstraction,
-        &mut estimator,
-        &mut succs,
-        &mut watch,
-        &mut first,
-    );
+    let two = lease_beside(rt, &task, &abstraction, &mut tools, &mut watch, &mut first);
     Ok((one, two))
 }
 

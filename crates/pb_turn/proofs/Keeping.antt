@@ -15,7 +15,7 @@ use Rattle.pb_turn.specs.declared.table_rule.Stage.{Stage}
 use Rattle.pb_turn.specs.declared.table_rule.Stage.TheVariants.{Resting, Holding}
 use Rattle.pb_turn.specs.Obligations.{LeaveKeeps, LoadKeeps, LowerKeeps, SplitKeeps, MeetKeeps, Stands, StandsAt, StandsAlone, IsHeld}
 use Rattle.pb_turn.specs.Passes.{whole, found_by}
-use Rattle.pb_turn.specs.Table.{home_of, Knows, Known, pass_view, first_pass, spent_pass, kept_pass, given_pass, met_pass, view_of, parts_of, Turned, tried, read, sunk, left, committed}
+use Rattle.pb_turn.specs.Table.{home_of, Knows, Known, pass_view, first_pass, spent_pass, kept_pass, given_pass, met_pass, view_of, parts_of, Turned, tried, read, sunk, left}
 use Rattle.pb_turn.proofs.PassLists.{put_there, each_set, each_snoc, sum_set, sum_snoc, sum_two, map_at, map_set, map_snoc}
 
 module _ {S : Type 0} where
@@ -269,30 +269,4 @@ module _ {S V : Type 0} (fact : S → ℕ → List V → Type 0) (spent : V) whe
         tt,
         numbered s r (min n k) id me w some_parts at (asked r.state n (map view_of s.views) h there),
         (refl, (r.state, subst (λ (i : ℕ). StandsAt fact i me.0.view r.state n) (sym same) (map view_of s.views, h, there))),
-      )
-
-  pub commits : (slots id : ℕ) (me : Known S V) (x y : S) (w : V) (stage : Stage S) (next : Option V) → me.0.stage ≡ Holding x → 0 < me.0.parts → stage ≡ Holding y → next ≡ Some w → LeaveKeeps fact id me.0.view x y w
-      → Allows Rule slots id me 1 (λ n. n) (committed stage next (step slots 1 0 0 none) me)
-  commits slots id me x y w stage next holds some_parts then is asked s r _ at _ = let n : ℕ = get_or s.words 1 0 in let d' : D = pass_view (Holding y) me.0.parts me.0.tries me.0.misses w in
-      let known = subst (λ (st : Stage S). Knows r.turn r.holder r.state id st) holds (r.each_pass id me.0 at) in
-      let there = at_map view_of s.views id me.0 at in (
-        d',
-        keeps,
-        tt,
-        record {
-          state = y;
-          turn = r.turn;
-          holder = r.holder;
-          number = n;
-          low = r.low;
-          words = ap (λ (l : List ℕ). set l 1 n) r.words;
-          homes = r.homes ∙ ap (λ (b : ℕ). home_of b r.state ∷ []) known.0 ∙ sym (ap (λ (b : ℕ). home_of b y ∷ []) known.0);
-          each_pass = each_set (λ j d. Knows r.turn r.holder y j d.stage) s.views id d' (known.0, known.1, refl)
-              (λ j d other e. other_knows r.turn r.holder r.state r.turn r.holder y j d.stage (λ _ same. other (same ∙ sym known.1)) (r.each_pass j d e));
-          holds_it = λ _. (d', subst (λ (i : ℕ). get_elem? (set s.views id d') i ≡ some d') known.1 (put_there s.views id me.0 d' at), refl);
-          all_parts = let p = sum_set parts_of s.views id me.0 d' at in let a = r.all_parts in omega arith;
-          no_parts = each_set (λ j d. d.parts ≡ 0 → d ≡ spent_pass spent) s.views id d' (λ z. absurd (omega arith)) (λ j d _ e. r.no_parts j d e);
-          kept = subst (fact y n) (sym (map_set view_of s.views id d')) (asked n (map view_of s.views) (subst (λ (z : S). fact z n (map view_of s.views)) (sym known.2) (at_number s r)) there);
-        },
-        (sym then, refl, refl, refl, is, refl),
       )

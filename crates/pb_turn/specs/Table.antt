@@ -121,9 +121,3 @@ module _ {S V : Type 0} where
   left next st m n m' =
       (m'.0.stage ≡ Resting) × (m'.0.parts ≡ m.0.parts) × (m'.0.tries ≡ m.0.tries)
       × (m'.0.misses ≡ m.0.misses) × (next ≡ Some m'.0.view) × (m'.1 ≡ [])
-
-  -- the step at which what a holder did takes effect, while it keeps the turn
-  abbrev pub committed : Stage S → Option V → Step (Option S) → Known S V → ℕ → Known S V → Type 0
-  committed stage next st m n m' =
-      (m'.0.stage ≡ stage) × (m'.0.parts ≡ m.0.parts) × (m'.0.tries ≡ m.0.tries)
-      × (m'.0.misses ≡ m.0.misses) × (next ≡ Some m'.0.view) × (m'.1 ≡ m.1)

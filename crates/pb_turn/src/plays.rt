@@ -1,6 +1,6 @@
 //! What each step on the table reports.
 ghost use Rattle.std.specs.Prelude.{None};
-ghost use Rattle.pb_turn.specs.Table.{tried, read, sunk, left, committed, kept_pass, given_pass, met_pass, spent_pass};
+ghost use Rattle.pb_turn.specs.Table.{tried, read, sunk, left, kept_pass, given_pass, met_pass, spent_pass};
 
 use crate::rule::TurnRule;
 use crate::table_rule::PassView;
@@ -66,34 +66,6 @@ pub(crate) struct LeaveTurn<N> {
 
 impl<S, V, N: NextView<V>> Play<Option<S>, PassView<S, V>> for LeaveTurn<N> {
     ghost then = { left N.next };
-}
-
-/// What a holder has found, and the view that it has, after all that it did so far took effect: the
-/// call picks both.
-pub(crate) trait NextStage<S, V> {
-    ghost use Rattle.std.specs.Prelude.{Option};
-    ghost use Rattle.pb_turn.specs.declared.table_rule.Stage.{Stage};
-
-    ghost stage: { Stage S };
-
-    ghost next: { Option V };
-}
-
-impl<S, V> NextStage<S, V> for Brand {
-    ghost use Rattle.pb_turn.specs.declared.table_rule.Stage.TheVariants.{Resting};
-
-    ghost stage = { Resting };
-
-    ghost next = { None };
-}
-
-/// The step at which all that a holder did so far takes effect, while it keeps the turn.
-pub(crate) struct CommitTurn<N> {
-    next: PhantomData<N>,
-}
-
-impl<S, V, N: NextStage<S, V>> Play<Option<S>, PassView<S, V>> for CommitTurn<N> {
-    ghost then = { committed N.stage N.next };
 }
 
 /// A pass is split from another.

@@ -4,13 +4,11 @@
 ghost use Rattle.std.specs.Prelude.{◌≡◌, ◌≢◌, ◌+◌, ◌<◌, ℕ, Some, MatchBool, ⊤};
 ghost use Rattle.pb_turn.specs.Obligations.{LeaveKeeps, LoadKeeps, LowerKeeps, SplitKeeps, MeetKeeps, Stands, StandsAt, IsHeld};
 ghost use Rattle.pb_turn.specs.Passes.{view, number, parts, tries, misses, whole, held, found, state, IsResting, HoldsTurn, HasLaid, IsPassOf, IsSamePass, IsSamePlace};
-ghost use Rattle.pb_turn.specs.declared.table_rule.Stage.TheVariants.{Holding};
 
 use crate::lock::TurnLock;
 use crate::pass::{Held, Pass};
 use crate::plays::{
-    CommitTurn, LeaveTurn, LowerNumber, MeetPass, NextStage, NextView, PassNumber, ReadNumber,
-    SplitPass, TryTurn,
+    LeaveTurn, LowerNumber, MeetPass, NextView, PassNumber, ReadNumber, SplitPass, TryTurn,
 };
 use crate::rule::{Leaving, TurnRule};
 use crate::table_rule::{FREE, NUMBER, STATE, TAKEN, TURN};
@@ -129,55 +127,6 @@ impl<R: TurnRule> TurnLock<R> {
         let _ = said;
         let shared = &self.table.shared;
         shared.store::<LeaveTurn<N>>(&mut pass.seat, TURN, FREE);
-    }
-
-    // The step at which all that the holder did so far takes effect, with the view of M.
-    pub(crate) fn commit_turn<M: Leaving<R>>(
-        &self,
-        pass: &mut Pass<R>,
-        found: &Snapshot<R::State>,
-        leaves: &Snapshot<R::State>,
-        said: &M::Said,
-    )
-        requires own { IsPassOf self.now pass.old }
-        requires holds { HoldsTurn pass.old found.now.value }
-        requires rule { LeaveKeeps R.fact (number pass.old) (view pass.old) found.now.value
-            leaves.now.value (M.after said.now found.now.value leaves.now.value (view pass.old)) }
-        ensures same { IsSamePass pass.old pass.new × (tries pass.new ≡ tries pass.old)
-            × (misses pass.new ≡ misses pass.old) }
-        ensures holds { HoldsTurn pass.new leaves.now.value }
-        ensures view { view pass.new ≡ M.after said.now found.now.value leaves.now.value
-            (view pass.old) }
-    {
-        self.commit_turn_as::<Brand, M>(pass, found, leaves, said);
-    }
-
-    // Does the same as `commit_turn`; the call picks the state and the view.
-    fn commit_turn_as<N: NextStage<R::State, R::View>, M: Leaving<R>>(
-        &self,
-        pass: &mut Pass<R>,
-        found: &Snapshot<R::State>,
-        leaves: &Snapshot<R::State>,
-        said: &M::Said,
-    )
-        requires own { IsPassOf self.now pass.old }
-        requires holds { HoldsTurn pass.old found.now.value }
-        requires stage { N.stage ≡ Holding leaves.now.value }
-        requires rule { (w : R.View) × (N.next ≡ Some w)
-            × LeaveKeeps R.fact (number pass.old) (view pass.old) found.now.value leaves.now.value
-            w }
-        ensures same { IsSamePass pass.old pass.new × (tries pass.new ≡ tries pass.old)
-            × (misses pass.new ≡ misses pass.old) }
-        ensures holds { HoldsTurn pass.new leaves.now.value }
-        ensures view { N.next ≡ Some (view pass.new) }
-    {
-        // Only the contract speaks of them.
-        let _ = found;
-        let _ = leaves;
-        let _ = said;
-        let shared = &self.table.shared;
-        // The load is the atomic step at which the view changes; the number isn't needed.
-        let _ = shared.load::<CommitTurn<N>>(&mut pass.seat, NUMBER);
     }
 
     // Reads the number.

@@ -113,32 +113,4 @@ impl<R: TurnRule> TurnLock<R> {
         self.leave_turn::<M>(pass, &found, &leaves, said);
         self.table.shared.wake_one(TURN);
     }
-
-    /// All that the holder did so far takes effect here, at one step, as at a leaving. The pass
-    /// keeps the turn, and has found the state that it made. It never waits. No other pass can have
-    /// the state between.
-    pub fn commit<M: Leaving<R>>(
-        &self,
-        pass: &mut Pass<R>,
-        held: Held<R>,
-        said: &M::Said,
-    ) -> Held<R>
-        requires own { IsPassOf self.now pass.old }
-        requires holds { HoldsTurn pass.old (found held) }
-        requires rule { LeaveKeeps R.fact (number pass.old) (view pass.old) (found held)
-            (state held) (M.after said.now (found held) (state held) (view pass.old)) }
-        ensures same { IsSamePass pass.old pass.new × (tries pass.new ≡ tries pass.old)
-            × (misses pass.new ≡ misses pass.old) }
-        ensures holds { HoldsTurn pass.new (found result) }
-        ensures state { (found result ≡ state held) × (state result ≡ state held) }
-        ensures view { view pass.new ≡ M.after said.now (found held) (state held) (view pass.old) }
-    {
-        let Held { state, found } = held;
-        let leaves = Snapshot::of(&state);
-        self.commit_turn::<M>(pass, &found, &leaves, said);
-        Held {
-            state,
-            found: leaves,
-        }
-    }
 }

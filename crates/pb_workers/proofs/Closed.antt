@@ -1,14 +1,14 @@
 -- A worker that signed off.
-use Rattle.std.proofs.Common.{◌≡◌, Bool, true, false, Some, None, refl, ap, ◌∙◌, ◌∷◌}
+use Rattle.std.proofs.Common.{◌≡◌, Bool, true, false, Some, None, refl, sym, ap, ◌∙◌, ◌∷◌}
 use Rattle.pb_machine.specs.declared.event.End.TheVariants.{Memory}
 use Rattle.pb_machine.specs.declared.event.Event.TheVariants.{Off}
 use Rattle.pb_machine.specs.Counts.{Counts, counts_after, is_any_out}
-use Rattle.pb_lease.specs.Tables.{blocks}
+use Rattle.pb_lease.specs.Tables.{blocks, rooms}
 use Rattle.pb_lease.specs.Events.{ending}
 use Rattle.pb_lease.specs.GraphValue.{GraphValue, counts_in}
 use Rattle.pb_lease.specs.Choices.{is_out_in}
 use Rattle.pb_lease.specs.Steps.{IsSignedOff, KeepsLeases}
-use Rattle.pb_yard.proofs.Callers.{off_timely}
+use Rattle.pb_yard.proofs.Callers.{ending_rooms, off_timely}
 use Rattle.pb_workers.specs.Runs.{IsSameSearch, RunsOn}
 use Rattle.pb_machine.specs.History.{events_of}
 use Rattle.pb_yard.specs.Marking.{no_turn}
@@ -34,7 +34,7 @@ module _ (old : GraphValue) (memory : Bool) (new : GraphValue) (s : IsSignedOff 
   closed_signed = ap (λ (c : Counts). c.signed_off 0) s.events.counts ∙ ending_same (λ c. c.signed_off 0) (blocks old.table) old.table.settings Gone memory old.table.end (λ c. refl)
 
   pub closed_runs : (memory ≡ true → old.table.end ≡ None) → KeepsLeases old (Off 0 memory ∷ ending memory old.table.end) new → RunsOn old new
-  closed_runs free keeps = keeping_runs old (Off 0 memory ∷ ending memory old.table.end) new (off_timely old 0 memory free) keeps (ap (λ (v : GraphValue). v.incumbent) s.rest) s.events.journal
+  closed_runs free keeps = keeping_runs old (Off 0 memory ∷ ending memory old.table.end) new (off_timely old 0 memory free) (ending_rooms (rooms old.table) memory old.table.end ∙ sym s.room) keeps (ap (λ (v : GraphValue). v.incumbent) s.rest) s.events.journal
 
   pub closed_turn : HasTurn old 0 no_turn → HasTurn new 0 no_turn
   closed_turn before = journal_more old.table.journal new.table.journal 0 (Off 0 memory ∷ ending memory old.table.end) s.events.journal

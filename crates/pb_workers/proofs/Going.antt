@@ -4,18 +4,19 @@ use Rattle.std.proofs.lemmas.List.{append_assoc, append-nil}
 use Rattle.pb_model.specs.Store.{Rows}
 use Rattle.pb_machine.specs.declared.event.Event.{Event}
 use Rattle.pb_machine.specs.Counts.{Counts, is_any_out}
-use Rattle.pb_machine.specs.Room.{room_after}
+use Rattle.pb_machine.specs.Room.{rooms_after}
 use Rattle.pb_machine.specs.Machine.{Setup, Machine, journal_of}
-use Rattle.pb_machine.proofs.Callers.{runs_go_on, all_is_home, room_goes_on}
+use Rattle.pb_machine.proofs.Callers.{runs_go_on, all_is_home}
 use Rattle.pb_bundles.specs.Homes.{home_rows}
 use Rattle.pb_lease.specs.Leased.{setup_of}
+use Rattle.pb_lease.specs.Tables.{rooms}
 use Rattle.pb_lease.specs.GraphValue.{GraphValue, setup_in}
 use Rattle.pb_lease.specs.Choices.{is_out_in}
 use Rattle.pb_lease.specs.Moments.{IsMoment, FollowsInOrder, moves_of}
 use Rattle.pb_lease.specs.Steps.{KeepsLeases}
 use Rattle.pb_lease.proofs.Callers.{keeps_in_order}
 use Rattle.pb_yard.specs.Order.{RunsInTime}
-use Rattle.pb_yard.proofs.Callers.{AreTimely, events_of_moves, in_time_on}
+use Rattle.pb_yard.proofs.Callers.{AreTimely, events_of_moves, in_time_on, rooms_on}
 use Rattle.pb_workers.specs.Runs.{IsSameSearch, RunsTo, RunsOn}
 use Rattle.pb_workers.specs.Serving.{searched_in}
 
@@ -37,16 +38,17 @@ same_searched old new same = λ i. record { task = same.task i; abstraction = sa
 
 -- nothing happened
 pub run_none : (g : GraphValue) (recorded : (worker : ℕ) → Rows) (machine : Machine) → IsMoment g recorded machine → RunsTo g machine g recorded machine
-run_none g recorded machine m = record { moves = []; run = (machine.store.incumbent, (refl, refl)); events = sym (append-nil g.table.journal); moment = m }
+run_none g recorded machine m = record { moves = []; run = (machine.store.incumbent, (refl, refl)); events = sym (append-nil g.table.journal); room = refl; moment = m }
 
 -- what follows by events is a run
 pub run_one : (old : GraphValue) (machine : Machine) (events : List Event) (new : GraphValue) (recorded : (worker : ℕ) → Rows) (next : Machine)
-    → FollowsInOrder old machine events new recorded next → RunsInTime (setup_in old) (room_after old.table.journal) machine (moves_of events) next → new.table.journal ≡ old.table.journal ++ events
+    → FollowsInOrder old machine events new recorded next → RunsInTime (setup_in old) (rooms old.table) machine (moves_of events) next → rooms_after (rooms old.table) (moves_of events) ≡ rooms new.table → new.table.journal ≡ old.table.journal ++ events
     → RunsTo old machine new recorded next
-run_one old machine events new recorded next f in_time journal = record {
+run_one old machine events new recorded next f in_time room journal = record {
   moves = moves_of events;
   run = in_time;
   events = journal ∙ ap (λ es. old.table.journal ++ es) (sym (events_of_moves events));
+  room = room;
   moment = f.moment;
 }
 
@@ -57,11 +59,12 @@ run_then old mid new machine next last recorded after same first second =
     let both = runs_go_on (setup_in old) first.moves second.moves machine next last in
     record {
       moves = first.moves ++ second.moves;
-      run = in_time_on (setup_in old) (room_after old.table.journal) first.moves second.moves machine next last first.run
-          (subst (λ (r : ℕ → ℕ). RunsInTime (setup_in old) r next second.moves last) (ap room_after first.events ∙ (room_goes_on old.table.journal (journal_of first.moves)).1)
-          (subst (λ (s : Setup). RunsInTime s (room_after mid.table.journal) next second.moves last) (setup_is_same old mid same) second.run));
+      run = in_time_on (setup_in old) (rooms old.table) first.moves second.moves machine next last first.run
+          (subst (λ (r : ℕ → ℕ). RunsInTime (setup_in old) r next second.moves last) (sym first.room)
+          (subst (λ (s : Setup). RunsInTime s (rooms mid.table) next second.moves last) (setup_is_same old mid same) second.run));
       events = second.events ∙ ap (λ j. j ++ journal_of second.moves) first.events
           ∙ append_assoc old.table.journal (journal_of first.moves) (journal_of second.moves) ∙ ap (λ j. old.table.journal ++ j) (sym both.2);
+      room = rooms_on (rooms old.table) first.moves second.moves ∙ ap (λ (r : ℕ → ℕ). rooms_after r second.moves) first.room ∙ second.room;
       moment = second.moment;
     }
 
@@ -86,13 +89,13 @@ moment_home g recorded other machine home m =
 
 pub run_home : (old : GraphValue) (machine : Machine) (new : GraphValue) (recorded other : (worker : ℕ) → Rows) (next : Machine) → is_out_in new ≡ false
     → RunsTo old machine new recorded next → RunsTo old machine new other next
-run_home old machine new recorded other next home r = record { moves = r.moves; run = r.run; events = r.events; moment = moment_home new recorded other next home r.moment }
+run_home old machine new recorded other next home r = record { moves = r.moves; run = r.run; events = r.events; room = r.room; moment = moment_home new recorded other next home r.moment }
 
 -- events that keep the leases are a run
-pub keeping_runs : (old : GraphValue) (events : List Event) (new : GraphValue) → AreTimely old events → KeepsLeases old events new → new.incumbent ≡ old.incumbent → new.table.journal ≡ old.table.journal ++ events → RunsOn old new
-keeping_runs old events new timely keeps same journal recorded machine m =
+pub keeping_runs : (old : GraphValue) (events : List Event) (new : GraphValue) → AreTimely old events → rooms_after (rooms old.table) (moves_of events) ≡ rooms new.table → KeepsLeases old events new → new.incumbent ≡ old.incumbent → new.table.journal ≡ old.table.journal ++ events → RunsOn old new
+keeping_runs old events new timely room keeps same journal recorded machine m =
     let next = keeps_in_order old events new keeps same recorded machine m in
-    (next.0, run_one old machine events new recorded next.0 next.1 (timely machine machine.store.incumbent next.0 m.at.counts next.1.moves) journal)
+    (next.0, run_one old machine events new recorded next.0 next.1 (timely machine machine.store.incumbent next.0 m.at.counts next.1.moves) room journal)
 
 pub on_none : (g : GraphValue) → RunsOn g g
 on_none g recorded machine m = (machine, run_none g recorded machine m)

@@ -6,7 +6,6 @@ use Rattle.pb_machine.specs.declared.event.Event.TheVariants.{Renew, Release}
 use Rattle.pb_machine.specs.declared.event.Grant.{Grant}
 use Rattle.pb_machine.specs.Tables.{with_entry, one_if, count_below}
 use Rattle.pb_machine.specs.Counts.{Counts, quota_of}
-use Rattle.pb_machine.specs.Room.{room_after}
 use Rattle.pb_machine.specs.History.{events_of}
 use Rattle.pb_machine.specs.Machine.{Machine}
 use Rattle.pb_machine.proofs.Callers.{entry_here}
@@ -17,7 +16,7 @@ use Rattle.pb_bundles.specs.Homes.{HomeTable, key_at}
 use Rattle.pb_lease.specs.Tables.{rooms}
 use Rattle.pb_lease.specs.Events.{ending}
 use Rattle.pb_lease.specs.LeaseValue.{LeaseValue, leased_store, IsSameLease}
-use Rattle.pb_lease.specs.Leased.{grant_of, HasScope, IsOutInTurns}
+use Rattle.pb_lease.specs.Leased.{grant_of, FitsScopes, HasScope, IsOutInTurns}
 use Rattle.pb_lease.specs.GraphValue.{GraphValue, setup_in, counts_in, IsLeaseGraph, IsOfGraph}
 use Rattle.pb_lease.specs.Moments.{IsMoment}
 use Rattle.pb_lease.specs.Steps.{IsReleased, ReleasesNext, IsRenewed, RenewsNext, GoesOn, renewed_quota}
@@ -25,7 +24,7 @@ use Rattle.pb_lease.proofs.Callers.{setup_is, releases_in_order, renews_in_order
 use Rattle.pb_expand.specs.Turned.{IsAtWork}
 use Rattle.pb_yard.specs.Order.{HasCause, CannotGoOn}
 use Rattle.pb_yard.specs.Marking.{no_turn, turn_with}
-use Rattle.pb_yard.proofs.Callers.{in_time_one, in_time_events, ending_grants_none, still_first, cannot_go_on, MayReturn}
+use Rattle.pb_yard.proofs.Callers.{in_time_one, in_time_events, ending_grants_none, ending_rooms, still_first, cannot_go_on, MayReturn}
 use Rattle.pb_workers.specs.Runs.{IsSameSearch, RunsTo}
 use Rattle.pb_workers.specs.Holding.{Works, IsHeld, RunsOut, RunsHome, left_with, opened_blocks, IsNearer, IsMarkedAtMost, IsWorkOf, GoesOnTo, IsToReturn, IsBack}
 use Rattle.pb_workers.proofs.Going.{same_then, run_one, run_then}
@@ -71,6 +70,7 @@ module _ (g : GraphValue) (lease : LeaseValue) (held : IsHeld g lease) where
       leased = ap (counts_in g).leases w.same.worker ∙ held.of_graph.leased ∙ (λ i. Some (record { block = sym w.same.block i; quota = sym w.same.quota i }));
       weight = w.same.weight ∙ held.of_graph.weight;
       choice = w.same.choice ∙ held.of_graph.choice;
+      fits = subst (λ n. FitsScopes g.table.abstraction n) (sym w.same.fits) held.of_graph.fits;
       scope = w.scope;
     }
 
@@ -88,6 +88,7 @@ module _ (g : GraphValue) (lease : LeaseValue) (held : IsHeld g lease) where
         leased = (λ i. marked_leases g worked.worker marked mark i worked.worker) ∙ worked_of_graph.leased;
         weight = worked_of_graph.weight ∙ (λ i. record { num = (sym (marked_same g worked.worker marked mark).settings i).num; den = (sym (marked_same g worked.worker marked mark).settings i).den });
         choice = worked_of_graph.choice ∙ sym (marked_same g worked.worker marked mark).choice;
+        fits = subst (λ (a : AbstractGraph). FitsScopes a worked.fits) (sym (marked_same g worked.worker marked mark).abstraction) worked_of_graph.fits;
         scope = subst (λ (a : AbstractGraph). HasScope a worked) (sym (marked_same g worked.worker marked mark).abstraction) worked_of_graph.scope;
       }
 
@@ -113,7 +114,7 @@ module _ (g : GraphValue) (lease : LeaseValue) (held : IsHeld g lease) (worked :
           step.0,
           run_then g marked new machine a.0 step.0 recorded recorded (marked_same g worked.worker marked mark) a.1
               (run_one marked a.0 (Release worked.worker worked.used true ∷ ending true marked.table.end) new recorded step.0 step.1
-              (in_time_events (setup_in marked) (room_after marked.table.journal) (Release worked.worker worked.used true ∷ ending true marked.table.end) a.0 step.0 (ending_grants_none true marked.table.end) step.1.moves) r.events.journal),
+              (in_time_events (setup_in marked) (rooms marked.table) (Release worked.worker worked.used true ∷ ending true marked.table.end) a.0 step.0 (ending_grants_none true marked.table.end) step.1.moves) (ending_rooms (with_entry (rooms marked.table) worked.worker 0) true marked.table.end ∙ sym r.room) r.events.journal),
         )
 
     nearer_memory : IsNearer g lease new
@@ -130,16 +131,16 @@ module _ (g : GraphValue) (lease : LeaseValue) (held : IsHeld g lease) (worked :
         let a = along g lease held worked 0 w marked mark recorded machine m out in
         let step = releases_in_order marked worked new r.incumbent recorded a.0 a.1.moment false next a.2 in
         let why : (HasOpened (step.0.store.rows worked.block) → ⊥)
-        ⊎ ((worked.used ≡ worked.quota) × CannotGoOn (setup_in marked) (room_after marked.table.journal) a.0 worked.worker worked.used worked.block step.0) =
+        ⊎ ((worked.used ≡ worked.quota) × CannotGoOn (setup_in marked) (rooms marked.table) a.0 worked.worker worked.used worked.block step.0) =
         elim cause [
           | inl none ↦ inl (none_opened_then marked k worked of_graph new r recorded a.0 a.1.moment a.2 none recorded step.0 step.1.moment)
-          | inr spent ↦ inr (spent.0, cannot_go_on marked worked new r.noted spent.1 spent.2 recorded recorded a.0 step.0 a.1.moment.at step.1.moment.at spent.3)
+          | inr spent ↦ inr (spent.0, cannot_go_on marked worked new r.noted spent.1 recorded recorded a.0 step.0 a.1.moment.at step.1.moment.at spent.2)
         ] in (
           recorded,
           step.0,
           run_then g marked new machine a.0 step.0 recorded recorded (marked_same g worked.worker marked mark) a.1
               (run_one marked a.0 (Release worked.worker worked.used false ∷ []) new recorded step.0 step.1
-              (in_time_one (setup_in marked) (room_after marked.table.journal) (Release worked.worker worked.used false) a.0 step.0 tt (grant_of worked, a.2.0.leased, why) step.1.moves) r.events.journal),
+              (in_time_one (setup_in marked) (rooms marked.table) (Release worked.worker worked.used false) a.0 step.0 tt (grant_of worked, a.2.0.leased, why) step.1.moves) (sym r.room) r.events.journal),
         )
 
     left : new.table.left ≡ marked.table.left + (worked.quota - worked.used)
@@ -243,8 +244,9 @@ module _ (g : GraphValue) (lease : LeaseValue) (held : IsHeld g lease) (worked :
           step.0,
           run_then g marked new machine a.0 step.0 recorded after (marked_same g worked.worker marked mark) a.1
               (run_one marked a.0 (Renew worked.worker worked.used kept.quota ∷ []) new after step.0 step.1
-              (in_time_one (setup_in marked) (room_after marked.table.journal) (Renew worked.worker worked.used kept.quota) a.0 step.0 (given_whole step.0 step.1.moment.incumbent step.2)
+              (in_time_one (setup_in marked) (rooms marked.table) (Renew worked.worker worked.used kept.quota) a.0 step.0 (given_whole step.0 step.1.moment.incumbent step.2)
               (grant_of worked, a.2.0.leased, spent, still_first marked worked new n.noted k.key_places recorded after a.0 step.0 a.1.moment.at step.1.moment.at goes.0) step.1.moves)
+              (sym n.room)
               (n.events.journal ∙ ap (λ q. marked.table.journal ++ Renew worked.worker worked.used q ∷ []) (sym kept_quota))),
           step.3,
         )

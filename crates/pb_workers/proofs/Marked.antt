@@ -4,7 +4,6 @@ use Rattle.pb_model.specs.Store.{Rows, Store}
 use Rattle.pb_model.proofs.Callers.{by_cases, equal_self}
 use Rattle.pb_machine.specs.declared.event.Event.TheVariants.{Hot}
 use Rattle.pb_machine.specs.Counts.{Counts}
-use Rattle.pb_machine.specs.Room.{room_after}
 use Rattle.pb_machine.specs.Blocks.{interferes}
 use Rattle.pb_machine.specs.Choice.{IsRival}
 use Rattle.pb_machine.specs.Machine.{Machine}
@@ -81,7 +80,7 @@ module _ (old : GraphValue) (worker : ℕ) (new : GraphValue) where
       )
   marked_runs (inr mark) recorded machine m =
       let step = keeps_in_order old (Hot worker mark.0 ∷ []) new mark.2 (ap (λ (v : GraphValue). v.incumbent) mark.1.rest) recorded machine m in
-      (step.0, run_one old machine (Hot worker mark.0 ∷ []) new recorded step.0 step.1 (in_time_events (setup_in old) (room_after old.table.journal) (Hot worker mark.0 ∷ []) machine step.0 tt step.1.moves) mark.1.events.journal, step.2)
+      (step.0, run_one old machine (Hot worker mark.0 ∷ []) new recorded step.0 step.1 (in_time_events (setup_in old) (rooms old.table) (Hot worker mark.0 ∷ []) machine step.0 tt step.1.moves) (sym mark.1.room) mark.1.events.journal, step.2)
 
 -- the worker's turn, whose quota is used up, with the mark or without
 pub marked_turn : (old : GraphValue) (worker : ℕ) (new : GraphValue) → IsMarkedAtMost old worker new → (same : ℕ) → worker ≡ same → (quota used : ℕ) → used ≡ quota → HasTurn old same (turn_with quota)

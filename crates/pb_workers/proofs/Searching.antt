@@ -6,19 +6,18 @@ use Rattle.pb_machine.specs.declared.event.End.{End}
 use Rattle.pb_machine.specs.declared.event.Event.TheVariants.{Lease}
 use Rattle.pb_machine.specs.Tables.{with_entry, any_below, count_below, one_if}
 use Rattle.pb_machine.specs.Counts.{Counts}
-use Rattle.pb_machine.specs.Room.{room_after}
 use Rattle.pb_machine.proofs.Callers.{any_none, one_small, sum_small}
 use Rattle.pb_abstract.specs.Graph.{AbstractGraph, blocks_of}
 use Rattle.pb_bundles.specs.Parts.{away_rows}
 use Rattle.pb_bundles.specs.Homes.{key_at}
-use Rattle.pb_lease.specs.Tables.{blocks}
+use Rattle.pb_lease.specs.Tables.{blocks, rooms}
 use Rattle.pb_lease.specs.Events.{counts_along}
 use Rattle.pb_lease.specs.LeaseValue.{LeaseValue}
 use Rattle.pb_lease.specs.GraphValue.{GraphValue, setup_in, counts_in}
 use Rattle.pb_lease.specs.Choices.{is_out_in, IsOver}
 use Rattle.pb_lease.specs.Steps.{IsLeased, LeasesNext, IsEnded, KeepsLeases, end_events}
 use Rattle.pb_lease.proofs.Callers.{passes_from, leases_in_order}
-use Rattle.pb_yard.proofs.Callers.{in_time_one, end_grants_none, plain_timely}
+use Rattle.pb_yard.proofs.Callers.{in_time_one, end_grants_none, end_rooms, plain_timely}
 use Rattle.pb_workers.specs.Runs.{IsSameSearch, IsAnyMoment, RunsOn}
 use Rattle.pb_workers.specs.Holding.{IsHeld, RunsHome, left_with, opened_blocks, IsNearer, GoesOnTo}
 use Rattle.pb_machine.specs.History.{events_of}
@@ -91,7 +90,8 @@ leased_runs first old mid new worker lease l next back same home before recorded
     let after = with_entry recorded lease.worker (away_rows lease.parts) in
     let c = back after b.0 b.1.moment b.3 in
     let leased = run_one old a.0 (Lease lease.worker lease.block lease.quota ∷ []) mid after b.0 b.1
-    (in_time_one (setup_in old) (room_after old.table.journal) (Lease lease.worker lease.block lease.quota) a.0 b.0 (b.2 ∙ l.lent_incumbent ∙ sym l.incumbent ∙ sym b.1.moment.incumbent) tt b.1.moves)
+    (in_time_one (setup_in old) (rooms old.table) (Lease lease.worker lease.block lease.quota) a.0 b.0 (b.2 ∙ l.lent_incumbent ∙ sym l.incumbent ∙ sym b.1.moment.incumbent) tt b.1.moves)
+    (subst (λ w. with_entry (rooms old.table) w 63 ≡ rooms mid.table) (sym l.worker_is) (sym l.room))
     (subst (λ w. mid.table.journal ≡ old.table.journal ++ Lease w lease.block lease.quota ∷ []) (sym l.worker_is) l.events.journal) in (
       c.1,
       run_then first old new machine a.0 c.1 recorded recorded same a.1
@@ -155,7 +155,7 @@ module _ (old : GraphValue) (end : End) (new : GraphValue) (e : IsEnded old end 
   ended_signed = end_same (λ c. c.signed_off) (λ c. refl)
 
   pub ended_runs : (first : GraphValue) → IsSameSearch first old → RunsOn first old → KeepsLeases old (end_events old.table.end end) new → RunsOn first new
-  ended_runs first same before keeps = on_then first old new same before (keeping_runs old (end_events old.table.end end) new (plain_timely old (end_events old.table.end end) (end_grants_none old.table.end end)) keeps (ap (λ (v : GraphValue). v.incumbent) e.rest) e.events.journal)
+  ended_runs first same before keeps = on_then first old new same before (keeping_runs old (end_events old.table.end end) new (plain_timely old (end_events old.table.end end) (end_grants_none old.table.end end)) (end_rooms (rooms old.table) old.table.end end ∙ sym e.room) keeps (ap (λ (v : GraphValue). v.incumbent) e.rest) e.events.journal)
 
 pub ended_turn : (old : GraphValue) (end : End) (new : GraphValue) → IsEnded old end new → HasTurn old 0 no_turn → HasTurn new 0 no_turn
 ended_turn old end new e before = journal_more old.table.journal new.table.journal 0 (end_events old.table.end end) e.events.journal

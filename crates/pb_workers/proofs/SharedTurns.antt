@@ -7,15 +7,16 @@ use Rattle.pb_machine.specs.History.{is_event_of, events_of}
 use Rattle.pb_lease.specs.declared.answer.LeaseReply.{LeaseReply}
 use Rattle.pb_lease.specs.declared.answer.LeaseReply.TheVariants.{Leased}
 use Rattle.pb_lease.specs.declared.answer.Renewed.TheVariants.{Kept, Given}
+use Rattle.pb_lease.specs.declared.answer.SwitchReply.TheVariants.{Switched}
 use Rattle.pb_lease.specs.Events.{ending}
 use Rattle.pb_lease.specs.LeaseValue.{LeaseValue}
 use Rattle.pb_lease.specs.GraphValue.{GraphValue}
 use Rattle.pb_yard.specs.declared.view.View.{View}
-use Rattle.pb_yard.specs.Marking.{Turn, no_turn, turn_with, turn_then, turn_of}
+use Rattle.pb_yard.specs.Marking.{Turn, no_turn, turn_with, turn_then, turn_after, turn_of}
 use Rattle.pb_yard.specs.Replies.{LeasesAs, lease_events, lent_by, told_by, ReleasesAs, release_events, RenewsAs, renewal_events, RivalsAs, MarksAs, mark_events, SignsOffAs, reported, off_events}
-use Rattle.pb_yard.specs.Calls.{Holds, HasRead, ReadsAndHolds, Leases, Renews, GivesAndLeases, Releases, AsksRival, Marks, SignsOff}
+use Rattle.pb_yard.specs.Calls.{Holds, HasRead, ReadsAndHolds, Leases, Renews, Switches, Releases, AsksRival, Marks, SignsOff}
 use Rattle.pb_workers.specs.Turns.{HasTurnIn, IsBetweenTurns, MayEnd}
-use Rattle.pb_workers.proofs.Turns.{own, ending_none, one_more, none_more}
+use Rattle.pb_workers.proofs.Turns.{own, ending_none, one_more, two_more, none_more}
 use Rattle.pb_workers.proofs.Turns.{renewed as turn_renewed, returned as turn_returned}
 
 -- a pass that held the graph
@@ -61,6 +62,14 @@ module _ (old new : View) (lease : LeaseValue) (is : lease.worker ≡ old.journa
       (own lease.worker between.journal.own.worker (is ∙ sym (read_worker old between r))) refl
       ∙ turn_returned turn lease.worker lease.used false may
 
+  -- a turn that ends, and another one that begins with another lease
+  pub switched_turn : (next : LeaseValue) → MayEnd turn lease.used 0 → Switches lease old (Switched next) new → HasTurnIn new (turn_with next.quota)
+  switched_turn next may (between, r, h) =
+      let mine = own lease.worker between.journal.own.worker (is ∙ sym (read_worker old between r)) in
+      ap (λ (v : View). turn_of v.journal.own.events) h.view
+      ∙ two_more between.journal.own.events between.journal.own.worker turn (read_turn old between r ∙ was) (Release lease.worker lease.used false) (Lease lease.worker next.block next.quota) mine mine
+      ∙ ap (λ t. turn_after t (Lease lease.worker next.block next.quota ∷ [])) (turn_returned turn lease.worker lease.used false may)
+
   pub released_turn : (memory : Bool) → MayEnd turn lease.used (one_if memory) → Releases lease memory old new → IsBetweenTurns new
   released_turn memory may (between, r, h) =
       turn_own (ReleasesAs lease memory) (release_events lease memory) between None None new h turn (read_turn old between r ∙ was) (Release lease.worker lease.used memory) (ending memory h.found.table.end) refl
@@ -86,18 +95,6 @@ pub off_turn : (worker : ℕ) (memory : Bool) (old new : View) → worker ≡ ol
 off_turn worker memory old new is h was =
     turn_own (SignsOffAs worker memory) (off_events worker memory) old old.lent old.told new h no_turn was (Off worker (reported memory h.found.table.end))
     (ending (reported memory h.found.table.end) h.found.table.end) refl (own worker old.journal.own.worker is) (ending_none old.journal.own.worker (reported memory h.found.table.end) h.found.table.end)
-
--- a turn that ends, and another one that begins at once with another lease, or none
-module _ (worker : ℕ) (old new : View) (lease : LeaseValue) (is : lease.worker ≡ old.journal.own.worker) (by : worker ≡ old.journal.own.worker) (turn : Turn) (was : HasTurnIn old turn) (may : MayEnd turn lease.used 0) where
-  mid_worker : (between : View) → Renews lease old Given between → worker ≡ between.journal.own.worker
-  mid_worker between (first, r, h) = by ∙ sym (ap (λ (v : View). v.journal.own.worker) h.view ∙ read_worker old first r)
-
-  pub switched_turn : (next : LeaseValue) → GivesAndLeases lease worker old (Leased next) new → HasTurnIn new (turn_with next.quota)
-  switched_turn next (between, gives, leases) = leased_turn worker between new (mid_worker between gives) (given_turn old between lease is turn was may gives) next leases
-
-  pub home_turn : (reply : LeaseReply) → ((g : GraphValue) (w : ℕ) → events_of w (lease_events worker reply g) ≡ []) → GivesAndLeases lease worker old reply new → IsBetweenTurns new
-  home_turn reply none (between, gives, leases) = unleased_turn worker between new (mid_worker between gives) (given_turn old between lease is turn was may gives) (lease_events worker reply) (LeasesAs worker reply)
-      (lent_by reply between.lent) (told_by reply between.told) leases (λ g. none g between.journal.own.worker)
 
 -- ---- a loop that may not end
 

@@ -19,6 +19,7 @@ use Rattle.pb_abstract.specs.Graph.{AbstractGraph, blocks_of, IsGraphOf}
 use Rattle.pb_lease.specs.declared.answer.LeaseReply.TheVariants.{Leased, NotYet, Over, Memory}
 use Rattle.pb_lease.specs.declared.answer.LeaseReply.{LeaseReply}
 use Rattle.pb_lease.specs.declared.answer.Renewed.TheVariants.{Kept, Given}
+use Rattle.pb_lease.specs.declared.answer.SwitchReply.TheVariants.{Switched}
 use Rattle.pb_lease.specs.Tables.{blocks}
 use Rattle.pb_lease.specs.LeaseValue.{LeaseValue, leased_store, IsSameLease}
 use Rattle.pb_lease.specs.Leased.{guide_of, HasScope}
@@ -33,8 +34,8 @@ use Rattle.pb_yard.specs.Replies.{LeasesAs, lease_events, lent_by, told_by, Rele
 use Rattle.pb_yard.specs.Returning.{IsLeaseOf, IsBrought}
 use Rattle.pb_yard.specs.Marking.{turn_with, turn_of}
 use Rattle.pb_yard.specs.Passes.{view_of, worker_of, KeepsPass}
-use Rattle.pb_yard.specs.Calls.{Holds, HasRead, ReadsAndHolds, Looks, Leases, Renews, GivesAndLeases, Releases, AsksRival, Marks, IsActive}
-use Rattle.pb_yard.proofs.Callers.{history, leased, begins, own_none_off, end_none_off, ending_none_off, ended_end}
+use Rattle.pb_yard.specs.Calls.{Holds, HasRead, ReadsAndHolds, Looks, Leases, Renews, Switches, Releases, AsksRival, Marks, IsActive}
+use Rattle.pb_yard.proofs.Callers.{history, leased, begins, own_none_off, end_none_off, ending_none_off, ended_end, switched_active}
 use Rattle.pb_workers.specs.declared.yard_watch.YardWatch.{YardWatch}
 use Rattle.pb_workers.specs.Serving.{searched_by}
 use Rattle.pb_workers.specs.Shared.{IsSameHolder, IsIdle, IsLeased, MarksRivalTold}
@@ -186,7 +187,7 @@ module _ (task : TaskParts) (abstraction : AbstractGraph) (view : View) (live : 
     from = record {
       lent = lease;
       lent_is = l.lent;
-      same = record { worker = refl; block = refl; quota = refl; weight = refl; choice = refl; places = refl; incumbent = at_most_self lease.incumbent };
+      same = record { worker = refl; block = refl; quota = refl; weight = refl; choice = refl; fits = refl; places = refl; incumbent = at_most_self lease.incumbent };
       work = record { works = []; on = tt; comes = refl; used_is = sym unused; few_broken = omega arith; stops = tt };
       turns = tt;
     };
@@ -325,28 +326,25 @@ module _ (task : TaskParts) (abstraction : AbstractGraph) (old new : View) (of_t
   pub released_then : (memory : Bool) → Releases worked memory old new → IsIdle task abstraction new
   released_then memory h = gone (ReleasesAs worked memory) (release_events worked memory) h (λ g. ending_none_off memory g.table.end)
 
--- ---- a lease that comes back, and another that is asked for at once
+-- ---- a worker that goes on with another block
 
-module _ (task : TaskParts) (abstraction : AbstractGraph) (old new : View) (of_task : IsGraphOf task abstraction) (task_is : old.task ≡ task) (graph_is : old.abstraction ≡ abstraction) (stays : IsActive old) (worked : LeaseValue) (worker : ℕ) where
-  gave_idle : (between : View) → Renews worked old Given between → IsIdle task abstraction between
-  gave_idle between gives = given_then task abstraction old between of_task task_is graph_is stays worked gives
+module _ (task : TaskParts) (abstraction : AbstractGraph) (old new : View) (of_task : IsGraphOf task abstraction) (task_is : old.task ≡ task) (graph_is : old.abstraction ≡ abstraction) (stays : IsActive old) (worked next : LeaseValue)
+    (switches : Switches worked old (Switched next) new) where
+  pub switched_holder : IsSameHolder old new
+  switched_holder = holder_then old switches.0 new (read_holder old switches.0 switches.1) (subst (λ (v : View). IsSameHolder switches.0 v) (sym switches.2.view)
+      record { worker = refl; taken_in = refl; made = refl; task = refl; abstraction = refl; choice = refl; settings = refl; begin = refl })
 
-  pub switched_then : (next : LeaseValue) → GivesAndLeases worked worker old (Leased next) new → IsLeased task abstraction new next
-  switched_then next (between, gives, leases) = leased_then task abstraction worker between new (gave_idle between gives) next leases
-
-  pub wait_home : GivesAndLeases worked worker old NotYet new → IsIdle task abstraction new
-  wait_home (between, gives, leases) = wait_then task abstraction worker between new (gave_idle between gives) (lease_events worker NotYet) (LeasesAs worker NotYet) leases (λ g. refl)
-
-  pub memory_home : GivesAndLeases worked worker old Memory new → IsIdle task abstraction new
-  memory_home (between, gives, leases) = wait_then task abstraction worker between new (gave_idle between gives) (lease_events worker Memory) (LeasesAs worker Memory) leases (λ g. refl)
-
-  pub over_home : (end : End) → GivesAndLeases worked worker old (Over end) new → IsIdle task abstraction new
-  over_home end (between, gives, leases) = (over_then task abstraction worker between new (gave_idle between gives) end leases).0
-
-  pub gave_holder : (reply : LeaseReply) → GivesAndLeases worked worker old reply new → IsSameHolder old new
-  gave_holder reply (between, gives, leases) = holder_then old between new
-      (reader_holds (RenewsAs worked Given) (λ found. renewal_events worked Given) old None None between gives)
-      (reader_holds (LeasesAs worker reply) (lease_events worker reply) between (lent_by reply between.lent) (told_by reply between.told) new leases)
+  pub switched_then : IsLeased task abstraction new next
+  switched_then = record {
+    of_task = of_task;
+    task_is = switched_holder.task ∙ task_is;
+    graph_is = switched_holder.abstraction ∙ graph_is;
+    lent = ap (λ (v : View). v.lent) switches.2.view;
+    untold = ap (λ (v : View). v.told) switches.2.view;
+    stays = switched_active worked old new next switches stays;
+    yard = switches.2.left;
+    at = switches.2.after;
+  }
 
 -- ---- the same task and the same blocks
 

@@ -45,6 +45,15 @@ module _ (events : List Event) (worker : ℕ) where
       ∙ ap (λ t. turn_after t (event ∷ [])) is
       ∙ after_none (turn_then turn event)
 
+  -- two of its own events
+  pub two_more : (turn : Turn) → turn_of events ≡ Some turn → (first second : Event) → is_event_of worker first ≡ true → is_event_of worker second ≡ true
+      → turn_of (events ++ events_of worker (first ∷ second ∷ [])) ≡ turn_after (turn_then turn first) (second ∷ [])
+  two_more turn is first second mine too =
+      ap (λ r. turn_of (events ++ cond r (first ∷ events_of worker (second ∷ [])) (events_of worker (second ∷ [])))) mine
+      ∙ ap (λ r. turn_of (events ++ first ∷ cond r (second ∷ []) [])) too
+      ∙ turn_on events (first ∷ second ∷ []) (Some no_turn)
+      ∙ ap (λ t. turn_after t (first ∷ second ∷ [])) is
+
   -- events that aren't its own
   pub none_more : (more : List Event) → events_of worker more ≡ [] → turn_of (events ++ events_of worker more) ≡ turn_of events
   none_more more none = ap (λ es. turn_of (events ++ es)) none ∙ ap turn_of (append-nil events)

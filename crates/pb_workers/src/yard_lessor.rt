@@ -4,7 +4,7 @@ use crate::lessor::{Lessor, Switched};
 use crate::worker::Worker;
 use crate::yard_watch::YardWatch;
 use pb_expand::Worked;
-use pb_lease::{Lease, LeaseReply, Renewed};
+use pb_lease::{Lease, Renewed};
 use pb_yard::Switch;
 use std::sync::{Forever, Wait};
 
@@ -73,13 +73,11 @@ impl<'a, W: Wait> Lessor for YardLessor<'a, W> {
                 self.turns.next();
                 Switched::Kept(kept)
             }
-            Switch::Gave(LeaseReply::Leased(next)) => {
+            Switch::Switched(next) => {
                 self.turns.next();
                 Switched::Next(next)
             }
-            Switch::Gave(LeaseReply::NotYet) => Switched::Home,
-            Switch::Gave(LeaseReply::Over(_)) => Switched::Home,
-            Switch::Gave(LeaseReply::Memory) => Switched::Home,
+            Switch::Given => Switched::Home,
             Switch::Busy(lease) => Switched::Busy(lease),
         }
     }

@@ -12,11 +12,11 @@ use Rattle.pb_machine.specs.declared.event.Event.TheVariants.{Lease, Renew, Hot,
 use Rattle.pb_machine.specs.declared.event.Grant.{Grant}
 use Rattle.pb_machine.specs.Tables.{with_entry, one_if, count_below}
 use Rattle.pb_machine.specs.Counts.{Counts, with_quota, counts_after}
-use Rattle.pb_machine.specs.Room.{leases_in, no_room}
+use Rattle.pb_machine.specs.Room.{leases_in, no_room, room_moved}
 use Rattle.pb_machine.specs.History.{AreFinished}
-use Rattle.pb_machine.specs.Machine.{Setup, IsSetup, Machine, opening_machine, lent_store, CameBack, Happens, Move, event_move, tell_move, Moves, journal_of}
+use Rattle.pb_machine.specs.Machine.{Setup, IsSetup, Machine, opening_machine, lent_store, CameBack, Happens, Move, event_move, tell_move, switch_move, Moves, journal_of}
 use Rattle.pb_machine.specs.Lawful.{broken_leases, IsLawful}
-use Rattle.pb_yard.specs.Order.{IsTimely, room_moved, settled_after, RunsSettled}
+use Rattle.pb_yard.specs.Order.{IsTimely, settled_after, RunsSettled}
 use Rattle.pb_machine.proofs.Callers.{entry_here, entry_else, sum_with_entry, none_counted, passes, none_leased, within, some_is, opening_is_lawful, moves_keep_lawful, runs_are_lawful, scopes_are_apart, journals_are_histories, journals_are_short, broken_more, works_there}
 use Rattle.pb_yard.specs.Length.{leases_out, most_leases, LeasesAreFew, RunsAreShort}
 use Rattle.pb_yard.proofs.InTime.{in_time_is_run}
@@ -231,10 +231,19 @@ module _ (p : Setup) (greatest_cost : ℕ) (is : IsSetup p greatest_cost) where
       subst (IsPaid new) (omega arith) (stays old new given (λ home state. ap (λ (s : Store). s.rows home state) h.rows.0) (ap (λ (c : Counts). c.spent) h.counts) h.rows.4 (ap (λ (c : Counts). c.leases) h.counts) was)
   moved room (tell_move worker cost) old new given l h timely was =
       subst (IsPaid new) (omega arith) (stays old new given (λ home state. ap (λ (s : Store). s.rows home state) h.store) (ap (λ (c : Counts). c.spent) h.counts) h.broken (ap (λ (c : Counts). c.leases) h.counts) was)
+  moved room (switch_move worker used block quota) old new given l h timely was =
+      let back = releases worker used 0 old h.0 given l h.1.rows.0 was refl h.1.counts h.1.rows.4 (timely.0, timely.1, cause timely.2) in
+      let lawful = moves_keep_lawful p greatest_cost (event_move (Release worker used false)) old h.0 is l h.1 in
+      subst (IsPaid new) (omega arith) (leases worker block quota h.0 new given lawful h.2 back)
+    where
+      cause : {A : Type 0} → (HasOpened (new.store.rows timely.0.block) → ⊥) ⊎ ((used ≡ timely.0.quota) × A) → (HasOpened (h.0.store.rows timely.0.block) → ⊥) ⊎ (used ≡ timely.0.quota)
+      cause (inl none) = inl (subst (λ (s : Store). HasOpened (s.rows timely.0.block) → ⊥) h.2.rows.1 none)
+      cause (inr both) = inr both.0
 
   one_and_more : (move : Move) (moves : List Move) → leases_in (journal_of (move ∷ moves)) ≡ leases_in (journal_of (move ∷ [])) + leases_in (journal_of moves)
   one_and_more (event_move event) moves = omega arith
   one_and_more (tell_move worker cost) moves = omega arith
+  one_and_more (switch_move worker used block quota) moves = omega arith
 
   runs : (room : ℕ → ℕ) (moves : List Move) (old : Machine) (settled : Option ℕ) (new : Machine) (later : Option ℕ) (given : ℕ) → IsLawful p old → RunsSettled p room old settled moves new later → IsPaid old given → IsPaid new (given + leases_in (journal_of moves))
   runs room [] old settled new later given l run was = subst (λ (m : Machine). IsPaid m (given + 0)) (sym run.0) (subst (IsPaid old) (omega arith) was)

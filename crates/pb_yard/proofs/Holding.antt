@@ -1,5 +1,5 @@
 -- A call that holds the graph keeps the rule of the yard: the one lemma for all calls.
-use Rattle.std.proofs.Common.{◌≡◌, ◌≢◌, ℕ, ◌==◌, true, false, List, ◌++◌, map, set, Option, Some, None, refl, sym, ap, ◌∙◌, subst}
+use Rattle.std.proofs.Common.{◌≡◌, ◌≢◌, ℕ, ◌==◌, true, false, List, [], ◌++◌, map, set, Option, Some, None, refl, sym, ap, ◌∙◌, subst}
 use mathlib.Core.Option.{some}
 use lib.ListN.{get_elem?}
 use Rattle.pb_turn.proofs.Callers.{each_set, put_there, map_set}
@@ -12,30 +12,34 @@ use Rattle.pb_machine.specs.declared.settings.Settings.{Settings}
 use Rattle.pb_machine.specs.Settings.{AreInRange}
 use Rattle.pb_machine.specs.Tables.{with_entry}
 use Rattle.pb_machine.specs.Counts.{Counts}
-use Rattle.pb_machine.specs.Room.{no_room, room_after}
+use Rattle.pb_machine.specs.Room.{no_room, rooms_after}
 use Rattle.pb_machine.specs.Views as of_machine
 use Rattle.pb_machine.specs.Views.{AreTrueOf, AreBy, view_after}
-use Rattle.pb_machine.specs.Machine.{Setup, IsSetup, Machine, journal_of}
+use Rattle.pb_machine.specs.Machine.{Setup, IsSetup, Machine, Move, journal_of, AreOfOthers}
 use Rattle.pb_machine.proofs.Callers.{entry_here, entry_else, holding_keeps_views, runs_go_on, known_stays, others_are_left}
+use Rattle.pb_lease.specs.Tables.{rooms}
 use Rattle.pb_lease.specs.LeaseValue.{LeaseValue}
 use Rattle.pb_lease.specs.GraphValue.{GraphValue, setup_in}
-use Rattle.pb_lease.specs.Moments.{moves_of, Follows}
+use Rattle.pb_lease.specs.Moments.{FollowsBy}
 use Rattle.pb_lease.specs.Begins.{begin_machine}
-use Rattle.pb_lease.proofs.Callers.{events_leave_others}
 use Rattle.pb_yard.specs.declared.view.View.{View}
 use Rattle.pb_yard.specs.Views.{view_then}
 use Rattle.pb_yard.specs.Order.{RunsSettled}
 use Rattle.pb_yard.specs.Rule.{rows_of, grant_in, journal_view, IsLent, IsKnownTo, IsViewOf, IsRecent, HasNoPass, IsYard}
-use Rattle.pb_yard.proofs.InTime.{events_of_moves, settled_on, settled_same}
+use Rattle.pb_yard.proofs.InTime.{rooms_on, settled_on}
 use Rattle.pb_yard.proofs.Parts.{GoesOnAs, setup_same, run_same, search_same, still_of_graph, moment_where_leased, at_journal, workers_differ, no_pass_before, unread_recent, recent_stays}
 
--- From the graph x at a moment of the rule these events of one pass's worker, or of nobody, lead to
+-- From the graph x at a moment of the rule these moves, with these events, of one pass's worker, or of nobody, lead to
 -- y.
-pub record IsStep (x y : GraphValue) (machine next : Machine) (settled last : Option ℕ) (worker : ℕ) (events : List Event) (lent_to : ℕ → Option LeaseValue) (lent : Option LeaseValue) (told : Option ℕ) : Type 0 where
+pub record IsStep (x y : GraphValue) (machine next : Machine) (settled last : Option ℕ) (worker : ℕ) (events : List Event) (made : List Move) (lent_to : ℕ → Option LeaseValue) (lent : Option LeaseValue) (told : Option ℕ) : Type 0 where
   pub recorded : ℕ → Rows
-  pub follows : Follows x machine events y recorded next
+  pub follows : FollowsBy x machine made y recorded next
   pub later : Option ℕ
-  pub in_time : RunsSettled (setup_in x) (room_after x.table.journal) machine settled (moves_of events) next later
+  pub in_time : RunsSettled (setup_in x) (rooms x.table) machine settled made next later
+  pub rooms_then : rooms_after (rooms x.table) made ≡ rooms y.table
+  pub events_are : journal_of made ≡ events
+  pub still : events ≡ [] → later ≡ settled
+  pub theirs : (other : ℕ) → (other == worker) ≡ false → AreOfOthers other made
   pub same : GoesOnAs x y
   pub added : y.table.journal ≡ x.table.journal ++ events
   pub by : AreBy worker events
@@ -45,9 +49,9 @@ pub record IsStep (x y : GraphValue) (machine next : Machine) (settled last : Op
   pub copy : (lease : LeaseValue) → lent ≡ Some lease → AtMost last lease.incumbent
   pub told_is : next.told worker ≡ told
 
-module _ (x y : GraphValue) (shared later : Option ℕ) (views : List View) (seat : ℕ) (v : View) (events : List Event) (lent : Option LeaseValue) (told : Option ℕ)
+module _ (x y : GraphValue) (shared later : Option ℕ) (views : List View) (seat : ℕ) (v : View) (events : List Event) (made : List Move) (lent : Option LeaseValue) (told : Option ℕ)
     (h : IsYard x shared views) (at : get_elem? views seat ≡ some v) (live : v.journal.is_live ≡ true)
-    (next : Machine) (s : IsStep x y h.machine next h.settled v.last v.journal.own.worker events h.lent lent told) (shared_is : next.store.incumbent ≡ later) where
+    (next : Machine) (s : IsStep x y h.machine next h.settled v.last v.journal.own.worker events made h.lent lent told) (shared_is : next.store.incumbent ≡ later) where
   abbrev Own : ℕ
   Own = v.journal.own.worker
 
@@ -65,15 +69,15 @@ module _ (x y : GraphValue) (shared later : Option ℕ) (views : List View) (sea
 
   left : (other : ℕ) → (other == Own) ≡ false
       → (next.counts.leases other ≡ h.machine.counts.leases other) × (next.given other ≡ h.machine.given other) × (next.told other ≡ h.machine.told other)
-  left other else = others_are_left (setup_in x) (moves_of events) h.machine next other s.follows.moves (events_leave_others Own other events s.by else)
+  left other else = others_are_left (setup_in x) made h.machine next other s.follows.moves (s.theirs other else)
 
-  run : RunsSettled (setup_in x) no_room (begin_machine h.begin) h.begin.incumbent (h.moves ++ moves_of events) next s.later
-  run = settled_on (setup_in x) no_room h.moves (moves_of events) (begin_machine h.begin) h.machine next h.begin.incumbent h.settled s.later h.run
-      (subst (λ (j : List Event). RunsSettled (setup_in x) (room_after j) h.machine h.settled (moves_of events) next s.later) (sym h.journal) s.in_time)
+  run : RunsSettled (setup_in x) no_room (begin_machine h.begin) h.begin.incumbent (h.moves ++ made) next s.later
+  run = settled_on (setup_in x) no_room h.moves made (begin_machine h.begin) h.machine next h.begin.incumbent h.settled s.later h.run
+      (subst (λ (r : ℕ → ℕ). RunsSettled (setup_in x) r h.machine h.settled made next s.later) (sym h.rooms_are) s.in_time)
 
-  journal : journal_of (h.moves ++ moves_of events) ≡ y.table.journal
-  journal = (runs_go_on (setup_in x) h.moves (moves_of events) (begin_machine h.begin) h.machine next).2
-      ∙ ap (λ l. l ++ journal_of (moves_of events)) h.journal ∙ ap (λ l. x.table.journal ++ l) (events_of_moves events) ∙ sym s.added
+  journal : journal_of (h.moves ++ made) ≡ y.table.journal
+  journal = (runs_go_on (setup_in x) h.moves made (begin_machine h.begin) h.machine next).2
+      ∙ ap (λ l. l ++ journal_of made) h.journal ∙ ap (λ l. x.table.journal ++ l) s.events_are ∙ sym s.added
 
   leases : (other : ℕ) → next.counts.leases other ≡ grant_in (Lent other)
   leases other = by_cases (other == Own)
@@ -103,8 +107,8 @@ module _ (x y : GraphValue) (shared later : Option ℕ) (views : List View) (sea
 
   known : (u : View) → IsKnownTo h.machine u → IsKnownTo next u
   known u is = record {
-    read = λ incumbent has other. known_stays (setup_in x) (moves_of events) h.machine next s.follows.moves other incumbent (is.read incumbent has other);
-    last = known_stays (setup_in x) (moves_of events) h.machine next s.follows.moves u.journal.own.worker u.last is.last;
+    read = λ incumbent has other. known_stays (setup_in x) made h.machine next s.follows.moves other incumbent (is.read incumbent has other);
+    last = known_stays (setup_in x) made h.machine next s.follows.moves u.journal.own.worker u.last is.last;
   }
 
   mine : IsViewOf y next Lent New
@@ -139,12 +143,13 @@ module _ (x y : GraphValue) (shared later : Option ℕ) (views : List View) (sea
     begin = h.begin;
     begins = h.begins;
     of_run = run_same x y s.same h.begin h.of_run;
-    moves = h.moves ++ moves_of events;
+    moves = h.moves ++ made;
     machine = next;
     lent = Lent;
     settled = s.later;
-    run = subst (λ (t : Setup). RunsSettled t no_room (begin_machine h.begin) h.begin.incumbent (h.moves ++ moves_of events) next s.later) (sym setup) run;
+    run = subst (λ (t : Setup). RunsSettled t no_room (begin_machine h.begin) h.begin.incumbent (h.moves ++ made) next s.later) (sym setup) run;
     journal = journal;
+    rooms_are = rooms_on no_room h.moves made ∙ ap (λ (r : ℕ → ℕ). rooms_after r made) h.rooms_are ∙ s.rooms_then;
     moment = moment_where_leased y s.recorded (λ other. rows_of (Lent other)) next s.records s.follows.moment;
     shared_is = shared_is;
     leases = leases;
@@ -152,11 +157,11 @@ module _ (x y : GraphValue) (shared later : Option ℕ) (views : List View) (sea
     journals = journals;
     each = each_set (λ j u. u.journal.is_live ≡ true → IsViewOf y next Lent u) views seat New (λ _. mine) theirs;
     recent = each_set (λ j u. u.journal.is_live ≡ true → IsRecent y s.later u) views seat New (λ _. unread_recent y s.later New refl)
-        (λ other u apart there up. recent_stays x y events h.settled s.later u s.added (settled_same (setup_in x) (room_after x.table.journal) events h.machine h.settled next s.later s.in_time) (h.recent other u there up));
+        (λ other u apart there up. recent_stays x y events h.settled s.later u s.added s.still (h.recent other u there up));
     began = each_set (λ j u. u.journal.is_live ≡ true → u.begin ≡ h.begin) views seat New (λ _. h.began seat v at live) (λ other u apart there up. h.began other u there up);
     others = others;
   }
 
-  pub holding_keeps : (after : IsYard y later (set views seat New)) × RunsSettled (setup_in x) (room_after x.table.journal) h.machine h.settled (moves_of events) after.machine after.settled
+  pub holding_keeps : (after : IsYard y later (set views seat New)) × RunsSettled (setup_in x) (rooms x.table) h.machine h.settled made after.machine after.settled
   unfolding held
   holding_keeps = (held, s.in_time)

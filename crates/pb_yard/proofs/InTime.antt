@@ -6,19 +6,24 @@ use Rattle.pb_machine.specs.declared.event.End.{End}
 use Rattle.pb_machine.specs.declared.event.End.TheVariants.{Memory}
 use Rattle.pb_machine.specs.declared.event.Event.{Event}
 use Rattle.pb_machine.specs.declared.event.Event.TheVariants.{Lease, Renew, Hot, Cold, Release, Off, Ended}
-use Rattle.pb_machine.specs.Room.{room_with, room_from}
-use Rattle.pb_machine.specs.Machine.{Setup, Machine, Move, event_move, tell_move, journal_of, Runs}
+use Rattle.pb_machine.specs.Room.{room_with, room_moved, rooms_after}
+use Rattle.pb_machine.specs.Machine.{Setup, Machine, Move, event_move, tell_move, switch_move, journal_of, Runs}
 use Rattle.pb_machine.specs.Turns.{RunsInOrder}
 use Rattle.pb_lease.specs.Events.{ending}
 use Rattle.pb_lease.specs.Moments.{moves_of}
 use Rattle.pb_lease.specs.Steps.{end_events}
-use Rattle.pb_yard.specs.Order.{GivesWholeIncumbent, settled_after, IsTimely, room_moved, RunsSettled, RunsInTime}
+use Rattle.pb_yard.specs.Order.{GivesWholeIncumbent, settled_after, IsTimely, RunsSettled, RunsInTime}
 use Rattle.pb_yard.specs.Laws.{RunsInTimeAreInOrder}
 
 -- the events of moves that are events
 pub events_of_moves : (events : List Event) → journal_of (moves_of events) ≡ events
 events_of_moves [] = refl
 events_of_moves (event ∷ events) = ap (λ l. event ∷ l) (events_of_moves events)
+
+-- the room after moves and others
+pub rooms_on : (room : ℕ → ℕ) (moves more : List Move) → rooms_after room (moves ++ more) ≡ rooms_after (rooms_after room moves) more
+rooms_on room [] more = refl
+rooms_on room (move ∷ moves) more = rooms_on (room_moved room move) moves more
 
 module _ (setup : Setup) where
   settled_is_in_order : (room : ℕ → ℕ) (moves : List Move) (old : Machine) (settled : Option ℕ) (new : Machine) (later : Option ℕ) → RunsSettled setup room old settled moves new later → RunsInOrder setup old moves new
@@ -29,14 +34,12 @@ module _ (setup : Setup) where
   settled_is_run room [] old settled new later runs = runs.0
   settled_is_run room (move ∷ moves) old settled new later runs = (runs.0, runs.1, settled_is_run (room_moved room move) moves runs.0 (settled_after move settled runs.0) new later runs.5)
 
-  pub settled_on : (room : ℕ → ℕ) (moves more : List Move) (old between new : Machine) (first second third : Option ℕ) → RunsSettled setup room old first moves between second → RunsSettled setup (room_from room (journal_of moves)) between second more new third
+  pub settled_on : (room : ℕ → ℕ) (moves more : List Move) (old between new : Machine) (first second third : Option ℕ) → RunsSettled setup room old first moves between second → RunsSettled setup (rooms_after room moves) between second more new third
       → RunsSettled setup room old first (moves ++ more) new third
   settled_on room [] more old between new first second third run rest =
       subst (λ (q : Machine). RunsSettled setup room q first more new third) run.0 (subst (λ o. RunsSettled setup room between o more new third) run.1 rest)
-  settled_on room (event_move event ∷ moves) more old between new first second third run rest =
-      (run.0, run.1, run.2, run.3, run.4, settled_on (room_with room event) moves more run.0 between new run.0.store.incumbent second third run.5 rest)
-  settled_on room (tell_move worker cost ∷ moves) more old between new first second third run rest =
-      (run.0, run.1, run.2, run.3, run.4, settled_on room moves more run.0 between new first second third run.5 rest)
+  settled_on room (move ∷ moves) more old between new first second third run rest =
+      (run.0, run.1, run.2, run.3, run.4, settled_on (room_moved room move) moves more run.0 between new (settled_after move first run.0) second third run.5 rest)
 
   -- a run from a lesser incumbent of the last event is one from a greater
   raised : (room : ℕ → ℕ) (moves : List Move) (old : Machine) (settled other : Option ℕ) (new : Machine) (later : Option ℕ) → AtMost settled other → RunsSettled setup room old settled moves new later
@@ -54,12 +57,16 @@ module _ (setup : Setup) where
       gives (Ended end) between h = tt
   raised room (tell_move worker cost ∷ moves) old settled other new later most runs =
       let rest = raised room moves runs.0 settled other new later most runs.5 in (rest.0, (runs.0, runs.1, runs.2, tt, runs.4, rest.1))
+  raised room (switch_move worker used block quota ∷ moves) old settled other new later most runs =
+      (later, (runs.0, runs.1, runs.2, at_most_trans (runs.0.given worker) settled other runs.3 most, runs.4, runs.5))
 
   -- the incumbent falls from that of the last event
   pub settled_falls : (room : ℕ → ℕ) (moves : List Move) (old : Machine) (settled : Option ℕ) (new : Machine) (later : Option ℕ) → AtMost old.store.incumbent settled → RunsSettled setup room old settled moves new later
       → AtMost new.store.incumbent later
   settled_falls room [] old settled new later most runs = subst (λ (q : Machine). AtMost q.store.incumbent later) (sym runs.0) (subst (λ o. AtMost old.store.incumbent o) (sym runs.1) most)
   settled_falls room (event_move event ∷ moves) old settled new later most runs = settled_falls (room_with room event) moves runs.0 runs.0.store.incumbent new later (at_most_self runs.0.store.incumbent) runs.5
+  settled_falls room (switch_move worker used block quota ∷ moves) old settled new later most runs =
+      settled_falls (room_moved room (switch_move worker used block quota)) moves runs.0 runs.0.store.incumbent new later (at_most_self runs.0.store.incumbent) runs.5
   settled_falls room (tell_move worker cost ∷ moves) old settled new later most runs =
       settled_falls room moves runs.0 settled new later
       (subst (λ (s : Store). AtMost s.incumbent settled) (sym runs.1.store) (at_most_trans (lesser old.store.incumbent (Some cost)) old.store.incumbent settled (lesser_at_most old.store.incumbent (Some cost)) most)) runs.5
@@ -67,10 +74,10 @@ module _ (setup : Setup) where
   pub in_time_is_run : (room : ℕ → ℕ) (moves : List Move) (old new : Machine) → RunsInTime setup room old moves new → Runs setup old moves new
   in_time_is_run room moves old new runs = settled_is_run room moves old old.store.incumbent new runs.0 runs.1
 
-  pub in_time_on : (room : ℕ → ℕ) (moves more : List Move) (old between new : Machine) → RunsInTime setup room old moves between → RunsInTime setup (room_from room (journal_of moves)) between more new → RunsInTime setup room old (moves ++ more) new
+  pub in_time_on : (room : ℕ → ℕ) (moves more : List Move) (old between new : Machine) → RunsInTime setup room old moves between → RunsInTime setup (rooms_after room moves) between more new → RunsInTime setup room old (moves ++ more) new
   in_time_on room moves more old between new first later =
       let fall = settled_falls room moves old old.store.incumbent between first.0 (at_most_self old.store.incumbent) first.1 in
-      let rest = raised (room_from room (journal_of moves)) more between between.store.incumbent first.0 new later.0 fall later.1 in
+      let rest = raised (rooms_after room moves) more between between.store.incumbent first.0 new later.0 fall later.1 in
       (rest.0, settled_on room moves more old between new old.store.incumbent first.0 rest.0 first.1 rest.1)
 
   -- one event, from any incumbent of the last one
@@ -82,6 +89,18 @@ module _ (setup : Setup) where
     runs.2,
     subst (λ (m : Machine). GivesWholeIncumbent (event_move event) settled m) runs.3 gives,
     subst (λ (m : Machine). IsTimely setup room old (event_move event) m) runs.3 timely,
+    (runs.3, ap (λ (m : Machine). m.store.incumbent) runs.3),
+  )
+
+  -- one switch
+  pub settled_switch : (room : ℕ → ℕ) (worker used block quota : ℕ) (old : Machine) (settled : Option ℕ) (new : Machine) → GivesWholeIncumbent (switch_move worker used block quota) settled new → IsTimely setup room old (switch_move worker used block quota) new
+      → RunsInOrder setup old (switch_move worker used block quota ∷ []) new → RunsSettled setup room old settled (switch_move worker used block quota ∷ []) new new.store.incumbent
+  settled_switch room worker used block quota old settled new gives timely runs = (
+    runs.0,
+    runs.1,
+    runs.2,
+    subst (λ (m : Machine). GivesWholeIncumbent (switch_move worker used block quota) settled m) runs.3 gives,
+    subst (λ (m : Machine). IsTimely setup room old (switch_move worker used block quota) m) runs.3 timely,
     (runs.3, ap (λ (m : Machine). m.store.incumbent) runs.3),
   )
 
@@ -160,6 +179,18 @@ ending_grants_none memory end = go (memory && is_none end)
 pub end_grants_none : (standing : Option End) (end : End) → GrantsNone (end_events standing end)
 end_grants_none None end = tt
 end_grants_none (Some standing) end = tt
+
+-- an end takes no room
+pub ending_rooms : (room : ℕ → ℕ) (memory : Bool) (end : Option End) → rooms_after room (moves_of (ending memory end)) ≡ room
+ending_rooms room memory end = go (memory && is_none end)
+  where
+    go : (r : Bool) → rooms_after room (moves_of (cond r (Ended Memory ∷ []) [])) ≡ room
+    go true = refl
+    go false = refl
+
+pub end_rooms : (room : ℕ → ℕ) (standing : Option End) (end : End) → rooms_after room (moves_of (end_events standing end)) ≡ room
+end_rooms room None end = refl
+end_rooms room (Some standing) end = refl
 
 -- without an event the incumbent of the last one stays
 pub settled_same : (setup : Setup) (room : ℕ → ℕ) (events : List Event) (old : Machine) (settled : Option ℕ) (new : Machine) (later : Option ℕ) → RunsSettled setup room old settled (moves_of events) new later → events ≡ [] → later ≡ settled

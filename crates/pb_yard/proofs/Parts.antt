@@ -16,7 +16,7 @@ use Rattle.pb_machine.proofs.Callers.{recorded_where_leased}
 use Rattle.pb_bundles.specs.Homes.{home_rows}
 use Rattle.pb_abstract.specs.Graph.{AbstractGraph, blocks_of}
 use Rattle.pb_lease.specs.LeaseValue.{LeaseValue}
-use Rattle.pb_lease.specs.Leased.{setup_of}
+use Rattle.pb_lease.specs.Leased.{setup_of, FitsScopes}
 use Rattle.pb_lease.specs.GraphValue.{GraphValue, setup_in, counts_in, IsOfGraph}
 use Rattle.pb_lease.specs.Moments.{IsMomentAt}
 use Rattle.pb_lease.specs.Begins.{IsOfRun}
@@ -47,6 +47,7 @@ module _ (old new : GraphValue) (same : GoesOnAs old new) where
     leased = leases ∙ of.leased;
     weight = of.weight ∙ ap weight_of (sym same.settings);
     choice = of.choice ∙ sym same.choice;
+    fits = subst (λ (g : AbstractGraph). FitsScopes g lease.fits) (sym same.abstraction) of.fits;
     scope = record { blocks = λ b. of.scope.blocks b ∙ ap (λ (g : AbstractGraph). (blocks_of g).scope lease.block b) (sym same.abstraction); weights = of.scope.weights };
   }
 

@@ -1,5 +1,5 @@
 -- The first pass, passes that are split, and passes that meet keep the rule of the yard.
-use Rattle.std.proofs.Common.{◌≡◌, ◌≢◌, ℕ, zero, suc, ◌==◌, ◌<◌, true, false, List, [], ◌∷◌, ◌++◌, map, set, Option, Some, None, refl, sym, ap, ◌∙◌, subst, inl, true≢false, arith}
+use Rattle.std.proofs.Common.{◌≡◌, ◌≢◌, ℕ, zero, suc, ◌==◌, ◌<◌, ◌≤◌, true, false, List, [], ◌∷◌, ◌++◌, map, set, Option, Some, None, refl, sym, ap, ◌∙◌, subst, inl, true≢false, arith}
 use Rattle.std.proofs.lemmas.Option.{none-some}
 use mathlib.Core.Option.{some, some-injective, some-ne-none}
 use lib.ListN.{get_elem?}
@@ -9,9 +9,11 @@ use Rattle.pb_turn.proofs.Callers.{each_set, each_snoc, put_there, map_set, map_
 use Rattle.pb_model.proofs.Callers.{by_cases, equal, equal_self, not_both}
 use Rattle.pb_machine.specs.declared.event.Event.{Event}
 use Rattle.pb_machine.specs.declared.settings.Settings.{Settings}
+use Rattle.pb_machine.specs.Room.{no_room, room_after}
 use Rattle.pb_machine.specs.Views as of_machine
 use Rattle.pb_machine.specs.Views.{AreTrueOf, first_view, spent_view, with_one_more, next_view, met_view}
 use Rattle.pb_machine.proofs.Callers.{first_views_are_true, splitting_keeps_views, meeting_keeps_views, known_stays}
+use Rattle.pb_lease.specs.Tables.{rooms}
 use Rattle.pb_lease.specs.GraphValue.{GraphValue, setup_in, IsLeaseGraph}
 use Rattle.pb_lease.specs.Begins.{begin_machine, IsBegin}
 use Rattle.pb_lease.proofs.Callers.{setup_is}
@@ -21,10 +23,17 @@ use Rattle.pb_yard.specs.Rule.{rows_of, grant_in, journal_view, was_read, IsView
 use Rattle.pb_yard.proofs.Parts.{at_journal, below_made, no_pass_before, unread_recent}
 use Rattle.pb_yard.proofs.Meaning.{runs}
 
+-- where no event has come there is no room
+pub begins_without_room : (g : GraphValue) → ((worker : ℕ) → rooms g.table worker ≤ room_after g.table.journal worker) → g.table.journal ≡ [] → rooms g.table ≡ no_room
+begins_without_room g most empty = λ i worker. none worker i
+  where
+    none : (worker : ℕ) → rooms g.table worker ≡ 0
+    none worker = let least = most worker in let same : room_after g.table.journal worker ≡ 0 = ap (λ (j : List Event). room_after j worker) empty in omega (arith, least, same)
+
 -- ---- the first pass
 
-pub opens : (g : GraphValue) (shared : Option ℕ) → IsLeaseGraph g → IsBegin g → shared ≡ g.incumbent → IsYard g shared (opening_view g ∷ [])
-opens g shared k o is = record {
+pub opens : (g : GraphValue) (shared : Option ℕ) → IsLeaseGraph g → ((worker : ℕ) → rooms g.table worker ≤ room_after g.table.journal worker) → IsBegin g → shared ≡ g.incumbent → IsYard g shared (opening_view g ∷ [])
+opens g shared k most o is = record {
   is_setup = setup_is g k;
   in_range = k.legal.range;
   begin = g;
@@ -36,6 +45,7 @@ opens g shared k o is = record {
   settled = g.incumbent;
   run = (refl, refl);
   journal = sym o.empty;
+  rooms_are = sym (begins_without_room g most o.empty);
   moment = (o.moment (λ worker. rows_of None)).at;
   shared_is = sym is;
   leases = λ worker. refl;
@@ -155,6 +165,7 @@ module _ (x : GraphValue) (shared : Option ℕ) (views : List View) (seat : ℕ)
     settled = h.settled;
     run = h.run;
     journal = h.journal;
+    rooms_are = h.rooms_are;
     moment = h.moment;
     shared_is = h.shared_is;
     leases = h.leases;
@@ -238,6 +249,7 @@ module _ (x : GraphValue) (shared : Option ℕ) (views : List View) (seat : ℕ)
     settled = h.settled;
     run = h.run;
     journal = h.journal;
+    rooms_are = h.rooms_are;
     moment = h.moment;
     shared_is = h.shared_is;
     leases = h.leases;

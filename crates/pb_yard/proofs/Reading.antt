@@ -15,6 +15,7 @@ use Rattle.pb_lease.proofs.Callers.{bound_taken, lesser_other, none_below}
 use Rattle.pb_task.specs.Parts.{space_of}
 use Rattle.pb_model.specs.Work.{Work}
 use Rattle.pb_machine.specs.declared.event.Event.{Event}
+use Rattle.pb_machine.specs.Machine.{Move}
 use Rattle.pb_machine.specs.Turns.{AreLeaseTurns}
 use Rattle.pb_machine.proofs.Callers.{lease_work_stays}
 use Rattle.pb_lease.specs.LeaseValue.{leased_store}
@@ -22,11 +23,11 @@ use Rattle.pb_lease.specs.Leased.{guide_of}
 use Rattle.pb_yard.specs.Returning.{IsBrought}
 use Rattle.pb_yard.specs.declared.view.View.{View}
 use Rattle.pb_yard.specs.Views.{cost_of, bounded, view_read, view_left}
-use Rattle.pb_yard.specs.Calls.{ReadsAndHolds}
+use Rattle.pb_yard.specs.Calls.{ReadsAndHoldsBy}
 use Rattle.pb_yard.specs.Rule.{rows_of, is_cost, was_read, IsYard}
 use Rattle.pb_yard.proofs.Parts.{GoesOnAs, run_same, still_of_graph, search_same}
 use Rattle.pb_yard.proofs.Meaning.{known_above}
-use Rattle.pb_yard.proofs.Clauses.{Fact, MayTake, MayGo, leave_keeps, holds, seen_is}
+use Rattle.pb_yard.proofs.Clauses.{Fact, MayTake, MayGoBy, leave_keeps, holds, seen_is}
 
 -- what was read is among what the reads found
 pub reads_it : (held : Option GraphValue) (v : View) (incumbent : Option ℕ) (cost : ℕ) → incumbent ≡ Some cost → IsTrue (was_read (view_read held v incumbent) (Some cost))
@@ -60,6 +61,7 @@ bounded_yard f (Some cost) shared views h known =
       settled = h.settled;
       run = h.run;
       journal = h.journal;
+      rooms_are = h.rooms_are;
       moment = bound_taken f cost (λ worker. rows_of (h.lent worker)) h.machine h.moment (λ worker. known cost refl worker);
       shared_is = h.shared_is;
       leases = h.leases;
@@ -137,17 +139,17 @@ brought_on v held o most_broken lease falls b =
     }
 
 -- A call that read the incumbent under the turn: the pass found f, the graph took what was read, and is left as y.
-module _ (f y : GraphValue) (v : View) (o : Option ℕ) (live : v.journal.is_live ≡ true) (list : GraphValue → List Event) (lent : View → Option LeaseValue) (told : View → Option ℕ) where
+module _ (f y : GraphValue) (v : View) (o : Option ℕ) (live : v.journal.is_live ≡ true) (list : GraphValue → List Event) (made : GraphValue → List Move) (lent : View → Option LeaseValue) (told : View → Option ℕ) where
   abbrev HavingRead : View
   HavingRead = view_read (Some f) v o
 
   abbrev AsReadAndLeft : View → View
   AsReadAndLeft u = view_left f y (lent u) (told u) u
 
-  module _ (may : MayGo (bounded f o) y HavingRead live (list (bounded f o)) (lent HavingRead) (told HavingRead)) (entered : View) (read : entered ≡ HavingRead) where
+  module _ (may : MayGoBy (bounded f o) y HavingRead live (list (bounded f o)) (made (bounded f o)) (lent HavingRead) (told HavingRead)) (entered : View) (read : entered ≡ HavingRead) where
     pub read_keeps : (seat : ℕ) → LeaveKeeps Fact seat entered f y (AsReadAndLeft entered)
     read_keeps seat = subst (λ (u : View). LeaveKeeps Fact seat u f y (AsReadAndLeft u)) (sym read)
-        (leave_keeps f (bounded f o) y HavingRead live (takes_read f v (Some f) o live) list (lent HavingRead) (told HavingRead) may seat)
+        (leave_keeps f (bounded f o) y HavingRead live (takes_read f v (Some f) o live) list made (lent HavingRead) (told HavingRead) may seat)
 
     module _ (new : View) (left : new ≡ AsReadAndLeft entered) (seat : ℕ) (stands : Stands Fact seat entered f) where
       found_so : Stands Fact seat HavingRead f
@@ -156,13 +158,13 @@ module _ (f y : GraphValue) (v : View) (o : Option ℕ) (live : v.journal.is_liv
       left_so : new ≡ AsReadAndLeft HavingRead
       left_so = left ∙ ap AsReadAndLeft read
 
-      pub read_holds : AtMost o v.last → (step : GraphValue → GraphValue → Type 0) → step (bounded f o) y → ReadsAndHolds step list v (lent HavingRead) (told HavingRead) new
-      read_holds falls step is = subst (λ (u : View). ReadsAndHolds step list v (lent HavingRead) (told HavingRead) u) (sym left_so) (
+      pub read_holds : AtMost o v.last → (step : GraphValue → GraphValue → Type 0) → step (bounded f o) y → ReadsAndHoldsBy step list made v (lent HavingRead) (told HavingRead) new
+      read_holds falls step is = subst (λ (u : View). ReadsAndHoldsBy step list made v (lent HavingRead) (told HavingRead) u) (sym left_so) (
         HavingRead,
         record { held = f; incumbent = o; falls = falls; view = refl },
-        holds f (bounded f o) y HavingRead live (takes_read f v (Some f) o live) list (lent HavingRead) (told HavingRead) may seat found_so step is,
+        holds f (bounded f o) y HavingRead live (takes_read f v (Some f) o live) list made (lent HavingRead) (told HavingRead) may seat found_so step is,
       )
 
       pub read_seen : length new.journal.seen ≡ length y.table.journal
       read_seen = ap (λ (u : View). length u.journal.seen) left_so
-          ∙ ap length (seen_is f (bounded f o) y HavingRead live (takes_read f v (Some f) o live) list (lent HavingRead) (told HavingRead) may seat found_so)
+          ∙ ap length (seen_is f (bounded f o) y HavingRead live (takes_read f v (Some f) o live) list made (lent HavingRead) (told HavingRead) may seat found_so)

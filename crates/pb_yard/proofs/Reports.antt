@@ -12,10 +12,11 @@ use Rattle.pb_machine.specs.Counts.{Counts, is_any_out, AreLawful, counts_after}
 use Rattle.pb_machine.specs.declared.event.EventRefusal.TheVariants.{Trouble}
 use Rattle.pb_machine.specs.Legality.{is_memory_end, tests, refusal}
 use Rattle.pb_machine.specs.History.{is_report}
-use Rattle.pb_machine.specs.Machine.{Setup, IsSetup, Machine, Happens, Move, event_move, tell_move, Moves, journal_of}
+use Rattle.pb_machine.specs.Room.{room_moved}
+use Rattle.pb_machine.specs.Machine.{Setup, IsSetup, Machine, Happens, Move, event_move, tell_move, switch_move, Moves, journal_of}
 use Rattle.pb_machine.specs.Lawful.{IsLawful}
 use Rattle.pb_machine.proofs.Callers.{any_none, moves_keep_lawful, none_true, passes, runs_are_lawful}
-use Rattle.pb_yard.specs.Order.{IsTimely, room_moved, settled_after, RunsSettled}
+use Rattle.pb_yard.specs.Order.{IsTimely, settled_after, RunsSettled}
 use Rattle.pb_yard.proofs.InTime.{in_time_is_run}
 use Rattle.pb_yard.specs.Laws.{OtherEndsHaveNoReport}
 
@@ -87,10 +88,15 @@ module _ (p : Setup) (greatest_cost : ℕ) (is : IsSetup p greatest_cost) where
       go (Ended Budget) h timely = λ there. absurd (true≢false (sym (ap is_some (ended was old (Ended Budget) refl h.may ends (keep was there))) ∙ (passes p.blocks p.settings old.counts (Ended Budget) h.may).0))
       go (Ended Memory) h timely = λ there. inr (ap (λ (c : Counts). c.end) h.counts)
   moved was room (tell_move worker cost) old new l h timely ends = λ there. subst (λ (c : Counts). (c.trouble ≡ true) ⊎ (c.end ≡ Some Memory)) (sym h.counts) (ends (keep was there))
+  moved was room (switch_move worker used block quota) old new l h timely ends =
+      let back = silent was old (Release worker used false) h.0 refl refl refl h.1 ends in
+      let next = silent (was || false) h.0 (Lease worker block quota) new refl refl refl h.2 back in
+      subst (λ r. Ends r new.counts) (or_none (was || false)) next
 
   one_and_more : (move : Move) (moves : List Move) → list_any is_report (journal_of (move ∷ moves)) ≡ (list_any is_report (journal_of (move ∷ [])) || list_any is_report (journal_of moves))
   one_and_more (event_move event) moves = ap (λ r. r || list_any is_report (journal_of moves)) (sym (or_none (is_report event)))
   one_and_more (tell_move worker cost) moves = refl
+  one_and_more (switch_move worker used block quota) moves = refl
 
   runs : (was : Bool) (room : ℕ → ℕ) (moves : List Move) (old : Machine) (settled : Option ℕ) (new : Machine) (later : Option ℕ) → IsLawful p old → RunsSettled p room old settled moves new later → Ends was old.counts
       → Ends (was || list_any is_report (journal_of moves)) new.counts

@@ -3,7 +3,7 @@ use Rattle.std.proofs.Common.{◌≡◌, ℕ, ◌==◌, ◌⊎◌, inl, inr, len
 use Rattle.std.proofs.lemmas.Option.{none-some, same_Some}
 use mathlib.Core.Option.{some}
 use lib.ListN.{get_elem?}
-use Rattle.pb_model.specs.Store.{Rows, Store, HasGoalWithin, lesser, AtMost}
+use Rattle.pb_model.specs.Store.{Rows, Store, HasGoalWithin, HasOpened, lesser, AtMost}
 use Rattle.pb_model.proofs.Callers.{at_most_self, at_most_trans, lesser_same, by_cases, equal, equal_self, equal_swap}
 use Rattle.pb_task.specs.declared.parts.TaskParts.{TaskParts}
 use Rattle.pb_task.specs.Parts.{space_of}
@@ -13,9 +13,9 @@ use Rattle.pb_machine.specs.declared.event.Event.TheVariants.{Lease, Renew, Rele
 use Rattle.pb_machine.specs.Tables.{with_entry, one_if}
 use Rattle.pb_machine.specs.Counts.{Counts, counts_after}
 use Rattle.pb_machine.specs.History.{is_event_of, events_of}
-use Rattle.pb_machine.specs.Room.{room_after}
+use Rattle.pb_machine.specs.Room.{rooms_after}
 use Rattle.pb_machine.specs.Views.{AreBy}
-use Rattle.pb_machine.specs.Machine.{Machine, IsWorked, KeepsRows}
+use Rattle.pb_machine.specs.Machine.{Machine, IsWorked, KeepsRows, Move}
 use Rattle.pb_machine.specs.Turns.{AreLeaseTurns, RunsInOrder}
 use Rattle.pb_machine.proofs.Callers.{known_more, entry_here, entry_else}
 use Rattle.pb_abstract.specs.Graph.{AbstractGraph}
@@ -25,18 +25,18 @@ use Rattle.pb_estimate.specs.Choices.{Choice}
 use Rattle.pb_lease.specs.Tables.{blocks, rooms}
 use Rattle.pb_lease.specs.Events.{Adds, ending}
 use Rattle.pb_lease.specs.LeaseValue.{LeaseValue, leased_store}
-use Rattle.pb_lease.specs.Leased.{guide_of, grant_of, IsOutInTurns}
+use Rattle.pb_lease.specs.Leased.{guide_of, grant_of, FitsScopes, IsOutInTurns}
 use Rattle.pb_lease.specs.GraphValue.{GraphValue, setup_in, counts_in, IsOfGraph}
 use Rattle.pb_lease.specs.Moments.{IsMomentAt, Follows, moves_of, ShowsTold, IsKnownThen}
-use Rattle.pb_lease.specs.Steps.{IsLeased, LeasesNext, end_events, KeepsLeases, IsReleased, ReleasesNext, IsRenewed, RenewsNext, GoesOn}
-use Rattle.pb_lease.proofs.Callers.{ending_leases, worked_leases_are_out, same_places}
+use Rattle.pb_lease.specs.Steps.{IsLeased, LeasesNext, end_events, KeepsLeases, IsReleased, ReleasesNext, IsRenewed, RenewsNext, GoesOn, GoesOver, switch_of, switch_events, IsSwitched, SwitchesNext}
+use Rattle.pb_lease.proofs.Callers.{ending_leases, events_leave_others, worked_leases_are_out, same_places}
 use Rattle.pb_yard.specs.declared.view.View.{View}
-use Rattle.pb_yard.specs.Order.{HasCause, RunsSettled}
+use Rattle.pb_yard.specs.Order.{HasCause, HasStopped, IsOvertaken, RunsSettled}
 use Rattle.pb_yard.specs.Replies.{reported}
 use Rattle.pb_yard.specs.Rule.{rows_of, grant_in, was_read, IsLent, IsViewOf, IsYard}
 use Rattle.pb_yard.specs.Returning.{IsBrought}
-use Rattle.pb_yard.proofs.InTime.{GrantsNone, ending_grants_none, settled_one, settled_events, settled_report}
-use Rattle.pb_yard.proofs.Causes.{none_left, still_first, cannot_go_on}
+use Rattle.pb_yard.proofs.InTime.{GrantsNone, ending_grants_none, ending_rooms, events_of_moves, settled_one, settled_switch, settled_events, settled_report, settled_same}
+use Rattle.pb_yard.proofs.Causes.{none_left, still_first, cannot_go_on, overtaken}
 use Rattle.pb_yard.proofs.Parts.{GoesOnAs, still_of_graph}
 use Rattle.pb_yard.proofs.Meaning.{known_above}
 use Rattle.pb_yard.proofs.Holding.{IsStep}
@@ -72,19 +72,23 @@ same_adds x y events adds task choice = record { task = task; abstraction = adds
 pub same_rest : (x y : GraphValue) (events : List Event) → Adds x.table y.table events → y ≡ record x { table = y.table } → GoesOnAs x y
 same_rest x y events adds rest = same_adds x y events adds (ap (λ (g : GraphValue). g.task) rest) (ap (λ (g : GraphValue). g.choice) rest)
 
+-- some events are not none
+some_events : (event : Event) (events : List Event) → event ∷ events ≡ [] → ⊥
+some_events event events e = cc
+
 -- from any machine with the graph's counts, a run by these events is one in time
 abbrev pub AreTimely : GraphValue → List Event → Type 0
 AreTimely x events = (machine : Machine) (settled : Option ℕ) (next : Machine) → machine.counts ≡ counts_in x → RunsInOrder (setup_in x) machine (moves_of events) next
-    → (later : Option ℕ) × RunsSettled (setup_in x) (room_after x.table.journal) machine settled (moves_of events) next later
+    → (later : Option ℕ) × RunsSettled (setup_in x) (rooms x.table) machine settled (moves_of events) next later
 
 pub plain_timely : (x : GraphValue) (events : List Event) → GrantsNone events → AreTimely x events
-plain_timely x events none machine settled next counts runs = settled_events (setup_in x) (room_after x.table.journal) events machine settled next none runs
+plain_timely x events none machine settled next counts runs = settled_events (setup_in x) (rooms x.table) events machine settled next none runs
 
 -- a sign-off has a report only if no end stands
 pub off_timely : (x : GraphValue) (worker : ℕ) (report : Bool) → (report ≡ true → x.table.end ≡ None) → AreTimely x (Off worker report ∷ ending report x.table.end)
 off_timely x worker false none = plain_timely x (Off worker false ∷ ending false x.table.end) (ending_grants_none false x.table.end)
 off_timely x worker true none = λ machine settled next counts runs.
-    settled_report (setup_in x) (room_after x.table.journal) worker (ending true x.table.end) machine settled next (ap (λ (c : Counts). c.end) counts ∙ none refl) (ending_grants_none true x.table.end) runs
+    settled_report (setup_in x) (rooms x.table) worker (ending true x.table.end) machine settled next (ap (λ (c : Counts). c.end) counts ∙ none refl) (ending_grants_none true x.table.end) runs
 
 pub report_free : (memory : Bool) (end : Option End) → reported memory end ≡ true → end ≡ None
 report_free true None e = refl
@@ -95,7 +99,7 @@ report_free false end e = absurd cc
 abbrev pub MayReturn : (x y : GraphValue) → LeaseValue → (memory : Bool) → Type 0
 MayReturn x y lease true = Unit {0}
 MayReturn x y lease false = HasCause lease false
-    ⊎ ((lease.used ≡ lease.quota) × (length x.homes.keys ≡ (blocks x.table).count) × (rooms x.table ≡ room_after x.table.journal) × (GoesOn x lease y → ⊥))
+    ⊎ ((lease.used ≡ lease.quota) × (length x.homes.keys ≡ (blocks x.table).count) × (GoesOn x lease y → ⊥))
 
 pub may_cause : (x y : GraphValue) (lease : LeaseValue) (memory : Bool) → HasCause lease memory → MayReturn x y lease memory
 may_cause x y lease true cause = tt
@@ -113,19 +117,27 @@ module _ (x y : GraphValue) (shared : Option ℕ) (views : List View) (seat : �
   abbrev Recorded : ℕ → Rows
   Recorded = λ w. rows_of (h.lent w)
 
-  -- a step, and the incumbent that the machine has then
+  -- a step by these events and moves, and the incumbent that the machine has then
+  abbrev pub StepsBy : List Event → List Move → Option LeaseValue → Option ℕ → Option ℕ → Type 0
+  StepsBy events made lent told incumbent = (next : Machine) × IsStep x y h.machine next h.settled v.last Own events made h.lent lent told × (next.store.incumbent ≡ incumbent)
+
+  -- a step by events alone
   abbrev pub Steps : List Event → Option LeaseValue → Option ℕ → Option ℕ → Type 0
-  Steps events lent told incumbent = (next : Machine) × IsStep x y h.machine next h.settled v.last Own events h.lent lent told × (next.store.incumbent ≡ incumbent)
+  Steps events lent told incumbent = StepsBy events (moves_of events) lent told incumbent
 
   -- what leaves all leases as they are
-  pub keeps_step : (events : List Event) → AreTimely x events → KeepsLeases x events y → GoesOnAs x y → y.table.journal ≡ x.table.journal ++ events → AreBy Own events → Steps events v.lent v.told shared
-  keeps_step events timely keeps same added by = (
+  pub keeps_step : (events : List Event) → AreTimely x events → rooms_after (rooms x.table) (moves_of events) ≡ rooms y.table → KeepsLeases x events y → GoesOnAs x y → y.table.journal ≡ x.table.journal ++ events → AreBy Own events → Steps events v.lent v.told shared
+  keeps_step events timely room keeps same added by = (
     next,
     record {
       recorded = Recorded;
       follows = k.1;
       later = (timely h.machine h.settled next h.moment.counts k.4).0;
       in_time = (timely h.machine h.settled next h.moment.counts k.4).1;
+      rooms_then = room;
+      events_are = events_of_moves (events);
+      still = settled_same (setup_in x) (rooms x.table) (events) h.machine h.settled next (timely h.machine h.settled next h.moment.counts k.4).0 (timely h.machine h.settled next h.moment.counts k.4).1;
+      theirs = λ other else. events_leave_others Own other (events) by else;
       same = same;
       added = added;
       by = by;
@@ -193,7 +205,11 @@ module _ (x y : GraphValue) (shared : Option ℕ) (views : List View) (seat : �
         recorded = with_entry Recorded Own (away_rows lease.parts);
         follows = t.1;
         later = t.0.store.incumbent;
-        in_time = settled_one (setup_in x) (room_after x.table.journal) (Lease Own lease.block lease.quota) h.machine h.settled t.0 gives_whole tt t.6;
+        in_time = settled_one (setup_in x) (rooms x.table) (Lease Own lease.block lease.quota) h.machine h.settled t.0 gives_whole tt t.6;
+        rooms_then = sym l.room;
+        events_are = refl;
+        still = λ none. absurd (some_events (Lease Own lease.block lease.quota) [] none);
+        theirs = λ other else. events_leave_others Own other (Lease Own lease.block lease.quota ∷ []) (first_by Own (Lease Own lease.block lease.quota) [] (λ other. refl) (λ other else. refl)) else;
         same = same_adds x y (Lease Own lease.block lease.quota ∷ []) l.events l.task l.choice;
         added = l.events.journal;
         by = first_by Own (Lease Own lease.block lease.quota) [] (λ other. refl) (λ other else. refl);
@@ -259,6 +275,7 @@ module _ (x y : GraphValue) (shared : Option ℕ) (views : List View) (seat : �
       leased = ap (counts_in x).leases b.same.worker ∙ is_lent.of_graph.leased ∙ (λ i. Some (record { block = sym b.same.block i; quota = sym b.same.quota i }));
       weight = b.same.weight ∙ is_lent.of_graph.weight;
       choice = b.same.choice ∙ is_lent.of_graph.choice;
+      fits = subst (λ n. FitsScopes x.table.abstraction n) (sym b.same.fits) is_lent.of_graph.fits;
       scope = record {
         blocks = λ block. same_places b.lent.parts lease.parts block b.same.places ∙ is_lent.of_graph.scope.blocks block ∙ ap (λ own. (blocks x.table).scope own block) (sym b.same.block);
         weights = b.weights;
@@ -268,21 +285,21 @@ module _ (x y : GraphValue) (shared : Option ℕ) (views : List View) (seat : �
   module _ (lease : LeaseValue) (memory : Bool) (cause : MayReturn x y lease memory) (b : IsBrought v (one_if memory) lease) (is_last : x.incumbent ≡ v.last) (r : IsReleased x lease memory y) (n : ReleasesNext x lease memory y) where
     abbrev Returns : Bool → Machine → Type 0
     Returns memory next = RunsInOrder (setup_in x) h.machine (moves_of (Release lease.worker lease.used memory ∷ ending memory x.table.end)) next
-        → (later : Option ℕ) × RunsSettled (setup_in x) (room_after x.table.journal) h.machine h.settled (moves_of (Release lease.worker lease.used memory ∷ ending memory x.table.end)) next later
+        → (later : Option ℕ) × RunsSettled (setup_in x) (rooms x.table) h.machine h.settled (moves_of (Release lease.worker lease.used memory ∷ ending memory x.table.end)) next later
 
     returns_in_time : (next : Machine) → IsMomentAt y Recorded next → Returns memory next
     returns_in_time next m = go memory cause (r.noted) (out (one_if memory) lease b).0.leased
       where
         go : (memory : Bool) → MayReturn x y lease memory → NotesKeys lease.parts x.homes.keys y.homes.keys → h.machine.counts.leases lease.worker ≡ Some (grant_of lease) → Returns memory next
-        go true why noted leased runs = settled_events (setup_in x) (room_after x.table.journal) (Release lease.worker lease.used true ∷ ending true x.table.end) h.machine h.settled next (ending_grants_none true x.table.end) runs
+        go true why noted leased runs = settled_events (setup_in x) (rooms x.table) (Release lease.worker lease.used true ∷ ending true x.table.end) h.machine h.settled next (ending_grants_none true x.table.end) runs
         go false (inr why) noted leased runs = (
           next.store.incumbent,
-          settled_one (setup_in x) (room_after x.table.journal) (Release lease.worker lease.used false) h.machine h.settled next tt
-              (grant_of lease, leased, inr (why.0, cannot_go_on x lease y noted why.1 why.2 Recorded Recorded h.machine next h.moment m why.3)) runs,
+          settled_one (setup_in x) (rooms x.table) (Release lease.worker lease.used false) h.machine h.settled next tt
+              (grant_of lease, leased, inr (why.0, cannot_go_on x lease y noted why.1 Recorded Recorded h.machine next h.moment m why.2)) runs,
         )
         go false (inl none) noted leased runs = (
           next.store.incumbent,
-          settled_one (setup_in x) (room_after x.table.journal) (Release lease.worker lease.used false) h.machine h.settled next tt
+          settled_one (setup_in x) (rooms x.table) (Release lease.worker lease.used false) h.machine h.settled next tt
               (grant_of lease, leased, inl (none_left x lease y noted h.is_setup (brought_of_graph (one_if memory) lease b) Recorded h.machine h.moment none Recorded next m)) runs,
         )
 
@@ -300,6 +317,10 @@ module _ (x y : GraphValue) (shared : Option ℕ) (views : List View) (seat : �
             follows = t.1;
             later = (returns_in_time t.0 t.1.moment (t.4 (out (one_if memory) lease b).1)).0;
             in_time = (returns_in_time t.0 t.1.moment (t.4 (out (one_if memory) lease b).1)).1;
+            rooms_then = ending_rooms (with_entry (rooms x.table) lease.worker 0) memory x.table.end ∙ sym r.room;
+            events_are = events_of_moves (Release lease.worker lease.used memory ∷ ending memory x.table.end);
+            still = λ none. absurd (some_events (Release lease.worker lease.used memory) (ending memory x.table.end) none);
+            theirs = λ other else. events_leave_others Own other (Release lease.worker lease.used memory ∷ ending memory x.table.end) (first_by Own (Release lease.worker lease.used memory) (ending memory x.table.end) (λ other. ap (λ w. w == other) own) (ending_by Own memory x.table.end)) else;
             same = same_adds x y (Release lease.worker lease.used memory ∷ ending memory x.table.end) r.events r.task r.choice;
             added = r.events.journal;
             by = first_by Own (Release lease.worker lease.used memory) (ending memory x.table.end) (λ other. ap (λ w. w == other) own) (ending_by Own memory x.table.end);
@@ -333,8 +354,12 @@ module _ (x y : GraphValue) (shared : Option ℕ) (views : List View) (seat : �
             recorded = with_entry Recorded lease.worker (away_rows kept.parts);
             follows = t.1;
             later = t.0.store.incumbent;
-            in_time = settled_one (setup_in x) (room_after x.table.journal) (Renew lease.worker lease.used kept.quota) h.machine h.settled t.0 whole
+            in_time = settled_one (setup_in x) (rooms x.table) (Renew lease.worker lease.used kept.quota) h.machine h.settled t.0 whole
                 (grant_of lease, (out 0 lease b).0.leased, spent, still_first x lease y r.noted places Recorded after h.machine t.0 h.moment t.1.moment goes.0) (t.6 (out 0 lease b).1);
+            rooms_then = sym r.room;
+            events_are = refl;
+            still = λ none. absurd (some_events (Renew lease.worker lease.used kept.quota) [] none);
+            theirs = λ other else. events_leave_others Own other (Renew lease.worker lease.used kept.quota ∷ []) (first_by Own (Renew lease.worker lease.used kept.quota) [] (λ other. ap (λ w. w == other) own) (λ other else. refl)) else;
             same = record { task = r.task; abstraction = r.events.abstraction; choice = r.choice; settings = r.events.settings; past = r.events.past };
             added = same;
             by = first_by Own (Renew lease.worker lease.used kept.quota) [] (λ other. ap (λ w. w == other) own) (λ other else. refl);
@@ -343,6 +368,53 @@ module _ (x y : GraphValue) (shared : Option ℕ) (views : List View) (seat : �
             lent_is = λ other is. subst (λ (k : LeaseValue). IsLent y t.0 Own k) (same_Some kept other is)
                 record { worker_is = kept_own; of_graph = r.of_graph; unused = ap (λ (k : LeaseValue). k.used) r.kept_is; given = ap t.0.given (sym kept_own) ∙ t.2 };
             copy = λ other is. subst (λ (k : LeaseValue). AtMost v.last k.incumbent) (same_Some kept other is) (subst (λ o. AtMost v.last o) (sym (kept_incumbent ∙ is_last)) (at_most_self v.last));
+            told_is = (λ i. t.5 i Own) ∙ ap (λ w. with_entry h.machine.told w None Own) own ∙ entry_here h.machine.told Own Own None (equal_self Own);
+          },
+          t.4 ∙ brought 0 lease b,
+        )
+
+  module _ (lease next : LeaseValue) (cause : HasStopped lease) (places : length x.homes.keys ≡ (blocks x.table).count) (b : IsBrought v 0 lease) (is_last : x.incumbent ≡ v.last) (read_at : v.read_at ≡ Some (length x.table.journal))
+      (over : GoesOver x lease y next.block) (r : IsSwitched x lease next y) (n : SwitchesNext x lease next y) where
+    switched_of_graph : IsOfGraph x lease
+    switched_of_graph = brought_of_graph 0 lease b
+
+    -- why the lease comes back
+    why : (after : Machine) (recorded : (worker : ℕ) → Rows) → IsMomentAt y recorded after → (HasOpened (after.store.rows lease.block) → ⊥) ⊎ ((lease.used ≡ lease.quota) × IsOvertaken (setup_in x) h.machine lease.worker lease.used lease.block after)
+    why after recorded m = go cause
+      where
+        go : HasStopped lease → (HasOpened (after.store.rows lease.block) → ⊥) ⊎ ((lease.used ≡ lease.quota) × IsOvertaken (setup_in x) h.machine lease.worker lease.used lease.block after)
+        go (inl used) = inr (used, overtaken x lease y r.noted places Recorded recorded h.machine after h.moment m next.block over)
+        go (inr none) = inl (none_left x lease y r.noted h.is_setup switched_of_graph Recorded h.machine h.moment none recorded after m)
+
+    pub switch_step : StepsBy (switch_events lease next) (switch_of lease next ∷ []) (Some next) None shared
+    switch_step =
+        let t = n Recorded h.machine h.moment (out 0 lease b).0 (shows 0 lease b) (known_then 0 lease b is_last r.incumbent) in
+        let own : lease.worker ≡ Own = is_own 0 lease b in
+        let after = with_entry Recorded lease.worker (away_rows next.parts) in
+        let next_incumbent : next.incumbent ≡ x.incumbent = r.lent_incumbent ∙ stays_bound 0 lease b is_last in
+        let whole : AtMost (t.0.given lease.worker) h.settled =
+        subst (λ o. AtMost o h.settled) (sym (ap t.0.given (sym r.worker_is) ∙ t.2 ∙ next_incumbent)) (last_settled is_last read_at) in
+        let next_own : next.worker ≡ Own = r.worker_is ∙ own in (
+          t.0,
+          record {
+            recorded = after;
+            follows = t.1;
+            later = t.0.store.incumbent;
+            in_time = settled_switch (setup_in x) (rooms x.table) lease.worker lease.used next.block next.quota h.machine h.settled t.0 whole
+                (grant_of lease, (out 0 lease b).0.leased, why t.0 after t.1.moment, over.2) (t.6 (out 0 lease b).1);
+            rooms_then = sym r.room;
+            events_are = refl;
+            still = λ none. absurd (some_events (Release lease.worker lease.used false) (Lease lease.worker next.block next.quota ∷ []) none);
+            theirs = λ other else. (ap (λ w. w == other) own ∙ equal_swap Own other ∙ else, tt);
+            same = record { task = r.task; abstraction = r.events.abstraction; choice = r.choice; settings = r.events.settings; past = r.events.past };
+            added = r.events.journal;
+            by = first_by Own (Release lease.worker lease.used false) (Lease lease.worker next.block next.quota ∷ []) (λ other. ap (λ w. w == other) own)
+                (first_by Own (Lease lease.worker next.block next.quota) [] (λ other. ap (λ w. w == other) own) (λ other else. refl));
+            records = λ other grant leased. rows_entry h.lent Own (Some next) other ∙ (λ i. with_entry Recorded (sym own i) (away_rows next.parts) other);
+            leases = ap t.0.counts.leases (sym next_own) ∙ t.3.0.leased;
+            lent_is = λ other is. subst (λ (k : LeaseValue). IsLent y t.0 Own k) (same_Some next other is)
+                record { worker_is = next_own; of_graph = r.of_graph; unused = r.used; given = ap t.0.given (sym next_own) ∙ t.2 };
+            copy = λ other is. subst (λ (k : LeaseValue). AtMost v.last k.incumbent) (same_Some next other is) (subst (λ o. AtMost v.last o) (sym (next_incumbent ∙ is_last)) (at_most_self v.last));
             told_is = (λ i. t.5 i Own) ∙ ap (λ w. with_entry h.machine.told w None Own) own ∙ entry_here h.machine.told Own Own None (equal_self Own);
           },
           t.4 ∙ brought 0 lease b,

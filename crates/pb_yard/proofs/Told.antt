@@ -12,19 +12,21 @@ use Rattle.pb_machine.specs.History.{is_event_of, events_of, is_off, end_in}
 use Rattle.pb_machine.proofs.Callers.{ends_are_told}
 use Rattle.pb_lease.specs.declared.answer.LeaseReply.{LeaseReply}
 use Rattle.pb_lease.specs.declared.answer.LeaseReply.TheVariants.{Leased, NotYet, Over, Memory}
-use Rattle.pb_lease.specs.declared.answer.Renewed.TheVariants.{Given}
+use Rattle.pb_lease.specs.declared.answer.Renewed.TheVariants.{Kept, Given}
+use Rattle.pb_lease.specs.declared.answer.SwitchReply.TheVariants as switch
 use Rattle.pb_lease.specs.Tables.{blocks}
 use Rattle.pb_lease.specs.Events.{counts_along, ending}
 use Rattle.pb_lease.specs.LeaseValue.{LeaseValue}
 use Rattle.pb_lease.specs.GraphValue.{GraphValue, counts_in}
 use Rattle.pb_lease.specs.Choices.{IsOver}
-use Rattle.pb_lease.specs.Steps.{IsEnded, end_events}
+use Rattle.pb_lease.specs.Steps.{IsEnded, end_events, switch_events}
 use Rattle.pb_yard.specs.declared.view.View.{View}
-use Rattle.pb_yard.specs.Replies.{reported, lease_events, lent_by, told_by, renewal_events}
+use Rattle.pb_yard.specs.Replies.{reported, lease_events, lent_by, told_by}
 use Rattle.pb_yard.specs.Returning.{IsBrought}
-use Rattle.pb_yard.specs.Calls.{Holds, Leases, Releases, SignsOff, GivesAndLeases, HasRead, IsActive, IsReady, KeepsWorkers}
+use Rattle.pb_yard.specs.Calls.{Holds, Leases, Renews, Switches, Releases, SignsOff, HasRead, IsActive, IsReady, KeepsWorkers}
 use Rattle.pb_yard.specs.Laws.{LentLeasesMayComeBack, EndsAreSeen, ActiveStay, SigningOffIsSeen}
 use Rattle.pb_yard.proofs.Meaning.{history}
+use Rattle.pb_yard.proofs.Causes.{back_stays_not}
 
 -- a lease may come back as it was lent
 pub lent_leases_may_come_back : LentLeasesMayComeBack
@@ -34,7 +36,7 @@ lent_leases_may_come_back g view at live lease is untold most_broken =
     record {
       lent = lease;
       lent_is = is;
-      same = record { worker = refl; block = refl; quota = refl; weight = refl; choice = refl; places = refl; incumbent = at_most_self lease.incumbent };
+      same = record { worker = refl; block = refl; quota = refl; weight = refl; choice = refl; fits = refl; places = refl; incumbent = at_most_self lease.incumbent };
       weights = it.of_graph.scope.weights;
       work = record { works = []; on = tt; comes = refl; used_is = sym it.unused; few_broken = omega arith; stops = tt };
       turns = tt;
@@ -184,11 +186,62 @@ released_keeps lease memory old new h = keeps_on old h.0 new (read_keeps old h.0
 pub signed_keeps : (worker : ℕ) (memory : Bool) (old new : View) → SignsOff worker memory old new → KeepsWorkers old new
 signed_keeps worker memory old new h = keeps_workers _ _ old new _ _ h
 
--- after its lease came back, and it asked for another at once
-module _ (worker : ℕ) (old new : View) (lease : LeaseValue) (reply : LeaseReply) (h : GivesAndLeases lease worker old reply new) where
-  pub gave_active : IsActive old → IsActive new
-  gave_active active = leased_active worker h.0 new reply h.2
-      (active_stay h.1.2.found.table.journal (renewal_events lease Given) None None h.1.0 h.0 h.1.2.view refl (read_active old h.1.0 h.1.1 active))
+-- ---- after a try to go on
 
-  pub gave_keeps : KeepsWorkers old new
-  gave_keeps = keeps_on old h.0 new (keeps_on old h.1.0 h.0 (read_keeps old h.1.0 h.1.1) (keeps_workers _ _ h.1.0 h.0 _ _ h.1.2)) (leased_keeps worker h.0 new reply h.2)
+module _ (lease : LeaseValue) (old new : View) where
+  -- a lease that went on, or came back, did so as by a renewal
+  pub switch_keeps : (kept : LeaseValue) → Switches lease old (switch.Kept kept) new → Renews lease old (Kept kept) new
+  switch_keeps kept (between, r, h) = (
+    between,
+    r,
+    record {
+      found = h.found;
+      left = h.left;
+      before = h.before;
+      after = h.after;
+      seen = h.seen;
+      step_is = (h.step_is.0, h.step_is.1, λ recorded machine m. h.step_is.2 recorded machine m lease.block, h.step_is.3);
+      added = h.added;
+      events_are = h.events_are;
+      moves = h.moves;
+      view = h.view;
+    },
+  )
+
+  pub switch_gives : Switches lease old switch.Given new → Renews lease old Given new
+  switch_gives (between, r, h) = (
+    between,
+    r,
+    record {
+      found = h.found;
+      left = h.left;
+      before = h.before;
+      after = h.after;
+      seen = h.seen;
+      step_is = (back_stays_not h.found lease h.left h.step_is.0, h.step_is.1, λ recorded machine m. h.step_is.2 recorded machine m lease.block, h.step_is.3);
+      added = h.added;
+      events_are = h.events_are;
+      moves = h.moves;
+      view = h.view;
+    },
+  )
+
+  -- a worker that went on with another block
+  module _ (next : LeaseValue) (h : Switches lease old (switch.Switched next) new) where
+    pub switched_keeps : KeepsWorkers old new
+    switched_keeps = keeps_on old h.0 new (read_keeps old h.0 h.1) record {
+      worker = ap (λ (u : View). u.journal.own.worker) h.2.view;
+      taken_in = ap (λ (u : View). u.journal.taken_in) h.2.view;
+      made = ap (λ (u : View). u.journal.made) h.2.view;
+      settings = ap (λ (u : View). u.settings) h.2.view;
+      abstraction = ap (λ (u : View). u.abstraction) h.2.view;
+      choice = ap (λ (u : View). u.choice) h.2.view;
+      task = ap (λ (u : View). u.task) h.2.view;
+      begin = ap (λ (u : View). u.begin) h.2.view;
+    }
+
+    pub switched_active : IsActive old → IsActive new
+    switched_active active = active_stay h.2.found.table.journal (switch_events lease next) (Some next) None h.0 new h.2.view refl (read_active old h.0 h.1 active)
+
+    pub switched_bring : new.journal.is_live ≡ true → (most_broken : ℕ) → IsBrought new most_broken next
+    switched_bring live most_broken = lent_leases_may_come_back h.2.left new h.2.after live next (ap (λ (u : View). u.lent) h.2.view) (ap (λ (u : View). u.told) h.2.view) most_broken

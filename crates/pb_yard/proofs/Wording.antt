@@ -30,7 +30,7 @@ use Rattle.pb_yard.specs.declared.view.View.{View}
 use Rattle.pb_yard.specs.Views.{cost_of, view_read, view_told}
 use Rattle.pb_yard.specs.Rule.{rows_of, journal_view, is_cost, was_read, IsLent, IsViewOf, IsRecent, IsYard}
 use Rattle.pb_yard.specs.Returning.{IsFound}
-use Rattle.pb_yard.proofs.InTime.{settled_on, settled_falls}
+use Rattle.pb_yard.proofs.InTime.{rooms_on, settled_on, settled_falls}
 use Rattle.pb_yard.proofs.Parts.{at_journal, workers_differ, no_pass_before, unread_recent}
 use Rattle.pb_yard.proofs.Clauses.{Fact}
 use Rattle.pb_yard.proofs.Reading.{read_falls}
@@ -106,6 +106,7 @@ module _ (seat : ℕ) (v : View) (held : Option GraphValue) (live : v.journal.is
     settled = h.settled;
     run = h.run;
     journal = h.journal;
+    rooms_are = h.rooms_are;
     moment = h.moment;
     shared_is = h.shared_is;
     leases = h.leases;
@@ -269,6 +270,7 @@ module _ (seat : ℕ) (v : View) (lease : LeaseValue) (cost : ℕ) (live : v.jou
     settled = h.settled;
     run = settled_on (setup_in x) no_room h.moves (tell_move Own cost ∷ []) (begin_machine h.begin) h.machine Next h.begin.incumbent h.settled h.settled h.run (Next, tells, tt, tt, tt, (refl, refl));
     journal = (runs_go_on (setup_in x) h.moves (tell_move Own cost ∷ []) (begin_machine h.begin) h.machine Next).2 ∙ append-nil (journal_of h.moves) ∙ h.journal;
+    rooms_are = rooms_on no_room h.moves (tell_move Own cost ∷ []) ∙ h.rooms_are;
     moment = moment;
     shared_is = ap (λ o. lesser o (Some cost)) h.shared_is ∙ sym (cost_of_min number cost fits);
     leases = h.leases;

@@ -71,6 +71,7 @@ module _ (g : GraphValue) (view : View) (at : IsAt g view) (live : view.journal.
       quota = s.quota;
       weight = s.weight;
       choice = s.choice;
+      fits = s.fits;
       places = s.places;
       incumbent = s.incumbent;
     }

@@ -8,12 +8,12 @@ use Rattle.pb_machine.specs.declared.event.Event.{Event}
 use Rattle.pb_machine.specs.declared.event.Event.TheVariants.{Hot, Cold}
 use Rattle.pb_machine.specs.History.{StartsWith, is_off, events_of, AreFinished, IsHistory}
 use Rattle.pb_machine.specs.Views.{IsShareOf, HasWorker}
-use Rattle.pb_machine.specs.Room.{no_room, room_after}
+use Rattle.pb_machine.specs.Room.{no_room}
 use Rattle.pb_machine.specs.Machine.{Machine, Move, journal_of}
 use Rattle.pb_lease.specs.declared.answer.LeaseReply.{LeaseReply}
 use Rattle.pb_lease.specs.declared.answer.Renewed.{Renewed}
-use Rattle.pb_lease.specs.declared.answer.Renewed.TheVariants.{Given}
-use Rattle.pb_lease.specs.Tables.{blocks}
+use Rattle.pb_lease.specs.declared.answer.SwitchReply.{SwitchReply}
+use Rattle.pb_lease.specs.Tables.{blocks, rooms}
 use Rattle.pb_lease.specs.LeaseValue.{LeaseValue}
 use Rattle.pb_lease.specs.GraphValue.{GraphValue, setup_in, counts_in}
 use Rattle.pb_lease.specs.Choices.{is_out_in}
@@ -23,7 +23,7 @@ use Rattle.pb_yard.specs.declared.view.View.{View}
 use Rattle.pb_yard.specs.Views.{view_read, view_told, view_then}
 use Rattle.pb_yard.specs.Order.{RunsSettled, RunsInTime}
 use Rattle.pb_yard.specs.Rule.{IsAt, IsSearchOf}
-use Rattle.pb_yard.specs.Replies.{LeasesAs, lease_events, lent_by, told_by, RenewsAs, renewal_events, kept_by, ReleasesAs, release_events, RivalsAs, MarksAs, CoolsAs, mark_events, SignsOffAs, off_events}
+use Rattle.pb_yard.specs.Replies.{LeasesAs, lease_events, lent_by, told_by, RenewsAs, renewal_events, kept_by, SwitchesAs, switch_moves, switched_by, ReleasesAs, release_events, RivalsAs, MarksAs, CoolsAs, mark_events, SignsOffAs, off_events}
 
 -- ---- the shared incumbent
 
@@ -42,12 +42,12 @@ LowersIncumbent old cost =
 
 -- The pass held the graph once. It found a lawful moment, whose journal begins with all that the
 -- pass had seen. From there the graph went to the moment that the pass left, as `step` says, which
--- is lawful too. Exactly these events came to the journal. They are the moves from the one moment
--- to the other, in order and in time. The pass has seen the whole journal then, and of the new
--- events it has its own worker's. It has this lease, and has told this cost.
-pub record Holds (step : (found left : GraphValue) → Type 0)
-    (events : (found : GraphValue) → List Event) (old : View) (lent : Option LeaseValue)
-    (told : Option ℕ) (new : View) : Type 0 where
+-- is lawful too. Exactly these events came to the journal. They are those of these moves, which lead
+-- from the one moment to the other, in order and in time. The pass has seen the whole journal then,
+-- and of the new events it has its own worker's. It has this lease, and has told this cost.
+pub record HoldsBy (step : (found left : GraphValue) → Type 0)
+    (events : (found : GraphValue) → List Event) (made : (found : GraphValue) → List Move)
+    (old : View) (lent : Option LeaseValue) (told : Option ℕ) (new : View) : Type 0 where
   pub found : GraphValue
   pub left : GraphValue
   pub before : IsAt found old
@@ -55,9 +55,17 @@ pub record Holds (step : (found left : GraphValue) → Type 0)
   pub seen : StartsWith found.table.journal old.journal.seen
   pub step_is : step found left
   pub added : left.table.journal ≡ found.table.journal ++ events found
-  pub moves : RunsSettled (setup_in found) (room_after found.table.journal) before.yard.machine
-      before.yard.settled (moves_of (events found)) after.yard.machine after.yard.settled
+  pub events_are : journal_of (made found) ≡ events found
+  pub moves : RunsSettled (setup_in found) (rooms found.table) before.yard.machine
+      before.yard.settled (made found) after.yard.machine after.yard.settled
   pub view : new ≡ view_then found.table.journal (events found) lent told old
+
+-- the same, with each event a move of its own
+abbrev pub Holds : (step : (found left : GraphValue) → Type 0)
+    → (events : (found : GraphValue) → List Event) → (old : View) → (lent : Option LeaseValue)
+    → (told : Option ℕ) → (new : View) → Type 0
+Holds step events old lent told new =
+    HoldsBy step events (λ found. moves_of (events found)) old lent told new
 
 -- The pass first read the incumbent, under the turn: what it read is at most what it had read or
 -- told before. `between` is its view then.
@@ -67,7 +75,14 @@ pub record HasRead (old between : View) : Type 0 where
   pub falls : AtMost incumbent old.last
   pub view : between ≡ view_read (Some held) old incumbent
 
--- the pass read the incumbent, and then held the graph, with this step and these events
+-- the pass read the incumbent, and then held the graph, with this step, these events and these moves
+abbrev pub ReadsAndHoldsBy : (step : (found left : GraphValue) → Type 0)
+    → (events : (found : GraphValue) → List Event) → (made : (found : GraphValue) → List Move)
+    → (old : View) → (lent : Option LeaseValue) → (told : Option ℕ) → (new : View) → Type 0
+ReadsAndHoldsBy step events made old lent told new =
+    (between : View) × HasRead old between × HoldsBy step events made between lent told new
+
+-- the same, with each event a move of its own
 abbrev pub ReadsAndHolds : (step : (found left : GraphValue) → Type 0)
     → (events : (found : GraphValue) → List Event) → (old : View) → (lent : Option LeaseValue)
     → (told : Option ℕ) → (new : View) → Type 0
@@ -86,12 +101,11 @@ Renews lease old reply new =
     ReadsAndHolds (RenewsAs lease reply) (λ found. renewal_events lease reply) old (kept_by reply)
     None new
 
--- The lease came back, since it might not go on, and in the same holding the pass asked for
--- another, with this answer.
-abbrev pub GivesAndLeases : LeaseValue → (worker : ℕ) → (old : View) → LeaseReply → (new : View)
-    → Type 0
-GivesAndLeases lease worker old reply new =
-    (between : View) × Renews lease old Given between × Leases worker between reply new
+-- the pass asked to go on with its lease or with another block, with this answer
+abbrev pub Switches : LeaseValue → (old : View) → SwitchReply → (new : View) → Type 0
+Switches lease old reply new =
+    ReadsAndHoldsBy (SwitchesAs lease reply) (λ found. journal_of (switch_moves lease reply))
+    (λ found. switch_moves lease reply) old (switched_by reply) None new
 
 -- the pass brought its lease back
 abbrev pub Releases : LeaseValue → (memory : Bool) → (old new : View) → Type 0

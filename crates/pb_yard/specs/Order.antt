@@ -1,11 +1,11 @@
 -- The order of a search by leases, whatever the number of its workers.
-use Rattle.std.specs.Prelude.{◌≡◌, ◌⊎◌, ℕ, Bool, true, false, List, [], ◌∷◌, Option, Some, None, ⊤}
+use Rattle.std.specs.Prelude.{◌≡◌, ◌⊎◌, ◌<◌, ℕ, Bool, true, false, List, [], ◌∷◌, Option, Some, None, ⊤}
 use Rattle.pb_model.specs.Store.{HasOpened, AtMost}
 use Rattle.pb_machine.specs.declared.event.Event.TheVariants.{Lease, Renew, Release, Off}
 use Rattle.pb_machine.specs.declared.event.Grant.{Grant}
 use Rattle.pb_machine.specs.Choice.{IsFirstChoice, counts_with_lease_home}
-use Rattle.pb_machine.specs.Room.{room_with}
-use Rattle.pb_machine.specs.Machine.{Setup, Machine, Move, event_move, tell_move, Moves}
+use Rattle.pb_machine.specs.Room.{room_moved}
+use Rattle.pb_machine.specs.Machine.{Setup, Machine, Move, event_move, tell_move, switch_move, Moves}
 use Rattle.pb_machine.specs.Turns.{IsInOrder}
 use Rattle.pb_lease.specs.LeaseValue.{LeaseValue, leased_store}
 
@@ -31,26 +31,34 @@ GivesWholeIncumbent (event_move (Lease worker block quota)) settled new =
     AtMost (new.given worker) settled
 GivesWholeIncumbent (event_move (Renew worker used quota)) settled new =
     AtMost (new.given worker) settled
+GivesWholeIncumbent (switch_move worker used block quota) settled new =
+    AtMost (new.given worker) settled
 GivesWholeIncumbent move settled new = ⊤
 
 -- the incumbent that the whole store had at the last event, after this move
 abbrev pub settled_after : Move → (settled : Option ℕ) → (new : Machine) → Option ℕ
 settled_after (event_move event) settled new = new.store.incumbent
 settled_after (tell_move worker cost) settled new = settled
+settled_after (switch_move worker used block quota) settled new = new.store.incumbent
+
+-- with the lease home its block isn't the first choice
+abbrev pub IsOvertaken : Setup → (old : Machine) → (worker used block : ℕ) → (new : Machine) → Type 0
+IsOvertaken setup old worker used block new =
+    IsFirstChoice setup.blocks setup.settings (counts_with_lease_home old.counts worker used)
+    new.store block → ⊥
 
 -- The lease can't go on: with it home its block isn't the first choice, or it has no room in the
 -- journal any more.
 abbrev pub CannotGoOn : Setup → (room : ℕ → ℕ) → (old : Machine) → (worker used block : ℕ)
     → (new : Machine) → Type 0
 CannotGoOn setup room old worker used block new =
-    (IsFirstChoice setup.blocks setup.settings (counts_with_lease_home old.counts worker used)
-    new.store block → ⊥)
-    ⊎ (room worker ≡ 0)
+    IsOvertaken setup old worker used block new ⊎ (room worker ≡ 0)
 
 -- `room` says, by worker, for how many more events its lease has room in the journal. A lease goes
 -- on only if its quota is used up, and its block, with the lease home, is the first choice at that
 -- moment. Other workers may have done anything meanwhile. A lease comes back only if no row of its
--- block is Opened, its worker is out of memory, or its quota is used up and it can't go on. A
+-- block is Opened, its worker is out of memory, or its quota is used up and it can't go on. At a
+-- switch it comes back for the first or the last of these causes, and has room for two events. A
 -- worker signs off with a report only if no end stands: later the report would change nothing.
 abbrev pub IsTimely : Setup → (room : ℕ → ℕ) → (old : Machine) → Move → (new : Machine) → Type 0
 IsTimely setup room old (event_move (Renew worker used quota)) new =
@@ -61,13 +69,13 @@ IsTimely setup room old (event_move (Release worker used false)) new =
     (grant : Grant) × (old.counts.leases worker ≡ Some grant)
     × ((HasOpened (new.store.rows grant.block) → ⊥)
     ⊎ ((used ≡ grant.quota) × CannotGoOn setup room old worker used grant.block new))
+IsTimely setup room old (switch_move worker used block quota) new =
+    (grant : Grant) × (old.counts.leases worker ≡ Some grant)
+    × ((HasOpened (new.store.rows grant.block) → ⊥)
+    ⊎ ((used ≡ grant.quota) × IsOvertaken setup old worker used grant.block new))
+    × (1 < room worker)
 IsTimely setup room old (event_move (Off worker true)) new = old.counts.end ≡ None
 IsTimely setup room old move new = ⊤
-
--- the room after this move
-abbrev pub room_moved : (room : ℕ → ℕ) → Move → ℕ → ℕ
-room_moved room (event_move event) = room_with room event
-room_moved room (tell_move worker cost) = room
 
 -- A run of any number of workers, in order and in time: these moves, one after another. Each block
 -- that was leased was the first choice of those that might be leased then. Each row that was taken

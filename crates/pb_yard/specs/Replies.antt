@@ -7,20 +7,22 @@ use Rattle.pb_machine.specs.declared.event.Event.{Event}
 use Rattle.pb_machine.specs.declared.event.Event.TheVariants.{Lease, Renew, Hot, Cold, Release, Off}
 use Rattle.pb_machine.specs.Blocks.{interferes}
 use Rattle.pb_machine.specs.Choice.{MayBeLeased, IsRival}
-use Rattle.pb_machine.specs.Machine.{Machine}
+use Rattle.pb_machine.specs.Machine.{Machine, Move}
 use Rattle.pb_bundles.specs.Homes.{key_at}
 use Rattle.pb_bundles.specs.Choosing.{IsRivalBy}
 use Rattle.pb_lease.specs.declared.answer.LeaseReply.{LeaseReply}
 use Rattle.pb_lease.specs.declared.answer.LeaseReply.TheVariants.{Leased, NotYet, Over, Memory}
 use Rattle.pb_lease.specs.declared.answer.Renewed.{Renewed}
 use Rattle.pb_lease.specs.declared.answer.Renewed.TheVariants.{Kept, Given}
+use Rattle.pb_lease.specs.declared.answer.SwitchReply.{SwitchReply}
+use Rattle.pb_lease.specs.declared.answer.SwitchReply.TheVariants as switch
 use Rattle.pb_lease.specs.Tables.{blocks}
 use Rattle.pb_lease.specs.Events.{ending}
 use Rattle.pb_lease.specs.LeaseValue.{LeaseValue}
 use Rattle.pb_lease.specs.GraphValue.{GraphValue}
 use Rattle.pb_lease.specs.Choices.{IsOver, IsToWait, MayMark, MayCool}
-use Rattle.pb_lease.specs.Moments.{IsMomentAt}
-use Rattle.pb_lease.specs.Steps.{IsLeased, LeasesNext, IsEnded, end_events, KeepsLeases, IsMarked, IsSignedOff, IsReleased, ReleasesNext, IsRenewed, RenewsNext, GoesOn, ChoosesByRows}
+use Rattle.pb_lease.specs.Moments.{IsMomentAt, moves_of}
+use Rattle.pb_lease.specs.Steps.{IsLeased, LeasesNext, IsEnded, end_events, KeepsLeases, IsMarked, IsSignedOff, IsReleased, ReleasesNext, IsRenewed, RenewsNext, GoesOn, ChoosesByRows, GoesOver, ComesBack, ChoosesAnyByRows, switch_of, IsSwitched, SwitchesNext}
 
 -- ---- a lease
 
@@ -79,6 +81,31 @@ renewal_events lease Given = Release lease.worker lease.used false ∷ []
 abbrev pub kept_by : Renewed → Option LeaseValue
 kept_by (Kept kept) = Some kept
 kept_by Given = None
+
+-- A worker asked to go on with its lease, or else with another block.
+abbrev pub SwitchesAs : LeaseValue → SwitchReply → (old new : GraphValue) → Type 0
+SwitchesAs lease (switch.Kept kept) old new =
+    GoesOn old lease new × IsRenewed old lease kept new × ChoosesAnyByRows old lease new
+    × RenewsNext old lease kept new
+SwitchesAs lease (switch.Switched next) old new =
+    GoesOver old lease new next.block × IsSwitched old lease next new
+    × ChoosesAnyByRows old lease new × SwitchesNext old lease next new
+SwitchesAs lease switch.Given old new =
+    ComesBack old lease new × IsReleased old lease false new × ChoosesAnyByRows old lease new
+    × ReleasesNext old lease false new
+
+-- The one move: a renewal, a switch, which has the events of the return and of the next lease, or a
+-- return.
+abbrev pub switch_moves : LeaseValue → SwitchReply → List Move
+switch_moves lease (switch.Kept kept) = moves_of (renewal_events lease (Kept kept))
+switch_moves lease (switch.Switched next) = switch_of lease next ∷ []
+switch_moves lease switch.Given = moves_of (renewal_events lease Given)
+
+-- the lease that the worker has then
+abbrev pub switched_by : SwitchReply → Option LeaseValue
+switched_by (switch.Kept kept) = Some kept
+switched_by (switch.Switched next) = Some next
+switched_by switch.Given = None
 
 -- A worker brought its lease back.
 abbrev pub ReleasesAs : LeaseValue → (memory : Bool) → (old new : GraphValue) → Type 0

@@ -10,9 +10,10 @@ use Rattle.pb_machine.specs.declared.event.Grant.{Grant}
 use Rattle.pb_machine.specs.Settings.{AreInRange}
 use Rattle.pb_machine.specs.Views as of_machine
 use Rattle.pb_machine.specs.Views.{AreTrueOf}
-use Rattle.pb_machine.specs.Room.{no_room}
+use Rattle.pb_machine.specs.Room.{no_room, rooms_after}
 use Rattle.pb_machine.specs.Machine.{IsSetup, Machine, Move, journal_of}
 use Rattle.pb_bundles.specs.Parts.{away_rows}
+use Rattle.pb_lease.specs.Tables.{rooms}
 use Rattle.pb_lease.specs.LeaseValue.{LeaseValue}
 use Rattle.pb_lease.specs.Leased.{grant_of}
 use Rattle.pb_lease.specs.GraphValue.{GraphValue, setup_in, IsOfGraph}
@@ -93,10 +94,10 @@ HasNoPass worker views =
 
 -- The graph, with what its workers were lent, is a lawful moment of the lease machine. The yard was
 -- made with the graph `begin`, and all live views say so. Moves from the machine that a run begins
--- with there lead to that moment, in order and in time, and their events are the journal. The
--- shared number is the least cost that was found or told: the incumbent of the whole store. The
--- views of all passes are true of the journal and of what is lent. A worker that has no live pass
--- has no lease.
+-- with there lead to that moment, in order and in time, and their events are the journal. Each lease
+-- has the room that these moves leave it. The shared number is the least cost that was found or
+-- told: the incumbent of the whole store. The views of all passes are true of the journal and of
+-- what is lent. A worker that has no live pass has no lease.
 pub record IsYard (g : GraphValue) (shared : Option ℕ) (views : List View) : Type 0 where
   pub is_setup : IsSetup (setup_in g) greatest_cost
   pub in_range : AreInRange g.table.settings
@@ -110,6 +111,7 @@ pub record IsYard (g : GraphValue) (shared : Option ℕ) (views : List View) : T
   pub run : RunsSettled (setup_in g) no_room (begin_machine begin) begin.incumbent moves machine
       settled
   pub journal : journal_of moves ≡ g.table.journal
+  pub rooms_are : rooms_after no_room moves ≡ rooms g.table
   pub moment : IsMomentAt g (λ worker. rows_of (lent worker)) machine
   pub shared_is : machine.store.incumbent ≡ shared
   pub leases : (worker : ℕ) → machine.counts.leases worker ≡ grant_in (lent worker)

@@ -1,6 +1,6 @@
 //! The rule that ties the graph to what the passes know.
 use crate::view::View;
-use pb_lease::{Lease, LeaseGraph, LeaseReply, Renewed};
+use pb_lease::{LeaseGraph, LeaseReply, Renewed, SwitchReply};
 use pb_turn::{Leaving, TurnRule};
 
 /// The rule of the yard: the graph is a lawful moment of the lease machine. The views of all passes
@@ -57,16 +57,17 @@ impl Leaving<YardRule> for AfterRenewal {
     ghost after = { λ reply x y v. view_left x y (kept_by reply) None v };
 }
 
-/// Leaving after a lease went on.
-pub(crate) struct AfterKept;
+/// Leaving after a worker asked to go on with its lease, or with another block.
+pub(crate) struct AfterSwitch;
 
-impl Leaving<YardRule> for AfterKept {
-    ghost use Rattle.std.specs.Prelude.{None, Some};
+impl Leaving<YardRule> for AfterSwitch {
+    ghost use Rattle.std.specs.Prelude.{None};
     ghost use Rattle.pb_yard.specs.Views.{view_left};
+    ghost use Rattle.pb_yard.specs.Replies.{switched_by};
 
-    type Said = Lease;
+    type Said = SwitchReply;
 
-    ghost after = { λ kept x y v. view_left x y (Some kept) None v };
+    ghost after = { λ reply x y v. view_left x y (switched_by reply) None v };
 }
 
 /// Leaving after a lease came back.

@@ -6,11 +6,12 @@ ghost use Rattle.pb_task.specs.Parts.{space_of};
 ghost use Rattle.pb_estimate.specs.Estimates.{estimate_of};
 ghost use Rattle.pb_abstract.specs.Graph.{IsGraphOf};
 ghost use Rattle.pb_lease.specs.declared.answer.LeaseReply.TheVariants.{Leased};
-ghost use Rattle.pb_yard.specs.declared.switch.Switch.TheVariants.{Gave, Busy};
+ghost use Rattle.pb_lease.specs.declared.answer.SwitchReply.TheVariants as reply;
+ghost use Rattle.pb_yard.specs.declared.switch.Switch.TheVariants.{Switched, Busy};
 ghost use Rattle.pb_yard.specs.Passes.{view_of, worker_of, parts_of, misses_of, all_parts, IsOf, IsFirstPass, KeepsPass};
 ghost use Rattle.pb_yard.specs.Order.{HasStopped};
 ghost use Rattle.pb_yard.specs.Returning.{IsBrought};
-ghost use Rattle.pb_yard.specs.Calls.{IsReady, IsActive, IsAlone, HasSignedOff, KeepsWorkers, GivesAndLeases};
+ghost use Rattle.pb_yard.specs.Calls.{IsReady, IsActive, IsAlone, HasSignedOff, KeepsWorkers, Switches};
 
 use crate::by_hand::expand_only;
 use crate::{Pass, Switch, Yard, YardRule};
@@ -92,17 +93,19 @@ fn busy<R: Abort>(rt: &R, answer: Switch) -> Lease
     match answer {
         Switch::Busy(lease) => lease,
         Switch::Kept(_lease) => panic!(rt; "the turn was held"),
-        Switch::Gave(_reply) => panic!(rt; "the turn was held"),
+        Switch::Switched(_next) => panic!(rt; "the turn was held"),
+        Switch::Given => panic!(rt; "the turn was held"),
     }
 }
 
-// The answer to a pass whose lease came back.
-fn gave<R: Abort>(rt: &R, answer: Switch) -> LeaseReply
-    ensures { answer ≡ Gave result }
+// The next lease of a pass that went on with another block.
+fn switched<R: Abort>(rt: &R, answer: Switch) -> Lease
+    ensures { answer ≡ Switched result }
 {
     match answer {
-        Switch::Gave(reply) => reply,
+        Switch::Switched(next) => next,
         Switch::Kept(_lease) => panic!(rt; "the lease went on"),
+        Switch::Given => panic!(rt; "the lease came back"),
         Switch::Busy(_lease) => panic!(rt; "nobody held the turn"),
     }
 }
@@ -148,18 +151,17 @@ fn try_beside<R: Abort>(rt: &R, yard: &Yard, pass: &mut Pass, lease: Lease) -> L
     busy(rt, answer)
 }
 
-// Tries to go on while nobody holds the turn: the lease comes back, and there is another one.
+// Tries to go on while nobody holds the turn: the worker goes on with another block.
 fn go_over<R: Abort>(rt: &R, yard: &Yard, pass: &mut Pass, lease: Lease) -> Lease
     requires own { IsOf yard.now pass.old }
     requires brought { IsBrought (view_of pass.old) 0 lease }
     requires cause { HasStopped lease }
     ensures same { KeepsPass pass.old pass.new }
-    ensures gave { GivesAndLeases lease (worker_of pass.old)
-        (view_of pass.old) (Leased result) (view_of pass.new) }
+    ensures switched { Switches lease (view_of pass.old) (reply.Switched result)
+        (view_of pass.new) }
 {
     let answer = yard.try_switch(pass, lease);
-    let reply = gave(rt, answer);
-    leased(rt, reply)
+    switched(rt, answer)
 }
 
 // The block of a lease, its quota, and how much of that is used.

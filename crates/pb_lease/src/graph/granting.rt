@@ -25,7 +25,8 @@ impl LeaseGraph {
     ///   Opened or nothing is left of the budget. If it had not ended, the end comes now.
     /// - The worker is to wait if and only if the search has not ended, some lease is out, and no
     ///   block may be leased. Nothing changes then.
-    /// - All memory is taken first: for the list of the bundles, and in the journal for 65 events.
+    /// - All memory is taken first: for a list of the bundles of the greatest scope, and in the
+    ///   journal for 65 events.
     ///   If it runs out, nothing changes either.
     pub fn lease(&mut self, worker: u32) -> LeaseReply
         requires worker { worker < self.old.table.settings.workers }
@@ -85,8 +86,8 @@ impl LeaseGraph {
         ensures moment { IfOk result (λ lease. LeasesNext self.old lease self.new) }
         ensures err { OnErr result (self.new ≡ self.old) }
     {
-        let bundles = self.tables.abstraction().scope(block).len();
-        let room = self.rooms.take(self.alloc, bundles)?;
+        // Room for the greatest scope: the worker may go on to any block without more memory.
+        let room = self.rooms.take(self.alloc, self.greatest)?;
         let choice = self.choice.clone()?;
         // The last step that can fail: after an error no block is leased.
         let quota = self.tables.lease(worker, block)?;

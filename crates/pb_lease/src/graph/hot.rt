@@ -73,7 +73,9 @@ impl LeaseGraph {
     {
         let near = self.tables.abstraction().interference(block);
         show_all(&mut self.free, &self.homes, near);
-        self.tables.cool(worker, block)
+        let cooled = self.tables.cool(worker, block);
+        prune(&mut self.free, &self.tables);
+        cooled
     }
 
     // Whether a better block of its interference is hot.

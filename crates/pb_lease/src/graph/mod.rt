@@ -1,5 +1,5 @@
 //! The graph of a search by leases.
-ghost use Rattle.std.specs.Prelude.{◌≡◌, ◌<◌, ℕ, true, [], None, Some, IsFalse, IsSome, IfOk, List};
+ghost use Rattle.std.specs.Prelude.{◌≡◌, ◌<◌, ◌≤◌, ℕ, true, [], None, Some, IsFalse, IsSome, IfOk, List};
 ghost use Rattle.std.specs.Arc.{arc_value};
 ghost use Rattle.pb_model.specs.Store.{Rows};
 ghost use Rattle.pb_model.specs.Work.{opening_store};
@@ -14,6 +14,7 @@ ghost use Rattle.pb_lists.specs.Bundle.{row_of};
 ghost use Rattle.pb_bundles.specs.Homes.{content_at, home_rows};
 ghost use Rattle.pb_machine.specs.Room.{room_after, KeepsWithinRoom};
 ghost use Rattle.pb_lease.specs.Tables.{no_past, blocks, rooms};
+ghost use Rattle.pb_lease.specs.Leased.{FitsScopes};
 ghost use Rattle.pb_lease.specs.GraphValue.{setup_in, counts_in, IsLeaseGraph};
 ghost use Rattle.pb_lease.specs.Choices.{is_out_in};
 ghost use Rattle.pb_lease.specs.Moments.{IsMomentAt, IsMoment};
@@ -22,6 +23,7 @@ ghost use Rattle.pb_lease.specs.Begins.{begin_machine, IsBegin};
 pub(crate) mod closing;
 pub(crate) mod free;
 pub(crate) mod granting;
+pub(crate) mod home;
 pub(crate) mod hot;
 pub(crate) mod lowering;
 pub(crate) mod reopen;
@@ -57,6 +59,8 @@ pub struct LeaseGraph {
     pub(crate) incumbent: Option<u64>,
     // emptied rooms of leases that came back, one a worker, for the bundles that leave next
     pub(crate) rooms: KeptRooms,
+    // how many blocks the greatest scope has
+    pub(crate) greatest: usize,
     // the allocator of the lists of bundles that leave with leases
     pub(crate) alloc: Global,
 }
@@ -83,7 +87,7 @@ impl Model for LeaseGraph {
           table = g.tables;
           homes = g.homes;
           incumbent = g.incumbent;
-        }) g.free };
+        }) g.free g.greatest };
 }
 
 impl LeaseGraph {
@@ -129,6 +133,7 @@ impl LeaseGraph {
         homes.offer_start(block, start, estimate)?;
         let mut free = KeyTree::new(alloc, homes.count())?;
         show_every(&mut free, &homes);
+        let greatest = greatest_scope(&abstraction);
         let tables = MachineTables::new(alloc, abstraction, settings)?;
         Ok(LeaseGraph {
             task,
@@ -138,6 +143,7 @@ impl LeaseGraph {
             free,
             incumbent: None,
             rooms,
+            greatest,
             alloc,
         })
     }
@@ -184,13 +190,14 @@ impl LeaseGraph {
     }
 
     /// The abstract graph: the blocks that are leased. The call also shows what is true of every
-    /// graph: each lease has the room that the journal leaves it.
+    /// graph: each lease has at most the room that the journal leaves it.
     pub fn abstraction(&self) -> &AbsGraph
         ensures abstraction { result.now ≡ self.now.table.abstraction }
         ensures lawful { IsLeaseGraph self.now }
-        ensures room { rooms self.now.table ≡ room_after self.now.table.journal }
+        ensures room { (worker : ℕ) → rooms self.now.table worker
+            ≤ room_after self.now.table.journal worker }
     {
-        // The call shows that each lease has the room that the journal leaves it.
+        // The call shows that each lease has at most the room that the journal leaves it.
         let _ = self.tables.journal();
         self.tables.abstraction()
     }
@@ -203,7 +210,8 @@ impl LeaseGraph {
     }
 
     /// For how many more events of the worker there is room in the journal, beside the return of
-    /// its lease: renewals, hot marks, and marks taken away. It is 63 for a new lease.
+    /// its lease: renewals, hot marks, and marks taken away. It is 63 for a lease that was asked
+    /// for anew. A lease that the worker went on to has what the one before left of it, less 2.
     pub fn room(&self, worker: u32) -> u32
         requires { IsSome ((counts_in self.now).leases worker) }
         ensures { result ≡ rooms self.now.table worker }
@@ -224,4 +232,15 @@ impl LeaseGraph {
     {
         self.homes.bundle(block)
     }
+}
+
+// How many blocks the greatest scope has.
+fn greatest_scope(abstraction: &AbsGraph) -> usize
+    ensures { FitsScopes abstraction.now result }
+{
+    let mut greatest: usize = 0;
+    for block in 0..abstraction.count() {
+        greatest = greatest.max(abstraction.scope(block).len());
+    }
+    greatest
 }

@@ -14,7 +14,7 @@ ghost use Rattle.pb_lease.specs.Steps.{IsReleased, ReleasesNext, IsRenewed, Rene
 
 use crate::answer::Renewed;
 use crate::graph::LeaseGraph;
-use crate::graph::free::{show, show_beside_hot, show_clear};
+use crate::graph::free::{prune, show, show_beside_hot, show_clear};
 use crate::lease::Lease;
 
 impl LeaseGraph {
@@ -44,6 +44,7 @@ impl LeaseGraph {
         let near = self.tables.abstraction().interference(block);
         show_clear(&mut self.free, &self.homes, &self.tables, near);
         show(&mut self.free, &self.homes, block);
+        prune(&mut self.free, &self.tables);
         self.incumbent = least(self.incumbent, incumbent);
     }
 
@@ -85,15 +86,11 @@ impl LeaseGraph {
         ensures { IsTrue result ↔ IsChoiceWithHome self.now lease.now self.now
             (Some lease.now.block) }
     {
-        let choice = self.homes.first_choice(|block| {
-            self.tables
-                .can_be_leased_after(lease.worker, lease.used, block)
-        });
-        choice == Some(lease.block)
+        self.choice_with_home(lease) == Some(lease.block)
     }
 
     // The lease, whose keys are noted, goes on.
-    fn go_on(&mut self, lease: Lease) -> Lease
+    pub(crate) fn go_on(&mut self, lease: Lease) -> Lease
         requires of_graph { IsOfGraph self.old lease }
         requires first { GoesOn self.old lease self.old }
         ensures quota { result ≡ record lease {

@@ -1,5 +1,5 @@
 //! The tables of the lease machine.
-ghost use Rattle.std.specs.Prelude.{◌≡◌, ◌<◌, ℕ, [], IfOk, IsSome, length, get_or};
+ghost use Rattle.std.specs.Prelude.{◌≡◌, ◌<◌, ◌≤◌, ℕ, [], IfOk, IsSome, length, get_or};
 ghost use Rattle.std.specs.Arc.{arc_value};
 ghost use Rattle.pb_machine.specs.Settings.{AreInRange};
 ghost use Rattle.pb_machine.specs.Counts.{opening_counts};
@@ -15,6 +15,7 @@ pub(crate) mod marking;
 pub(crate) mod marks;
 pub(crate) mod reopening;
 pub(crate) mod seats;
+pub(crate) mod switching;
 
 use crate::past::Past;
 use crate::seat::Seat;
@@ -139,13 +140,13 @@ impl MachineTables {
     }
 
     /// The events so far: a legal history, which leads to these counts, and which keeps within the
-    /// room of its leases. The room that each lease still has is what they leave.
+    /// room of its leases. Each lease has at most the room that they leave.
     pub fn journal(&self) -> &[Event]
         ensures events { result.now ≡ self.now.journal }
         ensures legal { IsHistory (blocks self.now) self.now.settings self.now.past.spent
             self.now.journal (counts_of self.now) }
         ensures within { KeepsWithinRoom self.now.journal }
-        ensures room { rooms self.now ≡ room_after self.now.journal }
+        ensures room { (worker : ℕ) → rooms self.now worker ≤ room_after self.now.journal worker }
     {
         &self.journal
     }

@@ -1,4 +1,4 @@
-use Rattle.std.proofs.Common.{◌≡◌, ◌+◌, ◌++◌, ◌∷◌, [], None, cond, slice_set, is_some, take, get_or, ap, sym, ◌∙◌, add-one, arith}
+use Rattle.std.proofs.Common.{◌≡◌, ◌+◌, ◌++◌, ◌∷◌, [], None, cond, slice_set, is_some, take, get_or, ap, sym, ◌∙◌, add-one, arith, length, length-append}
 use Rattle.std.proofs.Math.Seq.{take-suc}
 use Rattle.pb_model.proofs.Callers.{some_found}
 use Rattle.pb_bundles.specs.Parts.{content_in}
@@ -42,5 +42,6 @@ loop-block-preserved c =
       left = c.move_one.ensures.left ∙ ap (λ bs. slice_set bs block None) c.loop-block.invariant.left ∙ sym (vacated_push (take at scope) block items) ∙ ap (λ s. vacated s items) (sym front);
       gone = c.move_one.ensures.moved there.0 (here ∙ there.1) ∙ ap (λ ps. ps ++ (block, there.0) ∷ []) c.loop-block.invariant.gone
           ∙ sym (moved_push (take at scope) block there.0 items there.1) ∙ ap (λ s. moved s items) (sym front);
+      places = let more = ap length (c.move_one.ensures.moved there.0 (here ∙ there.1)) in omega (arith, more, length-append c.loop-block.parts.entries ((block, there.0) ∷ []), c.loop-block.invariant.places);
       room = omega (arith, c.move_one.ensures.room, c.loop-block.invariant.room);
     }

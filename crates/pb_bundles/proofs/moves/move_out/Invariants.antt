@@ -7,5 +7,6 @@ abbrev pub invariant-loop-block : goal.invariant-loop-block
 invariant-loop-block l = record {
   left : l.bundles.items ≡ vacated (take l.block-index l.scope) l.initial.bundles.items;
   gone : l.parts.entries ≡ moved (take l.block-index l.scope) l.initial.bundles.items;
-  room : length l.scope ≤ spare l.parts + l.block-index;
+  places : length l.parts.entries ≡ l.block-index;
+  room : spare l.initial.parts ≤ spare l.parts + l.block-index;
 }

@@ -1,7 +1,7 @@
-use Rattle.std.proofs.Common.{Some, sym, ap, ◌∙◌, subst}
+use Rattle.std.proofs.Common.{ℕ, Some, sym, ap, ◌∙◌, subst}
 use Rattle.pb_task.specs.declared.parts.TaskParts.{TaskParts}
 use Rattle.pb_abstract.specs.Graph.{AbstractGraph, IsGraphOf}
-use Rattle.pb_lease.specs.Leased.{HasScope}
+use Rattle.pb_lease.specs.Leased.{HasScope, FitsScopes}
 use Rattle.pb_lease.specs.GraphValue.{counts_in}
 use Rattle.pb_expand.specs.Turned.{IsAtWork}
 use Rattle.pb_test_search.proofs.graphs.work_with.Goals as goal
@@ -28,4 +28,5 @@ returns c =
       weight = same.weight ∙ of.weight;
       choice = same.choice ∙ of.choice;
       scope = subst (λ (g : AbstractGraph). HasScope g c.work-worked.new.lease) a.ensures.abstraction c.work-worked.ensures.scope;
+      fits = subst (λ (n : ℕ). FitsScopes c.args.graph.now.table.abstraction n) (sym same.fits) of.fits;
     }

@@ -29,7 +29,7 @@ work_watched-worked-requires-clause-tables g c =
     let v = view_of c.args.watch.now.pass in let l = c.requires.leased in let y = l.at.yard in
     let of_view = y.each l.at.seat v l.at.mine c.args.watch.now.pass.is_live in
     let same = of_view.search.choice ∙ sym (y.lent_is v.journal.own.worker c.args.lease (of_view.lent ∙ l.lent)).of_graph.choice in
-    subst (IsOfTask c.args.estimator.now c.args.task.now) same c.requires.tools
+    subst (IsOfTask c.args.tools.now.estimator c.args.task.now) same c.requires.tools
 
 pub returns-clause-tools : goal.returns-clause-tools
 returns-clause-tools g c =

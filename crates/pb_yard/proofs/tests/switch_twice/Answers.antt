@@ -1,12 +1,11 @@
 use Rattle.std.proofs.Common.{true, false, sym, subst}
-use Rattle.pb_lease.specs.declared.answer.LeaseReply.TheVariants.{Leased}
 use Rattle.pb_lease.specs.LeaseValue.{LeaseValue}
 use Rattle.pb_yard.specs.declared.view.View.{View}
-use Rattle.pb_yard.specs.Passes.{view_of, worker_of}
+use Rattle.pb_yard.specs.Passes.{view_of}
 use Rattle.pb_yard.specs.Order.{HasStopped}
 use Rattle.pb_yard.specs.Returning.{IsBrought}
 use Rattle.pb_yard.specs.Calls.{IsActive, KeepsWorkers}
-use Rattle.pb_yard.proofs.Told.{may_bring, released_ready, released_keeps, keeps_on, gave_active, gave_keeps}
+use Rattle.pb_yard.proofs.Told.{released_ready, released_keeps, keeps_on, switched_bring, switched_active, switched_keeps}
 use Rattle.pb_yard.proofs.tests.switch_twice.Goals as goal
 
 pub go_over-next-requires-clause-brought : goal.go_over-next-requires-clause-brought
@@ -22,8 +21,7 @@ pub release-requires-clause-brought : goal.release-requires-clause-brought
 release-requires-clause-brought g c =
     let p = c.try_beside-lease.new.pass in
     let o = c.go_over-next in
-    let h = o.ensures.gave in
-    may_bring (worker_of p) h.0 (view_of o.new.pass) o.result h.2 o.new.pass.is_live 1
+    switched_bring c.try_beside-lease.result (view_of p) (view_of o.new.pass) o.result o.ensures.switched o.new.pass.is_live 1
 
 pub sign_off-requires-clause-ready : goal.sign_off-requires-clause-ready
 sign_off-requires-clause-ready g c =
@@ -31,7 +29,7 @@ sign_off-requires-clause-ready g c =
     let o = c.go_over-next in
     let active : IsActive (view_of p) = subst IsActive (sym c.try_beside-lease.ensures.view) c.lease_and_work-lease.ensures.active in
     released_ready o.result true (view_of o.new.pass) (view_of c.release.new.pass) c.release.ensures.released
-    (gave_active (worker_of p) (view_of p) (view_of o.new.pass) c.try_beside-lease.result (Leased o.result) o.ensures.gave active)
+    (switched_active c.try_beside-lease.result (view_of p) (view_of o.new.pass) o.result o.ensures.switched active)
 
 pub returns-clause-workers : goal.returns-clause-workers
 returns-clause-workers g c =
@@ -42,6 +40,6 @@ returns-clause-workers g c =
     let r = view_of c.release.new.pass in
     let s = view_of c.sign_off.result in
     let first : KeepsWorkers v (view_of t.new.pass) = subst (λ (u : View). KeepsWorkers v u) (sym t.ensures.view) a.ensures.workers in
-    let gave = gave_keeps (worker_of t.new.pass) (view_of t.new.pass) (view_of o.new.pass) t.result (Leased o.result) o.ensures.gave in
+    let over = switched_keeps t.result (view_of t.new.pass) (view_of o.new.pass) o.result o.ensures.switched in
     let home = released_keeps o.result true (view_of o.new.pass) r c.release.ensures.released in
-    keeps_on v (view_of t.new.pass) s first (keeps_on (view_of t.new.pass) (view_of o.new.pass) s gave (keeps_on (view_of o.new.pass) r s home c.sign_off.ensures.workers))
+    keeps_on v (view_of t.new.pass) s first (keeps_on (view_of t.new.pass) (view_of o.new.pass) s over (keeps_on (view_of o.new.pass) r s home c.sign_off.ensures.workers))

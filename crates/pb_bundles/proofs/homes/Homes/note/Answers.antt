@@ -1,6 +1,5 @@
-use Rattle.std.proofs.Common.{ℕ, List, IsSome, sym, subst}
-use Rattle.pb_lists.specs.Bundle.{Content}
-use Rattle.pb_bundles.specs.Parts.{content_in}
+use Rattle.std.proofs.Common.{◌<◌, ℕ, IsSome, length, arith, sym, subst}
+use Rattle.pb_bundles.specs.Parts.{PartList, content_in}
 use Rattle.pb_bundles.specs.Homes.{HomeTable}
 use Rattle.pb_bundles.specs.Moves.{IsVacant}
 use Rattle.pb_bundles.proofs.Kept.{homes_noted}
@@ -12,5 +11,10 @@ invariant_of-self c =
     let parts = c.parts.inside.bundles.entries in
     let vacant : (block : ℕ) → IsSome (content_in parts block) → IsVacant bundles block =
     subst (λ (t : HomeTable). (block : ℕ) → IsSome (content_in parts block) → IsVacant t.bundles block) (sym c.self.view_is)
-    (subst (λ (ps : List (ℕ × Content)). (block : ℕ) → IsSome (content_in ps block) → IsVacant c.args.self.now.bundles block) (sym c.parts.view_is) c.requires) in
+    (subst (λ (ps : PartList). (block : ℕ) → IsSome (content_in ps.parts block) → IsVacant c.args.self.now.bundles block) (sym c.parts.view_is) c.requires) in
     homes_noted parts bundles c.self.inside.keys c.note_keys.new.keys vacant c.note_keys.ensures c.self.invariant
+
+pub note_keys-requires : goal.note_keys-requires
+note_keys-requires c block there =
+    let vacant = subst (λ (t : HomeTable). IsVacant t.bundles block) (sym c.self.view_is) (c.requires block (subst (λ (ps : PartList). IsSome (content_in ps.parts block)) c.parts.view_is there)) in
+    omega (arith, vacant.0, c.self.invariant.same_count)

@@ -8,7 +8,7 @@ use Rattle.pb_lease.specs.Steps.{KeepsLeases, end_events}
 use Rattle.pb_lease.proofs.GraphBasics.{used_up}
 use Rattle.pb_lease.proofs.GraphKept.{event_kept}
 use Rattle.pb_lease.proofs.MomentNumbers.{ended_is_legal, ended_next}
-use Rattle.pb_lease.proofs.Free.{shows_still}
+use Rattle.pb_lease.proofs.Free.{fits_on, shows_still}
 use Rattle.pb_lease.specs.contracts.graph.LeaseGraph.{the_view}
 use Rattle.pb_lease.proofs.graph.LeaseGraph.end_now.Goals as goal
 
@@ -32,6 +32,7 @@ invariant_of-self c =
     record {
       lawful = event_kept t c.self.invariant.lawful c.end_budget.new.self (Ended Budget) c.end_budget.ensures.events (ended_is_legal t Budget none home done) refl;
       shows = shows_still t.table c.end_budget.new.self (Ended Budget ∷ []) c.end_budget.ensures.events t.homes.keys t.homes.keys c.self.inside.free c.self.invariant.shows refl (λ block clear. clear);
+      greatest_is = fits_on t.table c.end_budget.new.self (Ended Budget ∷ []) c.end_budget.ensures.events c.self.inside.greatest c.self.invariant.greatest_is;
     }
 
 pub invariant_of-self-else-is_any_opened : goal.invariant_of-self-else-is_any_opened
@@ -43,6 +44,7 @@ invariant_of-self-else-is_any_opened c =
     record {
       lawful = event_kept t c.self.invariant.lawful c.end_quiet.new.self (Ended Quiet) c.end_quiet.ensures.events (ended_is_legal t Quiet none home done) refl;
       shows = shows_still t.table c.end_quiet.new.self (Ended Quiet ∷ []) c.end_quiet.ensures.events t.homes.keys t.homes.keys c.self.inside.free c.self.invariant.shows refl (λ block clear. clear);
+      greatest_is = fits_on t.table c.end_quiet.new.self (Ended Quiet ∷ []) c.end_quiet.ensures.events c.self.inside.greatest c.self.invariant.greatest_is;
     }
 
 pub returns-then-is_any_opened-clause-done : goal.returns-then-is_any_opened-clause-done

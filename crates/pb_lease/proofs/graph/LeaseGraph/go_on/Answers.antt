@@ -11,7 +11,7 @@ use Rattle.pb_lease.specs.Steps.{GoesOn, renewed_quota}
 use Rattle.pb_lease.proofs.GraphKept.{renewed_kept, still_of_graph}
 use Rattle.pb_lease.proofs.MomentReturns.{renewal_is_legal}
 use Rattle.pb_lease.specs.Tables.{blocks}
-use Rattle.pb_lease.proofs.Free.{before_renewal, shows_still}
+use Rattle.pb_lease.proofs.Free.{before_renewal, fits_on, shows_still}
 use Rattle.pb_lease.specs.contracts.graph.LeaseGraph.{the_view}
 use Rattle.pb_lease.specs.contracts.lease.Lease.{the_view as the_lease}
 use Rattle.pb_lease.proofs.graph.LeaseGraph.go_on.Goals as goal
@@ -37,6 +37,7 @@ invariant_of-self c =
       lawful = kept;
       shows = shows_still t.table c.renew-quota.new.self (Renew lease.worker lease.used (renewed_quota t lease) ∷ []) adds t.homes.keys t.homes.keys c.self.inside.free c.self.invariant.shows refl
           (λ block clear. before_renewal (blocks t.table) t.table.settings (counts_in t) block lease.worker lease.used (renewed_quota t lease) clear);
+      greatest_is = fits_on t.table c.renew-quota.new.self (Renew lease.worker lease.used (renewed_quota t lease) ∷ []) adds c.self.inside.greatest c.self.invariant.greatest_is;
     }
 
 pub returns-clause-of_graph : goal.returns-clause-of_graph
@@ -48,4 +49,4 @@ returns-clause-of_graph c =
     subst (λ (o : Option Grant). Adds t.table c.renew-quota.new.self (Renew lease.worker lease.used (min t.table.settings.lot (t.table.left + (quota_of o - lease.used))) ∷ [])) of.leased c.renew-quota.ensures.events in
     let quota : c.renew-quota.result ≡ renewed_quota t lease = c.renew-quota.ensures.quota ∙ ap (λ (o : Option Grant). min t.table.settings.lot (t.table.left + (quota_of o - lease.used))) of.leased in
     let kept : LeaseValue = record lease { quota = c.renew-quota.result; used = 0; incumbent = c.least-incumbent.result } in
-    still_of_graph t c.self.invariant.lawful lease of (renewed_quota t lease) c.renew-quota.new.self adds kept refl (ap (λ n. record { block = lease.block; quota = n }) quota) refl refl refl refl t.homes c.least-incumbent.result
+    still_of_graph t c.self.invariant.lawful lease of (renewed_quota t lease) c.renew-quota.new.self adds kept refl (ap (λ n. record { block = lease.block; quota = n }) quota) refl refl refl refl refl t.homes c.least-incumbent.result

@@ -6,7 +6,7 @@ use Rattle.pb_lease.specs.contracts.graph.LeaseGraph.{the_view}
 use Rattle.pb_lease.proofs.graph.LeaseGraph.lower_incumbent.Goals as goal
 
 pub invariant_of-self : goal.invariant_of-self
-invariant_of-self c = record { lawful = bounded_kept (the_view c.self.inside) c.self.invariant.lawful c.least-self-inside.result; shows = c.self.invariant.shows }
+invariant_of-self c = record { lawful = bounded_kept (the_view c.self.inside) c.self.invariant.lawful c.least-self-inside.result; shows = c.self.invariant.shows; greatest_is = c.self.invariant.greatest_is }
 
 pub returns-clause-moment : goal.returns-clause-moment
 returns-clause-moment c =

@@ -9,7 +9,7 @@ use Rattle.pb_lease.proofs.GraphKept.{event_kept}
 use Rattle.pb_lease.proofs.Rivals.{hot_is_legal, marked_may, may_be_marked_is}
 use Rattle.pb_lease.proofs.MomentNumbers.{marked_next}
 use Rattle.pb_lease.specs.Free.{ShowsClear, IsBesideHot}
-use Rattle.pb_lease.proofs.Free.{before_mark, shows_more_keys, shows_walked, stays_clear}
+use Rattle.pb_lease.proofs.Free.{before_mark, fits_either, shows_more_keys, shows_walked, stays_clear}
 use Rattle.pb_lease.specs.contracts.graph.LeaseGraph.{the_view}
 use Rattle.pb_lease.proofs.graph.LeaseGraph.mark_hot.Goals as goal
 
@@ -28,7 +28,7 @@ invariant_of-self c =
     (λ e. shows_walked t.table c.mark_hot-marked.new.self (Hot c.args.worker c.args.block ∷ []) (c.mark_hot-marked.ensures.events e) (IsBesideHot t.table c.args.block) t.homes.keys c.self.inside.free walked c.self.invariant.shows c.show_beside_hot.ensures
     (λ block clear. before_mark (blocks t.table) t.table.settings (counts_in t) block c.args.worker c.args.block clear))
     (λ e. subst (λ (table : Table). ShowsClear table t.homes.keys walked) (sym (c.mark_hot-marked.ensures.refused e)) (shows_more_keys t.table (IsBesideHot t.table c.args.block) t.homes.keys c.self.inside.free walked c.self.invariant.shows c.show_beside_hot.ensures)) in
-    record { lawful = kept; shows = stays_clear c.mark_hot-marked.new.self t.homes.keys walked c.prune.new.free shows c.prune.ensures }
+    record { lawful = kept; shows = stays_clear c.mark_hot-marked.new.self t.homes.keys walked c.prune.new.free shows c.prune.ensures; greatest_is = fits_either t.table c.mark_hot-marked.new.self (Hot c.args.worker c.args.block ∷ []) c.mark_hot-marked.result c.mark_hot-marked.ensures.events c.mark_hot-marked.ensures.refused c.self.inside.greatest c.self.invariant.greatest_is }
 
 pub returns-clause-moment : goal.returns-clause-moment
 returns-clause-moment c e =

@@ -6,6 +6,7 @@ use Rattle.pb_task.specs.declared.parts.TaskParts.{TaskParts}
 use Rattle.pb_task.specs.Parts.{space_of, IsTask}
 use Rattle.pb_task.proofs.Callers.{tasks_are_proper}
 use Rattle.pb_abstract.specs.Graph.{AbstractGraph, blocks_of, home_of}
+use Rattle.pb_lease.specs.Leased.{FitsScopes}
 use Rattle.pb_lease.proofs.GraphOpening.{IsOpening, opening_of, opening_rows, opening_kept, opening_moment, opening_begins}
 use Rattle.pb_bundles.specs.Homes.{AreNoted}
 use Rattle.pb_lease.proofs.Free.{shows_all_keys}
@@ -36,6 +37,7 @@ invariant_of-result c =
       lawful = kept;
       shows = shows_all_keys c.in_ok-tables.tables c.offer_start.new.self.keys free c.show_every.new.free
           (ap (λ (ks : List (Option Key)). length ks) c.in_ok-free.ensures ∙ length-replicate c.count-2.result none ∙ c.count-2.ensures.keys ∙ kept.key_places) c.show_every.ensures;
+      greatest_is = subst (λ (g : AbstractGraph). FitsScopes g c.greatest_scope-greatest.result) (c.deref-5.ensures ∙ sym c.in_ok-tables.ensures.abstraction) c.greatest_scope-greatest.ensures;
     }
 
 pub returns-clause-rows : goal.returns-clause-rows

@@ -1,5 +1,6 @@
 use Rattle.std.proofs.Common.{◌∙◌, ap, sym, subst}
 use Rattle.pb_model.specs.Weight.{Weight, IsWeight}
+use Rattle.pb_lease.specs.Leased.{FitsScopes}
 use Rattle.pb_lease.specs.GraphValue.{GraphValue}
 use Rattle.pb_lease.specs.Begins.{IsReopened, BeginsAgain}
 use Rattle.pb_lease.proofs.Beginnings.{begins_again}
@@ -29,7 +30,7 @@ invariant_of-self-2 c =
     let heavy : IsWeight weight = record { positive = c.requires.positive; at_least_one = c.requires.at_least_one; small = c.requires.small } in
     let kept = again_kept t c.self.invariant.lawful quiet weight heavy c.in-Some.bound c.in-Some.is c.reopen.new.self c.in_ok-reopen.ensures.settings c.in_ok-reopen.ensures.past c.in_ok-reopen.ensures.counts c.in_ok-reopen.ensures.journal c.in_ok-reopen.ensures.abstraction
     c.adopt.new.self (c.adopt.ensures.reopened weight c.in-Some.bound c.in_ok-sets.ensures) (c.adopt.ensures.rows weight c.in-Some.bound c.in_ok-sets.ensures) c.adopt.ensures.count c.adopt.ensures.keys c.count-noted.ensures.noted in
-    record { lawful = kept; shows = shows_all_keys c.reopen.new.self c.adopt.new.self.keys c.self.inside.free c.show_every.new.free (c.self.invariant.shows.places ∙ ap (λ (g : AbstractGraph). (blocks_of g).count) (sym c.in_ok-reopen.ensures.abstraction)) c.show_every.ensures }
+    record { lawful = kept; shows = shows_all_keys c.reopen.new.self c.adopt.new.self.keys c.self.inside.free c.show_every.new.free (c.self.invariant.shows.places ∙ ap (λ (g : AbstractGraph). (blocks_of g).count) (sym c.in_ok-reopen.ensures.abstraction)) c.show_every.ensures; greatest_is = subst (λ (g : AbstractGraph). FitsScopes g c.self.inside.greatest) (sym c.in_ok-reopen.ensures.abstraction) c.self.invariant.greatest_is }
 
 pub returns-clause-reopened : goal.returns-clause-reopened
 returns-clause-reopened c =

@@ -1,4 +1,4 @@
-use Rattle.std.proofs.Common.{◌≡◌, ◌<◌, ℕ, arith, sym, ap, ◌∙◌, refl, subst, length}
+use Rattle.std.proofs.Common.{◌≡◌, ◌<◌, ℕ, arith, sym, ap, ◌∙◌, refl, subst, length, ◌∷◌}
 use Rattle.pb_bundles.proofs.Callers.{put_back_length}
 use Rattle.pb_lease.specs.LeaseValue.{LeaseValue}
 use Rattle.pb_lease.specs.GraphValue.{GraphValue, IsOfGraph}
@@ -7,10 +7,12 @@ use Rattle.pb_lease.proofs.GraphKept.{places_vacant, released_kept}
 use Rattle.pb_lease.proofs.MomentReturns.{release_is_legal, released_next}
 use Rattle.pb_machine.specs.Blocks.{interferes}
 use Rattle.pb_abstract.specs.Graph.{AbstractGraph, blocks_of, has}
+use Rattle.pb_machine.specs.declared.event.Event.TheVariants.{Release}
 use Rattle.pb_lease.specs.Tables.{blocks}
+use Rattle.pb_lease.specs.Events.{ending}
 use Rattle.pb_lease.specs.Leased.{grant_of}
 use Rattle.pb_lease.proofs.GraphBasics.{lawful_in}
-use Rattle.pb_lease.proofs.Free.{shows_released}
+use Rattle.pb_lease.proofs.Free.{fits_on, shows_released, stays_clear}
 use Rattle.pb_lease.specs.contracts.graph.LeaseGraph.{the_view}
 use Rattle.pb_lease.specs.contracts.lease.Lease.{the_view as the_lease}
 use Rattle.pb_lease.proofs.graph.LeaseGraph.release.Goals as goal
@@ -56,10 +58,12 @@ invariant_of-self c =
     λ b. c.interference-near.ensures.each b ∙ ap (λ (g : AbstractGraph). interferes (blocks_of g) lease.block b) (c.abstraction.ensures ∙ c.release.ensures.events.abstraction) in
     let kept = released_kept t c.self.invariant.lawful lease of c.args.memory c.release.new.self c.bring_back.new.self c.least-self-inside.result c.release.ensures.events
     (release_is_legal t c.self.invariant.lawful lease of c.lease.invariant.within c.args.memory) (ap length c.bring_back.ensures.back ∙ put_back_length lease.parts t.homes.bundles) c.bring_back.ensures.noted.count c.bring_back.ensures.home in
+    let shows = shows_released t c.self.invariant.lawful lease of c.args.memory c.release.new.self near c.bring_back.new.self.keys c.self.inside.free c.show_beside_hot.new.free c.show_clear.new.free c.show.new.free c.release.ensures.events c.bring_back.ensures.noted each
+    c.self.invariant.shows c.show_beside_hot.ensures c.show_clear.ensures c.show.ensures in
     record {
       lawful = kept;
-      shows = shows_released t c.self.invariant.lawful lease of c.args.memory c.release.new.self near c.bring_back.new.self.keys c.self.inside.free c.show_beside_hot.new.free c.show_clear.new.free c.show.new.free c.release.ensures.events c.bring_back.ensures.noted each
-          c.self.invariant.shows c.show_beside_hot.ensures c.show_clear.ensures c.show.ensures;
+      shows = stays_clear c.release.new.self c.bring_back.new.self.keys c.show.new.free c.prune.new.free shows c.prune.ensures;
+      greatest_is = fits_on t.table c.release.new.self (Release lease.worker lease.used c.args.memory ∷ ending c.args.memory t.table.end) c.release.ensures.events c.self.inside.greatest c.self.invariant.greatest_is;
     }
 
 pub returns-clause-moment : goal.returns-clause-moment

@@ -32,6 +32,7 @@ invariant_of-self c =
     record {
       lawful = noted_kept t k c.note.new.self c.note.ensures.bundles c.note.ensures.noted.count;
       shows = shows_noted t k lease of c.note.new.self.keys c.self.inside.free c.note.ensures.noted c.self.invariant.shows;
+      greatest_is = c.self.invariant.greatest_is;
     }
 
 pub returns-then-may_go_on-clause-kept : goal.returns-then-may_go_on-clause-kept
@@ -118,3 +119,13 @@ returns-else-may_go_on-clause-first c =
     let new = c.release.new.self in
     let released : IsReleased mid lease false new = c.release.ensures.released in
     subst (λ (v : GraphValue). ChoosesByRows v lease new) c.self.view_is (chosen_by_rows t c.self.invariant.lawful lease of few new (is_released t lease homes c.note.ensures.bundles noted new released).noted)
+
+pub go_on-requires-clause-of_graph : goal.go_on-requires-clause-of_graph
+go_on-requires-clause-of_graph c =
+    let of : IsOfGraph (the_view c.self.inside) c.args.lease = subst (λ (v : GraphValue). IsOfGraph v c.args.lease) (sym c.self.view_is) c.requires in
+    record { leased = of.leased; weight = of.weight; choice = of.choice; scope = of.scope; fits = of.fits }
+
+pub release-requires : goal.release-requires
+release-requires c =
+    let of : IsOfGraph (the_view c.self.inside) c.args.lease = subst (λ (v : GraphValue). IsOfGraph v c.args.lease) (sym c.self.view_is) c.requires in
+    record { leased = of.leased; weight = of.weight; choice = of.choice; scope = of.scope; fits = of.fits }

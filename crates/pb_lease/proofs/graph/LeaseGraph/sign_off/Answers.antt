@@ -8,7 +8,7 @@ use Rattle.pb_lease.proofs.NextEvents.{sign_off_may}
 use Rattle.pb_lease.proofs.GraphKept.{sign_off_kept}
 use Rattle.pb_lease.proofs.MomentNumbers.{signed_off_next}
 use Rattle.pb_machine.specs.Counts.{counts_after}
-use Rattle.pb_lease.proofs.Free.{ending_clear, shows_still}
+use Rattle.pb_lease.proofs.Free.{ending_clear, fits_on, shows_still}
 use Rattle.pb_lease.specs.contracts.graph.LeaseGraph.{the_view}
 use Rattle.pb_lease.proofs.graph.LeaseGraph.sign_off.Goals as goal
 
@@ -24,6 +24,7 @@ invariant_of-self c =
       lawful = sign_off_kept t c.self.invariant.lawful c.sign_off.new.self c.args.worker c.args.memory c.sign_off.ensures.events may;
       shows = shows_still t.table c.sign_off.new.self (Off c.args.worker c.args.memory ∷ ending c.args.memory t.table.end) c.sign_off.ensures.events t.homes.keys t.homes.keys c.self.inside.free c.self.invariant.shows refl
           (λ block clear. sym (ending_clear (blocks t.table) t.table.settings (counts_after (blocks t.table) t.table.settings (counts_in t) (Off c.args.worker c.args.memory)) c.args.memory t.table.end block) ∙ clear);
+      greatest_is = fits_on t.table c.sign_off.new.self (Off c.args.worker c.args.memory ∷ ending c.args.memory t.table.end) c.sign_off.ensures.events c.self.inside.greatest c.self.invariant.greatest_is;
     }
 
 pub returns-clause-moment : goal.returns-clause-moment

@@ -1,91 +1,269 @@
-use Rattle.std.proofs.Common.{◌≡◌, ◌<◌, ◌⊎◌, inl, inr, false, None, refl, sym, ap, subst}
-use Rattle.pb_lease.specs.declared.answer.Renewed.TheVariants.{Kept as Renews}
+use Rattle.std.proofs.Common.{◌≡◌, ◌≤◌, false, refl, sym, subst}
+use Rattle.pb_bundles.specs.Moves.{NotesKeys}
 use Rattle.pb_lease.specs.declared.answer.SwitchReply.{SwitchReply}
-use Rattle.pb_lease.specs.declared.answer.SwitchReply.TheVariants.{Kept, Given, Memory}
-use Rattle.pb_lease.specs.Tables.{rooms}
+use Rattle.pb_lease.specs.declared.answer.SwitchReply.TheVariants.{Switched, Kept, Given}
 use Rattle.pb_lease.specs.LeaseValue.{LeaseValue}
-use Rattle.pb_lease.specs.GraphValue.{GraphValue, counts_in, IsOfGraph}
-use Rattle.pb_lease.specs.Choices.{IsChoice}
-use Rattle.pb_lease.specs.Steps.{IsLeased, GoesOn, ChoosesByRows, IsReleased, ReleasesNext}
-use Rattle.pb_lease.proofs.Switches.{worker_known, worker_vacant, worker_stays}
+use Rattle.pb_lease.specs.GraphValue.{GraphValue, IsOfGraph}
+use Rattle.pb_lease.specs.Steps.{GoesOn, GoesOver, ComesBack, ChoosesAnyByRows, IsRenewed, RenewsNext, IsReleased, ReleasesNext, IsSwitched, SwitchesNext}
+use Rattle.pb_lease.proofs.GraphKept.{places_vacant}
+use Rattle.pb_lease.proofs.MomentReturns.{released_next, renewed_next, chosen_any_by_rows}
+use Rattle.pb_lease.proofs.Renewals.{goes_on, is_renewed, is_released}
+use Rattle.pb_lease.proofs.GoingOn.{on_stays, over_stays, over_then, back_then, is_switched}
+use Rattle.pb_lease.proofs.Switched.{switched_next}
+use Rattle.pb_lease.proofs.Free.{noted_kept, shows_noted}
 use Rattle.pb_lease.specs.contracts.graph.LeaseGraph.{the_view}
+use Rattle.pb_lease.specs.contracts.lease.Lease.{the_view as the_lease}
 use Rattle.pb_lease.proofs.graph.LeaseGraph.try_switch.Goals as goal
 
 kept_same : (a b : LeaseValue) → ◌≡◌ {A = SwitchReply} (Kept a) (Kept b) → a ≡ b
 kept_same a b e = cc
 
-pub lease_at_once-requires-clause-worker : goal.lease_at_once-requires-clause-worker
-lease_at_once-requires-clause-worker c =
+switched_same : (a b : LeaseValue) → ◌≡◌ {A = SwitchReply} (Switched a) (Switched b) → a ≡ b
+switched_same a b e = cc
+
+kept_differs : (a : LeaseValue) → ◌≡◌ {A = SwitchReply} (Kept a) Given → ⊥
+kept_differs a e = cc
+
+switched_differs : (a : LeaseValue) → ◌≡◌ {A = SwitchReply} (Switched a) Given → ⊥
+switched_differs a e = cc
+
+pub note-requires : goal.note-requires
+note-requires c block there =
     let t : GraphValue = the_view c.self.inside in
-    let of : IsOfGraph t c.args.lease = subst (λ (v : GraphValue). IsOfGraph v c.args.lease) (sym c.self.view_is) c.requires in
-    let released : IsReleased t c.args.lease false c.renew.new.self = subst (λ (v : GraphValue). IsReleased v c.args.lease false c.renew.new.self) (sym c.self.view_is) (c.in-Given.ensures.given refl).1 in
-    subst (λ (l : LeaseValue). l.worker < c.renew.new.self.table.settings.workers) (sym c.lease.view_is) (worker_known t c.self.invariant.lawful c.args.lease of c.renew.new.self released)
+    let lease : LeaseValue = the_lease c.lease.inside in
+    let of : IsOfGraph t lease = subst (λ (l : LeaseValue). IsOfGraph t l) (sym c.lease.view_is) (subst (λ (v : GraphValue). IsOfGraph v c.args.lease) (sym c.self.view_is) c.requires) in
+    places_vacant t c.self.invariant.lawful lease of block there
 
-pub lease_at_once-requires-clause-vacant : goal.lease_at_once-requires-clause-vacant
-lease_at_once-requires-clause-vacant c =
+pub invariant_of-self : goal.invariant_of-self
+invariant_of-self c =
     let t : GraphValue = the_view c.self.inside in
-    let of : IsOfGraph t c.args.lease = subst (λ (v : GraphValue). IsOfGraph v c.args.lease) (sym c.self.view_is) c.requires in
-    let released : IsReleased t c.args.lease false c.renew.new.self = subst (λ (v : GraphValue). IsReleased v c.args.lease false c.renew.new.self) (sym c.self.view_is) (c.in-Given.ensures.given refl).1 in
-    subst (λ (l : LeaseValue). (counts_in c.renew.new.self).leases l.worker ≡ None) (sym c.lease.view_is) (worker_vacant t c.self.invariant.lawful c.args.lease of c.renew.new.self released)
+    let k = c.self.invariant.lawful in
+    let lease : LeaseValue = the_lease c.lease.inside in
+    let of : IsOfGraph t lease = subst (λ (l : LeaseValue). IsOfGraph t l) (sym c.lease.view_is) (subst (λ (v : GraphValue). IsOfGraph v c.args.lease) (sym c.self.view_is) c.requires) in
+    record {
+      lawful = noted_kept t k c.note.new.self c.note.ensures.bundles c.note.ensures.noted.count;
+      shows = shows_noted t k lease of c.note.new.self.keys c.self.inside.free c.note.ensures.noted c.self.invariant.shows;
+      greatest_is = c.self.invariant.greatest_is;
+    }
 
-pub lease_at_once-requires-clause-stays : goal.lease_at_once-requires-clause-stays
-lease_at_once-requires-clause-stays c =
+-- ---- the lease goes on
+
+pub returns-in-On-clause-kept : goal.returns-in-On-clause-kept
+returns-in-On-clause-kept c kept is =
     let t : GraphValue = the_view c.self.inside in
-    let of : IsOfGraph t c.args.lease = subst (λ (v : GraphValue). IsOfGraph v c.args.lease) (sym c.self.view_is) c.requires in
-    let released : IsReleased t c.args.lease false c.renew.new.self = subst (λ (v : GraphValue). IsReleased v c.args.lease false c.renew.new.self) (sym c.self.view_is) (c.in-Given.ensures.given refl).1 in
-    subst (λ (l : LeaseValue). (counts_in c.renew.new.self).signed_off l.worker ≡ false) (sym c.lease.view_is) (worker_stays t c.self.invariant.lawful c.args.lease of c.renew.new.self released)
+    let lease : LeaseValue = c.args.lease in
+    let of : IsOfGraph t lease = subst (λ (v : GraphValue). IsOfGraph v c.args.lease) (sym c.self.view_is) c.requires in
+    let few = subst (λ (l : LeaseValue). l.used ≤ l.quota) c.lease.view_is c.lease.invariant.within in
+    let homes = c.note.new.self in
+    let noted = subst (λ (l : LeaseValue). NotesKeys l.parts t.homes.keys homes.keys) c.lease.view_is c.note.ensures.noted in
+    let mid : GraphValue = record { task = t.task; choice = t.choice; table = t.table; homes = homes; incumbent = t.incumbent } in
+    let new = c.go_on.new.self in
+    let goes : GoesOn mid lease mid = c.going.ensures.on c.in-On.is in
+    let on : GoesOn t lease new = goes_on t lease homes c.note.ensures.bundles noted c.go_on.result new c.go_on.ensures.rest goes in
+    let renewed : IsRenewed t lease c.go_on.result new =
+    is_renewed t lease homes c.note.ensures.bundles noted c.go_on.result new c.go_on.ensures.rest c.go_on.ensures.quota c.go_on.ensures.of_graph c.go_on.ensures.events c.go_on.ensures.room in
+    subst (λ (l : LeaseValue). GoesOn c.args.self.now lease new × IsRenewed c.args.self.now lease l new) (kept_same c.go_on.result kept is)
+    (subst (λ (v : GraphValue). GoesOn v lease new × IsRenewed v lease c.go_on.result new) c.self.view_is (on, renewed))
 
-pub returns-in-Kept-clause-kept : goal.returns-in-Kept-clause-kept
-returns-in-Kept-clause-kept c kept is = c.in-Kept.ensures.kept kept (ap Renews (kept_same c.in-Kept.kept kept is))
+pub returns-in-On-clause-given : goal.returns-in-On-clause-given
+returns-in-On-clause-given c =
+    let t : GraphValue = the_view c.self.inside in
+    let lease : LeaseValue = c.args.lease in
+    let of : IsOfGraph t lease = subst (λ (v : GraphValue). IsOfGraph v c.args.lease) (sym c.self.view_is) c.requires in
+    let few = subst (λ (l : LeaseValue). l.used ≤ l.quota) c.lease.view_is c.lease.invariant.within in
+    let homes = c.note.new.self in
+    let noted = subst (λ (l : LeaseValue). NotesKeys l.parts t.homes.keys homes.keys) c.lease.view_is c.note.ensures.noted in
+    let mid : GraphValue = record { task = t.task; choice = t.choice; table = t.table; homes = homes; incumbent = t.incumbent } in
+    let new = c.go_on.new.self in
+    let goes : GoesOn mid lease mid = c.going.ensures.on c.in-On.is in
+    let on : GoesOn t lease new = goes_on t lease homes c.note.ensures.bundles noted c.go_on.result new c.go_on.ensures.rest goes in
+    let renewed : IsRenewed t lease c.go_on.result new =
+    is_renewed t lease homes c.note.ensures.bundles noted c.go_on.result new c.go_on.ensures.rest c.go_on.ensures.quota c.go_on.ensures.of_graph c.go_on.ensures.events c.go_on.ensures.room in
+    (λ is. absurd (kept_differs c.go_on.result is), λ back. absurd (on_stays t lease new on (subst (λ (v : GraphValue). ComesBack v lease new) (sym c.self.view_is) back)))
 
-pub returns-in-Kept-clause-kept_moment : goal.returns-in-Kept-clause-kept_moment
-returns-in-Kept-clause-kept_moment c kept is = (c.in-Kept.ensures.first, c.in-Kept.ensures.kept_moment kept (ap Renews (kept_same c.in-Kept.kept kept is)))
+pub returns-in-On-clause-first : goal.returns-in-On-clause-first
+returns-in-On-clause-first c =
+    let t : GraphValue = the_view c.self.inside in
+    let lease : LeaseValue = c.args.lease in
+    let of : IsOfGraph t lease = subst (λ (v : GraphValue). IsOfGraph v c.args.lease) (sym c.self.view_is) c.requires in
+    let few = subst (λ (l : LeaseValue). l.used ≤ l.quota) c.lease.view_is c.lease.invariant.within in
+    let homes = c.note.new.self in
+    let noted = subst (λ (l : LeaseValue). NotesKeys l.parts t.homes.keys homes.keys) c.lease.view_is c.note.ensures.noted in
+    let mid : GraphValue = record { task = t.task; choice = t.choice; table = t.table; homes = homes; incumbent = t.incumbent } in
+    let new = c.go_on.new.self in
+    let goes : GoesOn mid lease mid = c.going.ensures.on c.in-On.is in
+    let on : GoesOn t lease new = goes_on t lease homes c.note.ensures.bundles noted c.go_on.result new c.go_on.ensures.rest goes in
+    let renewed : IsRenewed t lease c.go_on.result new =
+    is_renewed t lease homes c.note.ensures.bundles noted c.go_on.result new c.go_on.ensures.rest c.go_on.ensures.quota c.go_on.ensures.of_graph c.go_on.ensures.events c.go_on.ensures.room in
+    subst (λ (v : GraphValue). ChoosesAnyByRows v lease new) c.self.view_is (chosen_any_by_rows t c.self.invariant.lawful lease of few new renewed.noted)
 
-pub returns-else-has_room-clause-came_back : goal.returns-else-has_room-clause-came_back
-returns-else-has_room-clause-came_back c either = ((c.in-Given.ensures.given refl).0, c.in-Given.ensures.first, c.in-Given.ensures.given_moment refl)
+pub returns-in-On-clause-kept_moment : goal.returns-in-On-clause-kept_moment
+returns-in-On-clause-kept_moment c kept is =
+    let t : GraphValue = the_view c.self.inside in
+    let lease : LeaseValue = c.args.lease in
+    let of : IsOfGraph t lease = subst (λ (v : GraphValue). IsOfGraph v c.args.lease) (sym c.self.view_is) c.requires in
+    let few = subst (λ (l : LeaseValue). l.used ≤ l.quota) c.lease.view_is c.lease.invariant.within in
+    let homes = c.note.new.self in
+    let noted = subst (λ (l : LeaseValue). NotesKeys l.parts t.homes.keys homes.keys) c.lease.view_is c.note.ensures.noted in
+    let mid : GraphValue = record { task = t.task; choice = t.choice; table = t.table; homes = homes; incumbent = t.incumbent } in
+    let new = c.go_on.new.self in
+    let goes : GoesOn mid lease mid = c.going.ensures.on c.in-On.is in
+    let on : GoesOn t lease new = goes_on t lease homes c.note.ensures.bundles noted c.go_on.result new c.go_on.ensures.rest goes in
+    let renewed : IsRenewed t lease c.go_on.result new =
+    is_renewed t lease homes c.note.ensures.bundles noted c.go_on.result new c.go_on.ensures.rest c.go_on.ensures.quota c.go_on.ensures.of_graph c.go_on.ensures.events c.go_on.ensures.room in
+    subst (λ (l : LeaseValue). RenewsNext c.args.self.now lease l new) (kept_same c.go_on.result kept is)
+    (subst (λ (v : GraphValue). RenewsNext v lease c.go_on.result new) c.self.view_is (renewed_next t c.self.invariant.lawful lease of few goes.0.0.0 c.go_on.result new renewed))
 
-pub returns-then-has_room-clause-kept_moment : goal.returns-then-has_room-clause-kept_moment
-returns-then-has_room-clause-kept_moment c kept is = absurd (c.lease_at_once.ensures.kept kept is)
+-- ---- another block
 
-pub returns-then-has_room-clause-switched : goal.returns-then-has_room-clause-switched
-returns-then-has_room-clause-switched c next is =
-    let has : 0 < rooms c.args.self.now.table c.args.lease.worker =
-    subst (λ (l : LeaseValue). 0 < rooms c.args.self.now.table l.worker) c.lease.view_is
-    (subst (λ (v : GraphValue). 0 < rooms v.table c.lease.inside.worker) c.self.view_is (subst (λ n. 0 < n) c.room-has_room.ensures c.if-has_room.true)) in
-    let given = c.in-Given.ensures.given refl in
-    let leased = c.lease_at_once.ensures.switched next is in (
-      has,
-      record {
-        between = c.renew.new.self;
-        stays_not = given.0;
-        first = c.in-Given.ensures.first;
-        released = given.1;
-        released_moment = c.in-Given.ensures.given_moment refl;
-        leased = subst (λ (l : LeaseValue). IsLeased c.renew.new.self l.worker next c.lease_at_once.new.self) c.lease.view_is leased.0;
-        leased_moment = leased.1;
-      },
-    )
+pub returns-in-Over-clause-switched : goal.returns-in-Over-clause-switched
+returns-in-Over-clause-switched c next is =
+    let t : GraphValue = the_view c.self.inside in
+    let lease : LeaseValue = c.args.lease in
+    let of : IsOfGraph t lease = subst (λ (v : GraphValue). IsOfGraph v c.args.lease) (sym c.self.view_is) c.requires in
+    let few = subst (λ (l : LeaseValue). l.used ≤ l.quota) c.lease.view_is c.lease.invariant.within in
+    let homes = c.note.new.self in
+    let noted = subst (λ (l : LeaseValue). NotesKeys l.parts t.homes.keys homes.keys) c.lease.view_is c.note.ensures.noted in
+    let mid : GraphValue = record { task = t.task; choice = t.choice; table = t.table; homes = homes; incumbent = t.incumbent } in
+    let new = c.go_over.new.self in
+    let goes : GoesOver mid lease mid c.in-Over.block = c.going.ensures.over c.in-Over.block c.in-Over.is in
+    let switched_mid : IsSwitched mid lease c.go_over.result new = c.go_over.ensures.switched in
+    let over : GoesOver t lease new c.in-Over.block = over_then t lease homes c.note.ensures.bundles noted new switched_mid.noted c.in-Over.block goes in
+    let switched : IsSwitched t lease c.go_over.result new = is_switched t lease homes c.note.ensures.bundles noted new switched_mid.noted c.go_over.result switched_mid in
+    subst (λ (l : LeaseValue). GoesOver c.args.self.now lease new l.block × IsSwitched c.args.self.now lease l new) (switched_same c.go_over.result next is)
+    (subst (λ (v : GraphValue). GoesOver v lease new c.go_over.result.block × IsSwitched v lease c.go_over.result new) c.self.view_is
+    (subst (GoesOver t lease new) (sym c.go_over.ensures.block) over, switched))
 
-pub returns-then-has_room-clause-given : goal.returns-then-has_room-clause-given
-returns-then-has_room-clause-given c is =
-    let none = c.lease_at_once.ensures.given is in
-    subst (λ (v : GraphValue). ((rooms c.args.self.now.table c.args.lease.worker ≡ 0) ⊎ IsChoice v None) × IsReleased c.args.self.now c.args.lease false v) (sym none.1)
-    (inr none.0, (c.in-Given.ensures.given refl).1)
+pub returns-in-Over-clause-given : goal.returns-in-Over-clause-given
+returns-in-Over-clause-given c =
+    let t : GraphValue = the_view c.self.inside in
+    let lease : LeaseValue = c.args.lease in
+    let of : IsOfGraph t lease = subst (λ (v : GraphValue). IsOfGraph v c.args.lease) (sym c.self.view_is) c.requires in
+    let few = subst (λ (l : LeaseValue). l.used ≤ l.quota) c.lease.view_is c.lease.invariant.within in
+    let homes = c.note.new.self in
+    let noted = subst (λ (l : LeaseValue). NotesKeys l.parts t.homes.keys homes.keys) c.lease.view_is c.note.ensures.noted in
+    let mid : GraphValue = record { task = t.task; choice = t.choice; table = t.table; homes = homes; incumbent = t.incumbent } in
+    let new = c.go_over.new.self in
+    let goes : GoesOver mid lease mid c.in-Over.block = c.going.ensures.over c.in-Over.block c.in-Over.is in
+    let switched_mid : IsSwitched mid lease c.go_over.result new = c.go_over.ensures.switched in
+    let over : GoesOver t lease new c.in-Over.block = over_then t lease homes c.note.ensures.bundles noted new switched_mid.noted c.in-Over.block goes in
+    let switched : IsSwitched t lease c.go_over.result new = is_switched t lease homes c.note.ensures.bundles noted new switched_mid.noted c.go_over.result switched_mid in
+    (λ is. absurd (switched_differs c.go_over.result is), λ back. absurd (over_stays t lease new c.in-Over.block over (subst (λ (v : GraphValue). ComesBack v lease new) (sym c.self.view_is) back)))
 
-pub returns-then-has_room-clause-memory : goal.returns-then-has_room-clause-memory
-returns-then-has_room-clause-memory c is =
-    let has : 0 < rooms c.args.self.now.table c.args.lease.worker =
-    subst (λ (l : LeaseValue). 0 < rooms c.args.self.now.table l.worker) c.lease.view_is
-    (subst (λ (v : GraphValue). 0 < rooms v.table c.lease.inside.worker) c.self.view_is (subst (λ n. 0 < n) c.room-has_room.ensures c.if-has_room.true)) in
-    let none = c.lease_at_once.ensures.memory is in
-    subst (λ (v : GraphValue). (0 < rooms c.args.self.now.table c.args.lease.worker) × (IsChoice v None → ⊥) × IsReleased c.args.self.now c.args.lease false v) (sym none.1)
-    (has, none.0, (c.in-Given.ensures.given refl).1)
+pub returns-in-Over-clause-first : goal.returns-in-Over-clause-first
+returns-in-Over-clause-first c =
+    let t : GraphValue = the_view c.self.inside in
+    let lease : LeaseValue = c.args.lease in
+    let of : IsOfGraph t lease = subst (λ (v : GraphValue). IsOfGraph v c.args.lease) (sym c.self.view_is) c.requires in
+    let few = subst (λ (l : LeaseValue). l.used ≤ l.quota) c.lease.view_is c.lease.invariant.within in
+    let homes = c.note.new.self in
+    let noted = subst (λ (l : LeaseValue). NotesKeys l.parts t.homes.keys homes.keys) c.lease.view_is c.note.ensures.noted in
+    let mid : GraphValue = record { task = t.task; choice = t.choice; table = t.table; homes = homes; incumbent = t.incumbent } in
+    let new = c.go_over.new.self in
+    let goes : GoesOver mid lease mid c.in-Over.block = c.going.ensures.over c.in-Over.block c.in-Over.is in
+    let switched_mid : IsSwitched mid lease c.go_over.result new = c.go_over.ensures.switched in
+    let over : GoesOver t lease new c.in-Over.block = over_then t lease homes c.note.ensures.bundles noted new switched_mid.noted c.in-Over.block goes in
+    let switched : IsSwitched t lease c.go_over.result new = is_switched t lease homes c.note.ensures.bundles noted new switched_mid.noted c.go_over.result switched_mid in
+    subst (λ (v : GraphValue). ChoosesAnyByRows v lease new) c.self.view_is (chosen_any_by_rows t c.self.invariant.lawful lease of few new switched.noted)
 
-pub returns-then-has_room-clause-came_back : goal.returns-then-has_room-clause-came_back
-returns-then-has_room-clause-came_back c either =
-    subst (λ (v : GraphValue). (GoesOn c.args.self.now c.args.lease v → ⊥) × ChoosesByRows c.args.self.now c.args.lease v × ReleasesNext c.args.self.now c.args.lease false v) (sym (same either))
-    ((c.in-Given.ensures.given refl).0, c.in-Given.ensures.first, c.in-Given.ensures.given_moment refl)
-  where
-    same : (c.lease_at_once.result ≡ Given) ⊎ (c.lease_at_once.result ≡ Memory) → c.lease_at_once.new.self ≡ c.renew.new.self
-    same (inl is) = (c.lease_at_once.ensures.given is).1
-    same (inr is) = (c.lease_at_once.ensures.memory is).1
+pub returns-in-Over-clause-switched_moment : goal.returns-in-Over-clause-switched_moment
+returns-in-Over-clause-switched_moment c next is =
+    let t : GraphValue = the_view c.self.inside in
+    let lease : LeaseValue = c.args.lease in
+    let of : IsOfGraph t lease = subst (λ (v : GraphValue). IsOfGraph v c.args.lease) (sym c.self.view_is) c.requires in
+    let few = subst (λ (l : LeaseValue). l.used ≤ l.quota) c.lease.view_is c.lease.invariant.within in
+    let homes = c.note.new.self in
+    let noted = subst (λ (l : LeaseValue). NotesKeys l.parts t.homes.keys homes.keys) c.lease.view_is c.note.ensures.noted in
+    let mid : GraphValue = record { task = t.task; choice = t.choice; table = t.table; homes = homes; incumbent = t.incumbent } in
+    let new = c.go_over.new.self in
+    let goes : GoesOver mid lease mid c.in-Over.block = c.going.ensures.over c.in-Over.block c.in-Over.is in
+    let switched_mid : IsSwitched mid lease c.go_over.result new = c.go_over.ensures.switched in
+    let over : GoesOver t lease new c.in-Over.block = over_then t lease homes c.note.ensures.bundles noted new switched_mid.noted c.in-Over.block goes in
+    let switched : IsSwitched t lease c.go_over.result new = is_switched t lease homes c.note.ensures.bundles noted new switched_mid.noted c.go_over.result switched_mid in
+    subst (λ (l : LeaseValue). SwitchesNext c.args.self.now lease l new) (switched_same c.go_over.result next is)
+    (subst (λ (v : GraphValue). SwitchesNext v lease c.go_over.result new) c.self.view_is
+    (switched_next t c.self.invariant.lawful lease of few c.go_over.result new switched (subst (GoesOver t lease new) (sym c.go_over.ensures.block) over)))
+
+-- ---- the lease comes back
+
+pub returns-in-Back-clause-given : goal.returns-in-Back-clause-given
+returns-in-Back-clause-given c =
+    let t : GraphValue = the_view c.self.inside in
+    let lease : LeaseValue = c.args.lease in
+    let of : IsOfGraph t lease = subst (λ (v : GraphValue). IsOfGraph v c.args.lease) (sym c.self.view_is) c.requires in
+    let few = subst (λ (l : LeaseValue). l.used ≤ l.quota) c.lease.view_is c.lease.invariant.within in
+    let homes = c.note.new.self in
+    let noted = subst (λ (l : LeaseValue). NotesKeys l.parts t.homes.keys homes.keys) c.lease.view_is c.note.ensures.noted in
+    let mid : GraphValue = record { task = t.task; choice = t.choice; table = t.table; homes = homes; incumbent = t.incumbent } in
+    let new = c.release.new.self in
+    let goes : ComesBack mid lease mid = c.going.ensures.back c.in-Back.is in
+    let released_mid : IsReleased mid lease false new = c.release.ensures.released in
+    let back : ComesBack t lease new = back_then t lease homes c.note.ensures.bundles noted new released_mid.noted goes in
+    let released : IsReleased t lease false new = is_released t lease homes c.note.ensures.bundles noted new released_mid in
+    (λ is. subst (λ (v : GraphValue). ComesBack v lease new) c.self.view_is back, λ back. refl)
+
+pub returns-in-Back-clause-came_back : goal.returns-in-Back-clause-came_back
+returns-in-Back-clause-came_back c is =
+    let t : GraphValue = the_view c.self.inside in
+    let lease : LeaseValue = c.args.lease in
+    let of : IsOfGraph t lease = subst (λ (v : GraphValue). IsOfGraph v c.args.lease) (sym c.self.view_is) c.requires in
+    let few = subst (λ (l : LeaseValue). l.used ≤ l.quota) c.lease.view_is c.lease.invariant.within in
+    let homes = c.note.new.self in
+    let noted = subst (λ (l : LeaseValue). NotesKeys l.parts t.homes.keys homes.keys) c.lease.view_is c.note.ensures.noted in
+    let mid : GraphValue = record { task = t.task; choice = t.choice; table = t.table; homes = homes; incumbent = t.incumbent } in
+    let new = c.release.new.self in
+    let goes : ComesBack mid lease mid = c.going.ensures.back c.in-Back.is in
+    let released_mid : IsReleased mid lease false new = c.release.ensures.released in
+    let back : ComesBack t lease new = back_then t lease homes c.note.ensures.bundles noted new released_mid.noted goes in
+    let released : IsReleased t lease false new = is_released t lease homes c.note.ensures.bundles noted new released_mid in
+    subst (λ (v : GraphValue). IsReleased v lease false new) c.self.view_is released
+
+pub returns-in-Back-clause-first : goal.returns-in-Back-clause-first
+returns-in-Back-clause-first c =
+    let t : GraphValue = the_view c.self.inside in
+    let lease : LeaseValue = c.args.lease in
+    let of : IsOfGraph t lease = subst (λ (v : GraphValue). IsOfGraph v c.args.lease) (sym c.self.view_is) c.requires in
+    let few = subst (λ (l : LeaseValue). l.used ≤ l.quota) c.lease.view_is c.lease.invariant.within in
+    let homes = c.note.new.self in
+    let noted = subst (λ (l : LeaseValue). NotesKeys l.parts t.homes.keys homes.keys) c.lease.view_is c.note.ensures.noted in
+    let mid : GraphValue = record { task = t.task; choice = t.choice; table = t.table; homes = homes; incumbent = t.incumbent } in
+    let new = c.release.new.self in
+    let goes : ComesBack mid lease mid = c.going.ensures.back c.in-Back.is in
+    let released_mid : IsReleased mid lease false new = c.release.ensures.released in
+    let back : ComesBack t lease new = back_then t lease homes c.note.ensures.bundles noted new released_mid.noted goes in
+    let released : IsReleased t lease false new = is_released t lease homes c.note.ensures.bundles noted new released_mid in
+    subst (λ (v : GraphValue). ChoosesAnyByRows v lease new) c.self.view_is (chosen_any_by_rows t c.self.invariant.lawful lease of few new released.noted)
+
+pub returns-in-Back-clause-given_moment : goal.returns-in-Back-clause-given_moment
+returns-in-Back-clause-given_moment c is =
+    let t : GraphValue = the_view c.self.inside in
+    let lease : LeaseValue = c.args.lease in
+    let of : IsOfGraph t lease = subst (λ (v : GraphValue). IsOfGraph v c.args.lease) (sym c.self.view_is) c.requires in
+    let few = subst (λ (l : LeaseValue). l.used ≤ l.quota) c.lease.view_is c.lease.invariant.within in
+    let homes = c.note.new.self in
+    let noted = subst (λ (l : LeaseValue). NotesKeys l.parts t.homes.keys homes.keys) c.lease.view_is c.note.ensures.noted in
+    let mid : GraphValue = record { task = t.task; choice = t.choice; table = t.table; homes = homes; incumbent = t.incumbent } in
+    let new = c.release.new.self in
+    let goes : ComesBack mid lease mid = c.going.ensures.back c.in-Back.is in
+    let released_mid : IsReleased mid lease false new = c.release.ensures.released in
+    let back : ComesBack t lease new = back_then t lease homes c.note.ensures.bundles noted new released_mid.noted goes in
+    let released : IsReleased t lease false new = is_released t lease homes c.note.ensures.bundles noted new released_mid in
+    subst (λ (v : GraphValue). ReleasesNext v lease false new) c.self.view_is (released_next t c.self.invariant.lawful lease of few false new released)
+
+pub go_on-requires-clause-of_graph : goal.go_on-requires-clause-of_graph
+go_on-requires-clause-of_graph c =
+    let of : IsOfGraph (the_view c.self.inside) c.args.lease = subst (λ (v : GraphValue). IsOfGraph v c.args.lease) (sym c.self.view_is) c.requires in
+    record { leased = of.leased; weight = of.weight; choice = of.choice; scope = of.scope; fits = of.fits }
+
+pub go_over-requires-clause-of_graph : goal.go_over-requires-clause-of_graph
+go_over-requires-clause-of_graph c =
+    let of : IsOfGraph (the_view c.self.inside) c.args.lease = subst (λ (v : GraphValue). IsOfGraph v c.args.lease) (sym c.self.view_is) c.requires in
+    record { leased = of.leased; weight = of.weight; choice = of.choice; scope = of.scope; fits = of.fits }
+
+pub release-requires : goal.release-requires
+release-requires c =
+    let of : IsOfGraph (the_view c.self.inside) c.args.lease = subst (λ (v : GraphValue). IsOfGraph v c.args.lease) (sym c.self.view_is) c.requires in
+    record { leased = of.leased; weight = of.weight; choice = of.choice; scope = of.scope; fits = of.fits }
+
+pub go_over-requires-clause-over : goal.go_over-requires-clause-over
+go_over-requires-clause-over c = c.going.ensures.over c.in-Over.block c.in-Over.is

@@ -28,8 +28,8 @@ invariant_of-self-2 c =
     let free = subst (λ (v : Table). can_be_leased (blocks v) v.settings (counts_of v) c.args.block ≡ true) (sym c.self.view_is) c.requires.free in
     let journal = c.push_reserved.ensures.items ∙ ap (λ (j : List Event). j ++ Lease worker c.args.block c.min-quota.result ∷ []) c.in_ok-reserve.ensures.items in
     let abstraction = ap blocks_of c.deref.ensures in
-    lease_kept t c.self.inside.busy.items c.self.inside.marks.near.items c.self.inside.promised _ c.self.invariant worker c.args.block c.min-quota.result c.min-quota.ensures c.push_reserved.new.self.items c.raise.new.counters.items there
-    _ inside vacant stays known free journal c.raise.ensures.length
+    lease_kept t c.self.inside.busy.items c.self.inside.marks.near.items c.self.inside.promised _ c.self.invariant worker c.args.block c.min-quota.result c.min-quota.ensures c.push_reserved.new.self.items c.raise.new.counters.items there 63
+    _ (omega arith) inside vacant stays known free journal c.raise.ensures.length
     (λ other. c.raise.ensures.each other ∙ ap (λ r. get_or c.self.inside.busy.items other 0 + one_if r) (c.interference.ensures.each other ∙ ap (λ (of : Blocks). interferes of c.args.block other) abstraction)) (omega (arith, c.in_ok-reserve.ensures.ok))
 
 pub returns-clause-events : goal.returns-clause-events
@@ -40,7 +40,7 @@ returns-clause-events c =
     let there : worker < length t.seats = omega (arith, inside, c.self.invariant.seats) in
     let stays = subst (λ (v : Table). (counts_of v).signed_off worker ≡ false) (sym c.self.view_is) c.requires.stays in
     let journal = c.push_reserved.ensures.items ∙ ap (λ (j : List Event). j ++ Lease worker c.args.block c.min-quota.result ∷ []) c.in_ok-reserve.ensures.items in
-    let adds = lease_adds t c.self.inside.busy.items c.self.inside.marks.near.items c.self.inside.promised _ c.self.invariant worker c.args.block c.min-quota.result c.min-quota.ensures c.push_reserved.new.self.items c.raise.new.counters.items there stays journal in
+    let adds = lease_adds t c.self.inside.busy.items c.self.inside.marks.near.items c.self.inside.promised _ c.self.invariant worker c.args.block c.min-quota.result c.min-quota.ensures c.push_reserved.new.self.items c.raise.new.counters.items there 63 stays journal in
     adds_as t c.args.self.now _ (λ v. Lease worker c.args.block (min v.settings.lot v.left) ∷ []) c.self.view_is adds
 
 pub returns-clause-room : goal.returns-clause-room
@@ -49,5 +49,5 @@ returns-clause-room c =
     let worker : ℕ = c.args.worker in
     let inside : worker < t.settings.workers = subst (λ (v : Table). worker < v.settings.workers) (sym c.self.view_is) c.requires.worker in
     let there : worker < length t.seats = omega (arith, inside, c.self.invariant.seats) in
-    let room = lease_room t c.self.inside.busy.items c.self.inside.marks.near.items c.self.inside.promised _ c.self.invariant worker c.args.block c.min-quota.result c.min-quota.ensures c.push_reserved.new.self.items c.raise.new.counters.items there in
+    let room = lease_room t c.self.inside.busy.items c.self.inside.marks.near.items c.self.inside.promised _ c.self.invariant worker c.args.block c.min-quota.result c.min-quota.ensures c.push_reserved.new.self.items c.raise.new.counters.items there 63 in
     room ∙ ap (λ (v : Table). with_entry (rooms v) worker 63) c.self.view_is

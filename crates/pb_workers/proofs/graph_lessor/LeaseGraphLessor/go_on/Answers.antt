@@ -23,7 +23,7 @@ returns-clause-left c =
 pub returns-clause-home : goal.returns-clause-home
 returns-clause-home c = λ begin given t.
     if_given c.renew.result (IsBack begin given c.renew.new.self) (λ is.
-    back begin given c.args.self.now c.args.lease c.abstraction.ensures.lawful c.renew.new.self false t (inr (c.requires.spent, c.abstraction.ensures.lawful.key_places, c.abstraction.ensures.room, (c.renew.ensures.given is).0)) (c.renew.ensures.given is).1 (c.renew.ensures.given_moment is))
+    back begin given c.args.self.now c.args.lease c.abstraction.ensures.lawful c.renew.new.self false t (inr (c.requires.spent, c.abstraction.ensures.lawful.key_places, (c.renew.ensures.given is).0)) (c.renew.ensures.given is).1 (c.renew.ensures.given_moment is))
 
 pub returns-clause-searched : goal.returns-clause-searched
 returns-clause-searched c = renewal_searched c.args.self.now c.args.lease c.renew.new.self c.renew.result c.renew.ensures.kept c.renew.ensures.given

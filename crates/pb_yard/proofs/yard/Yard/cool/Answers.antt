@@ -40,7 +40,7 @@ leave-requires-clause-rule g c =
     let found_is : c.state_mut.result.now ≡ x = c.state_mut.ensures.value ∙ e.won.1 in
     let r : CoolsAs v.journal.own.worker b q x y = subst (λ w. CoolsAs w b q x y) (sym p.worker_is) (subst (λ (z : GraphValue). CoolsAs p.worker b q z y) found_is
     (marks_as c.state_mut.result.now y (MayCool c.state_mut.result.now p.worker b) p.worker (Cold p.worker b) q f.answer f.cooled f.refused f.moment)) in
-    look_keeps x y v p.is_live (λ _. mark_events (Cold v.journal.own.worker b) q) (may_mark x y v p.is_live (MayCool x v.journal.own.worker b) (Cold v.journal.own.worker b) q tt (first_by v.journal.own.worker (Cold v.journal.own.worker b) [] (λ _. refl) (λ _ _. refl)) r) _ e.same.1 (number c.enter-held.new.pass)
+    look_keeps x y v p.is_live (λ _. mark_events (Cold v.journal.own.worker b) q) (may_mark x y v p.is_live (MayCool x v.journal.own.worker b) (Cold v.journal.own.worker b) q tt (λ _. refl) (first_by v.journal.own.worker (Cold v.journal.own.worker b) [] (λ _. refl) (λ _ _. refl)) r) _ e.same.1 (number c.enter-held.new.pass)
 
 pub returns-clause-cooled : goal.returns-clause-cooled
 returns-clause-cooled g c =
@@ -56,7 +56,7 @@ returns-clause-cooled g c =
     let r : CoolsAs v.journal.own.worker b q x y = subst (λ w. CoolsAs w b q x y) (sym p.worker_is) (subst (λ (z : GraphValue). CoolsAs p.worker b q z y) found_is
     (marks_as c.state_mut.result.now y (MayCool c.state_mut.result.now p.worker b) p.worker (Cold p.worker b) q f.answer f.cooled f.refused f.moment)) in
     subst (λ w. Cools w b v q (view c.leave.new.pass)) p.worker_is
-    (look_holds x y v p.is_live (λ _. mark_events (Cold v.journal.own.worker b) q) (may_mark x y v p.is_live (MayCool x v.journal.own.worker b) (Cold v.journal.own.worker b) q tt (first_by v.journal.own.worker (Cold v.journal.own.worker b) [] (λ _. refl) (λ _ _. refl)) r) _ e.same.1 (view c.leave.new.pass) c.leave.ensures.view (number p.turn) e.rule (CoolsAs v.journal.own.worker b q) r)
+    (look_holds x y v p.is_live (λ _. mark_events (Cold v.journal.own.worker b) q) (may_mark x y v p.is_live (MayCool x v.journal.own.worker b) (Cold v.journal.own.worker b) q tt (λ _. refl) (first_by v.journal.own.worker (Cold v.journal.own.worker b) [] (λ _. refl) (λ _ _. refl)) r) _ e.same.1 (view c.leave.new.pass) c.leave.ensures.view (number p.turn) e.rule (CoolsAs v.journal.own.worker b q) r)
 
 pub invariant_of-pass-clause-seen_is : goal.invariant_of-pass-clause-seen_is
 invariant_of-pass-clause-seen_is g c =
@@ -71,5 +71,5 @@ invariant_of-pass-clause-seen_is g c =
     let found_is : c.state_mut.result.now ≡ x = c.state_mut.ensures.value ∙ e.won.1 in
     let r : CoolsAs v.journal.own.worker b q x y = subst (λ w. CoolsAs w b q x y) (sym p.worker_is) (subst (λ (z : GraphValue). CoolsAs p.worker b q z y) found_is
     (marks_as c.state_mut.result.now y (MayCool c.state_mut.result.now p.worker b) p.worker (Cold p.worker b) q f.answer f.cooled f.refused f.moment)) in
-    look_seen x y v p.is_live (λ _. mark_events (Cold v.journal.own.worker b) q) (may_mark x y v p.is_live (MayCool x v.journal.own.worker b) (Cold v.journal.own.worker b) q tt (first_by v.journal.own.worker (Cold v.journal.own.worker b) [] (λ _. refl) (λ _ _. refl)) r) _ e.same.1 (view c.leave.new.pass) c.leave.ensures.view (number p.turn) e.rule
+    look_seen x y v p.is_live (λ _. mark_events (Cold v.journal.own.worker b) q) (may_mark x y v p.is_live (MayCool x v.journal.own.worker b) (Cold v.journal.own.worker b) q tt (λ _. refl) (first_by v.journal.own.worker (Cold v.journal.own.worker b) [] (λ _. refl) (λ _ _. refl)) r) _ e.same.1 (view c.leave.new.pass) c.leave.ensures.view (number p.turn) e.rule
     ∙ ap length (ap (λ (z : GraphValue). z.table.journal) (sym c.state.ensures) ∙ sym c.journal.ensures.events)

@@ -5,6 +5,7 @@ use Rattle.pb_lease.specs.declared.answer.LeaseReply.{LeaseReply}
 use Rattle.pb_lease.specs.GraphValue.{GraphValue, counts_in}
 use Rattle.pb_yard.specs.declared.view.View.{View}
 use Rattle.pb_yard.specs.Views.{cost_of, bounded, view_read, view_left}
+use Rattle.pb_lease.specs.Moments.{moves_of}
 use Rattle.pb_yard.specs.Replies.{LeasesAs, lease_events, lent_by, told_by}
 use Rattle.pb_yard.specs.Calls.{Leases}
 use Rattle.pb_yard.proofs.Asks.{worker_known, vacant, active}
@@ -61,7 +62,7 @@ leave-requires-clause-rule g c =
     let found_is : c.state_mut.result.now ≡ x = c.state_mut.ensures.value ∙ e.graph in
     let r : LeasesAs v.journal.own.worker q x y = subst (λ w. LeasesAs w q x y) (sym p.worker_is) (subst (λ (z : GraphValue). LeasesAs p.worker q z y) found_is
     (leases_as c.state_mut.result.now y p.worker q s.leased s.not_yet s.over s.ended s.same s.leased_moment s.ended_moment s.not_yet_moment)) in
-    read_keeps f y v o p.is_live (lease_events v.journal.own.worker q) (λ u. lent_by q u.lent) (λ u. told_by q u.told) (may_lease x y w p.is_live is_last read_at q r) _ e.view (number c.enter_reading-held.new.turn)
+    read_keeps f y v o p.is_live (lease_events v.journal.own.worker q) (λ u. moves_of (lease_events v.journal.own.worker q u)) (λ u. lent_by q u.lent) (λ u. told_by q u.told) (may_lease x y w p.is_live is_last read_at q r) _ e.view (number c.enter_reading-held.new.turn)
 
 pub returns-clause-leased : goal.returns-clause-leased
 returns-clause-leased g c =
@@ -81,7 +82,7 @@ returns-clause-leased g c =
     let r : LeasesAs v.journal.own.worker q x y = subst (λ w. LeasesAs w q x y) (sym p.worker_is) (subst (λ (z : GraphValue). LeasesAs p.worker q z y) found_is
     (leases_as c.state_mut.result.now y p.worker q s.leased s.not_yet s.over s.ended s.same s.leased_moment s.ended_moment s.not_yet_moment)) in
     subst (λ w. Leases w v q (view c.leave.new.pass)) p.worker_is
-    (read_holds f y v o p.is_live (lease_events v.journal.own.worker q) (λ u. lent_by q u.lent) (λ u. told_by q u.told) (may_lease x y w p.is_live is_last read_at q r) _ e.view (view c.leave.new.pass) c.leave.ensures.view (number p.turn) e.rule e.falls.0 (LeasesAs v.journal.own.worker q) r)
+    (read_holds f y v o p.is_live (lease_events v.journal.own.worker q) (λ u. moves_of (lease_events v.journal.own.worker q u)) (λ u. lent_by q u.lent) (λ u. told_by q u.told) (may_lease x y w p.is_live is_last read_at q r) _ e.view (view c.leave.new.pass) c.leave.ensures.view (number p.turn) e.rule e.falls.0 (LeasesAs v.journal.own.worker q) r)
 
 pub returns-clause-copy : goal.returns-clause-copy
 returns-clause-copy g c =
@@ -120,5 +121,5 @@ invariant_of-pass-clause-seen_is g c =
     let found_is : c.state_mut.result.now ≡ x = c.state_mut.ensures.value ∙ e.graph in
     let r : LeasesAs v.journal.own.worker q x y = subst (λ w. LeasesAs w q x y) (sym p.worker_is) (subst (λ (z : GraphValue). LeasesAs p.worker q z y) found_is
     (leases_as c.state_mut.result.now y p.worker q s.leased s.not_yet s.over s.ended s.same s.leased_moment s.ended_moment s.not_yet_moment)) in
-    read_seen f y v o p.is_live (lease_events v.journal.own.worker q) (λ u. lent_by q u.lent) (λ u. told_by q u.told) (may_lease x y w p.is_live is_last read_at q r) _ e.view (view c.leave.new.pass) c.leave.ensures.view (number p.turn) e.rule
+    read_seen f y v o p.is_live (lease_events v.journal.own.worker q) (λ u. moves_of (lease_events v.journal.own.worker q u)) (λ u. lent_by q u.lent) (λ u. told_by q u.told) (may_lease x y w p.is_live is_last read_at q r) _ e.view (view c.leave.new.pass) c.leave.ensures.view (number p.turn) e.rule
     ∙ ap length (ap (λ (z : GraphValue). z.table.journal) (sym c.state.ensures) ∙ sym c.journal.ensures.events)

@@ -3,6 +3,7 @@ use Rattle.pb_turn.specs.Passes.{view, number, found}
 use Rattle.pb_machine.specs.Tables.{one_if}
 use Rattle.pb_lease.specs.GraphValue.{GraphValue, IsOfGraph}
 use Rattle.pb_yard.specs.Views.{cost_of, bounded, view_read}
+use Rattle.pb_lease.specs.Moments.{moves_of}
 use Rattle.pb_yard.specs.Replies.{ReleasesAs, release_events}
 use Rattle.pb_yard.proofs.Steps.{brought_of_graph}
 use Rattle.pb_yard.proofs.Reading.{entered, brought_on, bounded_is, read_keeps, read_holds, read_seen}
@@ -36,7 +37,7 @@ leave-requires-clause-rule g c =
     let is_last : x.incumbent ≡ w.last = bounded_is f o e.falls.1 in
     let found_is : c.state_mut.result.now ≡ x = c.state_mut.ensures.value ∙ e.graph in
     let r : ReleasesAs l t x y = subst (λ (z : GraphValue). ReleasesAs l t z y) found_is (s.released, s.moment) in
-    read_keeps f y v o p.is_live (release_events l t) (λ _. None) (λ _. None) (may_release x y w p.is_live is_last l t c.requires.cause (brought_on v (Some f) o _ l e.falls.0 c.requires.brought) r) _ e.view (number c.enter_reading-held.new.turn)
+    read_keeps f y v o p.is_live (release_events l t) (λ u. moves_of (release_events l t u)) (λ _. None) (λ _. None) (may_release x y w p.is_live is_last l t c.requires.cause (brought_on v (Some f) o _ l e.falls.0 c.requires.brought) r) _ e.view (number c.enter_reading-held.new.turn)
 
 pub returns-clause-released : goal.returns-clause-released
 returns-clause-released g c =
@@ -54,7 +55,7 @@ returns-clause-released g c =
     let is_last : x.incumbent ≡ w.last = bounded_is f o e.falls.1 in
     let found_is : c.state_mut.result.now ≡ x = c.state_mut.ensures.value ∙ e.graph in
     let r : ReleasesAs l t x y = subst (λ (z : GraphValue). ReleasesAs l t z y) found_is (s.released, s.moment) in
-    read_holds f y v o p.is_live (release_events l t) (λ _. None) (λ _. None) (may_release x y w p.is_live is_last l t c.requires.cause (brought_on v (Some f) o _ l e.falls.0 c.requires.brought) r) _ e.view (view c.leave.new.pass) c.leave.ensures.view (number p.turn) e.rule e.falls.0 (ReleasesAs l t) r
+    read_holds f y v o p.is_live (release_events l t) (λ u. moves_of (release_events l t u)) (λ _. None) (λ _. None) (may_release x y w p.is_live is_last l t c.requires.cause (brought_on v (Some f) o _ l e.falls.0 c.requires.brought) r) _ e.view (view c.leave.new.pass) c.leave.ensures.view (number p.turn) e.rule e.falls.0 (ReleasesAs l t) r
 
 pub invariant_of-pass-clause-seen_is : goal.invariant_of-pass-clause-seen_is
 invariant_of-pass-clause-seen_is g c =
@@ -72,5 +73,5 @@ invariant_of-pass-clause-seen_is g c =
     let is_last : x.incumbent ≡ w.last = bounded_is f o e.falls.1 in
     let found_is : c.state_mut.result.now ≡ x = c.state_mut.ensures.value ∙ e.graph in
     let r : ReleasesAs l t x y = subst (λ (z : GraphValue). ReleasesAs l t z y) found_is (s.released, s.moment) in
-    read_seen f y v o p.is_live (release_events l t) (λ _. None) (λ _. None) (may_release x y w p.is_live is_last l t c.requires.cause (brought_on v (Some f) o _ l e.falls.0 c.requires.brought) r) _ e.view (view c.leave.new.pass) c.leave.ensures.view (number p.turn) e.rule
+    read_seen f y v o p.is_live (release_events l t) (λ u. moves_of (release_events l t u)) (λ _. None) (λ _. None) (may_release x y w p.is_live is_last l t c.requires.cause (brought_on v (Some f) o _ l e.falls.0 c.requires.brought) r) _ e.view (view c.leave.new.pass) c.leave.ensures.view (number p.turn) e.rule
     ∙ ap length (ap (λ (z : GraphValue). z.table.journal) (sym c.state.ensures) ∙ sym c.journal.ensures.events)

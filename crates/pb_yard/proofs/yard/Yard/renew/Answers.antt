@@ -1,15 +1,15 @@
 use Rattle.std.proofs.Common.{◌≡◌, List, Some, length, None, sym, ap, ◌∙◌, subst}
 use Rattle.pb_machine.specs.declared.event.Event.{Event}
-use Rattle.pb_machine.specs.Room.{room_after}
 use Rattle.pb_turn.specs.Passes.{view, number, found}
 use Rattle.pb_model.specs.Store.{AtMost}
 use Rattle.pb_model.proofs.Callers.{lesser_same}
 use Rattle.pb_lease.specs.declared.answer.Renewed.{Renewed}
 use Rattle.pb_lease.specs.LeaseValue.{LeaseValue}
-use Rattle.pb_lease.specs.Tables.{blocks, rooms}
+use Rattle.pb_lease.specs.Tables.{blocks}
 use Rattle.pb_lease.specs.GraphValue.{GraphValue, IsLeaseGraph, IsOfGraph}
 use Rattle.pb_yard.specs.declared.view.View.{View}
 use Rattle.pb_yard.specs.Views.{cost_of, bounded, view_read, view_left}
+use Rattle.pb_lease.specs.Moments.{moves_of}
 use Rattle.pb_yard.specs.Replies.{RenewsAs, renewal_events, kept_by}
 use Rattle.pb_yard.proofs.Steps.{brought_of_graph}
 use Rattle.pb_yard.proofs.Reading.{entered, brought_on, bounded_is, bounded_journal, read_keeps, read_holds, read_seen}
@@ -44,10 +44,9 @@ leave-requires-clause-rule g c =
     let read_at : w.read_at ≡ Some (length x.table.journal) = ap (λ (l : List Event). Some (length l)) (sym (bounded_journal f o)) in
     let found_is : c.state_mut-graph.result.now ≡ x = c.state_mut-graph.ensures.value ∙ e.graph in
     let places : length x.homes.keys ≡ (blocks x.table).count = (subst IsLeaseGraph found_is c.abstraction.ensures.lawful).key_places in
-    let room : rooms x.table ≡ room_after x.table.journal = subst (λ (z : GraphValue). rooms z.table ≡ room_after z.table.journal) found_is c.abstraction.ensures.room in
     let r : RenewsAs l q x y = subst (λ (z : GraphValue). RenewsAs l q z y) found_is
     (renews_as c.state_mut-graph.result.now y l q s.kept s.given s.first s.kept_moment s.given_moment) in
-    read_keeps f y v o p.is_live (λ _. renewal_events l q) (λ _. kept_by q) (λ _. None) (may_renew x y w p.is_live is_last read_at l q c.requires.spent places room (brought_on v (Some f) o _ l e.falls.0 c.requires.brought) r) _ e.view (number c.enter_reading-held.new.turn)
+    read_keeps f y v o p.is_live (λ _. renewal_events l q) (λ _. moves_of (renewal_events l q)) (λ _. kept_by q) (λ _. None) (may_renew x y w p.is_live is_last read_at l q c.requires.spent places (brought_on v (Some f) o _ l e.falls.0 c.requires.brought) r) _ e.view (number c.enter_reading-held.new.turn)
 
 pub returns-clause-renewed : goal.returns-clause-renewed
 returns-clause-renewed g c =
@@ -66,10 +65,9 @@ returns-clause-renewed g c =
     let read_at : w.read_at ≡ Some (length x.table.journal) = ap (λ (l : List Event). Some (length l)) (sym (bounded_journal f o)) in
     let found_is : c.state_mut-graph.result.now ≡ x = c.state_mut-graph.ensures.value ∙ e.graph in
     let places : length x.homes.keys ≡ (blocks x.table).count = (subst IsLeaseGraph found_is c.abstraction.ensures.lawful).key_places in
-    let room : rooms x.table ≡ room_after x.table.journal = subst (λ (z : GraphValue). rooms z.table ≡ room_after z.table.journal) found_is c.abstraction.ensures.room in
     let r : RenewsAs l q x y = subst (λ (z : GraphValue). RenewsAs l q z y) found_is
     (renews_as c.state_mut-graph.result.now y l q s.kept s.given s.first s.kept_moment s.given_moment) in
-    read_holds f y v o p.is_live (λ _. renewal_events l q) (λ _. kept_by q) (λ _. None) (may_renew x y w p.is_live is_last read_at l q c.requires.spent places room (brought_on v (Some f) o _ l e.falls.0 c.requires.brought) r) _ e.view (view c.leave.new.pass) c.leave.ensures.view (number p.turn) e.rule e.falls.0 (RenewsAs l q) r
+    read_holds f y v o p.is_live (λ _. renewal_events l q) (λ _. moves_of (renewal_events l q)) (λ _. kept_by q) (λ _. None) (may_renew x y w p.is_live is_last read_at l q c.requires.spent places (brought_on v (Some f) o _ l e.falls.0 c.requires.brought) r) _ e.view (view c.leave.new.pass) c.leave.ensures.view (number p.turn) e.rule e.falls.0 (RenewsAs l q) r
 
 pub returns-clause-copy : goal.returns-clause-copy
 returns-clause-copy g c =
@@ -111,8 +109,7 @@ invariant_of-pass-clause-seen_is g c =
     let read_at : w.read_at ≡ Some (length x.table.journal) = ap (λ (l : List Event). Some (length l)) (sym (bounded_journal f o)) in
     let found_is : c.state_mut-graph.result.now ≡ x = c.state_mut-graph.ensures.value ∙ e.graph in
     let places : length x.homes.keys ≡ (blocks x.table).count = (subst IsLeaseGraph found_is c.abstraction.ensures.lawful).key_places in
-    let room : rooms x.table ≡ room_after x.table.journal = subst (λ (z : GraphValue). rooms z.table ≡ room_after z.table.journal) found_is c.abstraction.ensures.room in
     let r : RenewsAs l q x y = subst (λ (z : GraphValue). RenewsAs l q z y) found_is
     (renews_as c.state_mut-graph.result.now y l q s.kept s.given s.first s.kept_moment s.given_moment) in
-    read_seen f y v o p.is_live (λ _. renewal_events l q) (λ _. kept_by q) (λ _. None) (may_renew x y w p.is_live is_last read_at l q c.requires.spent places room (brought_on v (Some f) o _ l e.falls.0 c.requires.brought) r) _ e.view (view c.leave.new.pass) c.leave.ensures.view (number p.turn) e.rule
+    read_seen f y v o p.is_live (λ _. renewal_events l q) (λ _. moves_of (renewal_events l q)) (λ _. kept_by q) (λ _. None) (may_renew x y w p.is_live is_last read_at l q c.requires.spent places (brought_on v (Some f) o _ l e.falls.0 c.requires.brought) r) _ e.view (view c.leave.new.pass) c.leave.ensures.view (number p.turn) e.rule
     ∙ ap length (ap (λ (z : GraphValue). z.table.journal) (sym c.state.ensures) ∙ sym c.journal.ensures.events)
