@@ -60,11 +60,10 @@ fn begin_claims<'a, 'w: 'a, R: Threads + Wait + Sync, G: Gate>(
     ensures since { looks.new.since ≡ looks.old.since }
     ensures rising { looks.old.taken ≤ looks.new.taken }
 {
-    match begin_falling(rt, alloc, lend_falling(falling), texts, gate, looks) {
-        Ok(FallingBegin::Search(search)) => Ok(Begun::Searching(search)),
-        Ok(FallingBegin::Refused(answer)) => Ok(Begun::Answered(answer)),
-        Ok(FallingBegin::Stopped(answer)) => Ok(Begun::Answered(answer)),
-        Err(AllocError) => Err(AllocError),
+    match begin_falling(rt, alloc, lend_falling(falling), texts, gate, looks)? {
+        FallingBegin::Search(search) => Ok(Begun::Searching(search)),
+        FallingBegin::Refused(answer) => Ok(Begun::Answered(answer)),
+        FallingBegin::Stopped(answer) => Ok(Begun::Answered(answer)),
     }
 }
 

@@ -136,20 +136,27 @@ pub fn run<R: Threads + Wait + Sync, H: Shelf, K: Sink, G: Gate>(
     readings_are_spelled();
     // What a search leaves is kept here, since the answer borrows it.
     let mut kept = None;
-    let status = carry_out(rt, alloc, words, shelf, out, gate, &mut kept, looks);
+    let host = Host { rt, gate };
+    let status = carry_out(&host, alloc, words, shelf, out, &mut kept, looks);
     status.number()
+}
+
+// What workers run with: threads that may wait for each other, and the gate that they call.
+#[derive(Drop)]
+struct Host<'h, R: Threads + Wait + Sync, G: Gate> {
+    rt: &'h R,
+    gate: &'h G,
 }
 
 // The whole way: the words are read, the files that they name are loaded, what is asked of their
 // texts is answered, and the answer is handed out. With falling weights what is claimed after each
 // run is. What another search leaves is kept in `kept`.
 fn carry_out<'a, R: Threads + Wait + Sync, H: Shelf, K: Sink, G: Gate>(
-    rt: &R,
+    host: &Host<R, G>,
     alloc: Global,
     words: &'a [String],
     shelf: &mut H,
     out: &mut K,
-    gate: &G,
     kept: &'a mut Option<SearchedStore>,
     looks: &mut Looks,
 ) -> Status
@@ -177,11 +184,13 @@ fn carry_out<'a, R: Threads + Wait + Sync, H: Shelf, K: Sink, G: Gate>(
         Ok(texts) => texts,
         Err(fault) => return fault.status(),
     };
-    let Ok(answer) = answer_asked(rt, alloc, &asked, &texts, gate, kept, looks) else {
+    let Ok(answer) = answer_asked(host.rt, alloc, &asked, &texts, host.gate, kept, looks) else {
         return Status::OutOfMemory;
     };
     match answer {
         Begun::Answered(answer) => hand_out_at_once(shelf, out, &answer),
-        Begun::Searching(search) => hand_out_claims(rt, alloc, search, shelf, out, gate),
+        Begun::Searching(search) => {
+            hand_out_claims(host.rt, alloc, search, shelf, out, host.gate)
+        }
     }
 }

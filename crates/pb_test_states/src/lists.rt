@@ -166,9 +166,7 @@ fn run(
     if den == 0 || num < den || num > 1000 {
         return None;
     }
-    let Ok(mut bundle) = Bundle::new(alloc, num, den) else {
-        return None;
-    };
+    let mut bundle = Bundle::new(alloc, num, den).ok()?;
     Some(make_all(&mut bundle, calls, wanted, rows, absent))
 }
 

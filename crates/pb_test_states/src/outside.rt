@@ -63,9 +63,7 @@ fn has_file(shelf: &MemShelf, name: &str, bytes: &[u8]) -> bool {
 // saving and loading answers, and whether the other file stays. This function and the next three
 // give None if memory runs out at first.
 fn save_beside(alloc: Global) -> Option<(bool, Result<(), Failed>, Result<bool, Load>, bool)> {
-    let Ok(mut shelf) = MemShelf::new(alloc) else {
-        return None;
-    };
+    let mut shelf = MemShelf::new(alloc).ok()?;
     let is_ready = shelf.add("map", b"...\n").is_ok() & reserve(&mut shelf, 9).is_ok();
     let saved = save(&mut shelf, "c");
     let loaded = is_saved(alloc, &mut shelf, "c", 9);
@@ -75,9 +73,7 @@ fn save_beside(alloc: Global) -> Option<(bool, Result<(), Failed>, Result<bool, 
 // The second call is listed to keep three bytes: whether the shelf could be made ready, what saving
 // answers, and whether they are kept.
 fn save_in_part(alloc: Global) -> Option<(bool, Result<(), Failed>, bool)> {
-    let Ok(mut shelf) = MemShelf::new(alloc) else {
-        return None;
-    };
+    let mut shelf = MemShelf::new(alloc).ok()?;
     let is_ready = reserve(&mut shelf, 100).is_ok() & shelf.fail(2, 3).is_ok();
     let saved = save(&mut shelf, "c");
     Some((is_ready, saved, has_file(&shelf, "c", b"pla")))
@@ -86,9 +82,7 @@ fn save_in_part(alloc: Global) -> Option<(bool, Result<(), Failed>, bool)> {
 // The second call is listed to keep one byte: whether that could be listed, what printing answers,
 // and whether the byte is kept.
 fn print_in_part(alloc: Global) -> Option<(bool, Result<(), Failed>, bool)> {
-    let Ok(mut sink) = MemSink::new(alloc, 100) else {
-        return None;
-    };
+    let mut sink = MemSink::new(alloc, 100).ok()?;
     let is_ready = sink.fail(2, 1).is_ok();
     let printed = print(&mut sink);
     Some((is_ready, printed, sink.bytes() == b"plan 4".as_slice()))
@@ -96,9 +90,7 @@ fn print_in_part(alloc: Global) -> Option<(bool, Result<(), Failed>, bool)> {
 
 // What is answered if more room is reserved than any memory has.
 fn reserve_too_much(alloc: Global) -> Option<Result<(), Memory>> {
-    let Ok(mut shelf) = MemShelf::new(alloc) else {
-        return None;
-    };
+    let mut shelf = MemShelf::new(alloc).ok()?;
     Some(reserve(&mut shelf, 1 << 100))
 }
 
