@@ -1,5 +1,5 @@
 -- Bundles that adopt what was prepared for them.
-use Rattle.std.proofs.Common.{◌≡◌, ℕ, zero, suc, ◌<◌, ◌≤◌, List, [], ◌∷◌, ◌++◌, Option, Some, None, IsSome, length, get_or, set, refl, sym, ap, subst, ◌∙◌, arith}
+use Rattle.std.proofs.Common.{◌≡◌, ℕ, zero, suc, ◌<◌, List, [], ◌∷◌, ◌++◌, Option, Some, None, length, get_or, set, refl, ap, ◌∙◌, arith}
 use Rattle.pb_model.specs.Weight.{Weight}
 use Rattle.pb_model.specs.Work.{reopened_row}
 use Rattle.pb_lists.specs.Bundle.{Content}

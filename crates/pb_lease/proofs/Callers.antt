@@ -11,5 +11,4 @@ pub use Rattle.pb_lease.proofs.MomentReturns.{ending_leases}
 pub use Rattle.pb_lease.proofs.MomentsStay.{bound_taken, events_leave_others, none_out_is_moment}
 pub use Rattle.pb_lease.proofs.Same.{changes_on, lesser_other, none_below, same_changed, same_none}
 pub use Rattle.pb_lease.proofs.Same.{same_on, same_places, still_there}
-pub use Rattle.pb_lease.proofs.Switches.{worker_known, worker_stays, worker_vacant}
 pub use Rattle.pb_lease.proofs.WorkedOut.{worked_leases_are_out}

@@ -2,7 +2,7 @@
 use Rattle.std.proofs.Common.{◌≡◌, ℕ, inl, inr, false, not, ◌&&◌, ◌==◌, nat_lt, cond, is_some, List, Option, Some, None, sym, ap, ◌∙◌, arith, subst, get_or, true≢false}
 use Rattle.std.specs.Option.{option_or}
 use Rattle.pb_model.specs.declared.key.Key.{Key}
-use Rattle.pb_model.proofs.Callers.{by_cases, equal, equal_self, not_below}
+use Rattle.pb_model.proofs.Callers.{by_cases, equal, equal_self, not_below, some_number}
 use Rattle.pb_machine.specs.Choice.{counts_with_lease_home}
 use Rattle.pb_lists.specs.Bundle.{Content}
 use Rattle.pb_bundles.specs.Parts.{content_in}
@@ -18,9 +18,6 @@ use Rattle.pb_lease.specs.Steps.{GoesOn, GoesOver, ComesBack, IsSwitched}
 use Rattle.pb_lease.proofs.Rivals.{best_is_one}
 use Rattle.pb_lease.proofs.Renewals.{noted_twice, notes_both}
 
-some_same : (a b : ℕ) → ◌≡◌ {A = Option ℕ} (Some a) (Some b) → a ≡ b
-some_same a b e = cc
-
 module _ (old : GraphValue) (lease : LeaseValue) (new : GraphValue) where
   pub one_choice : (one other : Option ℕ) → IsChoiceWithHome old lease new one → IsChoiceWithHome old lease new other → one ≡ other
   one_choice one other first second = best_is_one
@@ -33,12 +30,12 @@ module _ (old : GraphValue) (lease : LeaseValue) (new : GraphValue) where
   pub on_stays : GoesOn old lease new → ComesBack old lease new → ⊥
   on_stays on (inl none) = none_differs lease.block none on.0
   on_stays on (inr (inl own)) = omega (arith, own.1, on.1)
-  on_stays on (inr (inr other)) = other.2 (some_same other.0 lease.block (one_choice (Some other.0) (Some lease.block) other.1 on.0))
+  on_stays on (inr (inr other)) = other.2 (some_number other.0 lease.block (one_choice (Some other.0) (Some lease.block) other.1 on.0))
 
   -- nor where the worker goes on with another block
   pub over_stays : (block : ℕ) → GoesOver old lease new block → ComesBack old lease new → ⊥
   over_stays block over (inl none) = none_differs block none over.0
-  over_stays block over (inr (inl own)) = over.1 (some_same block lease.block (one_choice (Some block) (Some lease.block) over.0 own.0))
+  over_stays block over (inr (inl own)) = over.1 (some_number block lease.block (one_choice (Some block) (Some lease.block) over.0 own.0))
   over_stays block over (inr (inr other)) = omega (arith, other.3, over.2)
 
 -- it comes back where the room is too small

@@ -32,17 +32,13 @@ pub use Rattle.pb_machine.proofs.MomentLaws.{lawful_stores_are_sound, lease_cost
 pub use Rattle.pb_machine.proofs.MomentLaws.{none_out_is_shown, quiet_ends_are_best}
 pub use Rattle.pb_machine.proofs.MomentLaws.{scopes_are_apart}
 pub use Rattle.pb_machine.proofs.Moments.{moves_keep_lawful, opening_is_lawful, runs_are_lawful}
-pub use Rattle.pb_machine.proofs.MovedRooms.{IsLess, IsSmall, has_room_more, has_room_moved}
-pub use Rattle.pb_machine.proofs.MovedRooms.{moved_within_both, moves_keep_room, room_from_less}
-pub use Rattle.pb_machine.proofs.MovedRooms.{room_moved_less, room_moved_small, room_with_less}
-pub use Rattle.pb_machine.proofs.MovedRooms.{room_with_small, rooms_after_both, rooms_after_less}
-pub use Rattle.pb_machine.proofs.MovedRooms.{rooms_after_small, within_room_more}
+pub use Rattle.pb_machine.proofs.MovedRooms.{has_room_more}
+pub use Rattle.pb_machine.proofs.MovedRooms.{room_with_less}
 pub use Rattle.pb_machine.proofs.OwnMoves.{none_out_untold, others_are_left, recorded_where_leased}
 pub use Rattle.pb_machine.proofs.Places.{all_append}
 pub use Rattle.pb_machine.proofs.Reports.{broken_more}
 pub use Rattle.pb_machine.proofs.Rooms.{journals_are_short, room_goes_on}
 pub use Rattle.pb_machine.proofs.Splitting.{splitting_keeps_views}
-pub use Rattle.pb_machine.proofs.Switches.{switch_runs, switched_leases_are_legal, switched_rows}
 pub use Rattle.pb_machine.proofs.TableLaws.{any_at, any_false, any_none, any_same, any_some}
 pub use Rattle.pb_machine.proofs.TableLaws.{entry_else, entry_here, none_counted, one_small}
 pub use Rattle.pb_machine.proofs.TableLaws.{sum_small, sum_with_entry}

@@ -22,7 +22,7 @@ use Rattle.pb_lease.specs.Moments.{IsMoment}
 use Rattle.pb_lease.specs.Steps.{IsReleased, ReleasesNext, IsRenewed, RenewsNext, GoesOn, renewed_quota}
 use Rattle.pb_lease.proofs.Callers.{setup_is, releases_in_order, renews_in_order}
 use Rattle.pb_expand.specs.Turned.{IsAtWork}
-use Rattle.pb_yard.specs.Order.{HasCause, CannotGoOn}
+use Rattle.pb_yard.specs.Order.{CannotGoOn}
 use Rattle.pb_yard.specs.Marking.{no_turn, turn_with}
 use Rattle.pb_yard.proofs.Callers.{in_time_one, in_time_events, ending_grants_none, ending_rooms, still_first, cannot_go_on, MayReturn}
 use Rattle.pb_workers.specs.Runs.{IsSameSearch, RunsTo}

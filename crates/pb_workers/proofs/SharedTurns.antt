@@ -1,10 +1,9 @@
 -- The turns of a worker that shares a yard, and its marks in them, after each of its calls.
-use Rattle.std.proofs.Common.{◌≡◌, ℕ, ◌∷◌, ◌++◌, inl, inr, Bool, true, false, List, [], Option, Some, None, IsSome, OnSome, is_some, refl, sym, ap, ◌∙◌, subst, true≢false}
+use Rattle.std.proofs.Common.{◌≡◌, ℕ, ◌∷◌, ◌++◌, inl, inr, Bool, true, false, List, [], Option, Some, None, IsSome, OnSome, refl, sym, ap, ◌∙◌, subst, true≢false}
 use Rattle.pb_machine.specs.declared.event.Event.{Event}
 use Rattle.pb_machine.specs.declared.event.Event.TheVariants.{Lease, Renew, Hot, Release, Off}
 use Rattle.pb_machine.specs.Tables.{one_if}
 use Rattle.pb_machine.specs.History.{is_event_of, events_of}
-use Rattle.pb_lease.specs.declared.answer.LeaseReply.{LeaseReply}
 use Rattle.pb_lease.specs.declared.answer.LeaseReply.TheVariants.{Leased}
 use Rattle.pb_lease.specs.declared.answer.Renewed.TheVariants.{Kept, Given}
 use Rattle.pb_lease.specs.declared.answer.SwitchReply.TheVariants.{Switched}
@@ -13,7 +12,7 @@ use Rattle.pb_lease.specs.LeaseValue.{LeaseValue}
 use Rattle.pb_lease.specs.GraphValue.{GraphValue}
 use Rattle.pb_yard.specs.declared.view.View.{View}
 use Rattle.pb_yard.specs.Marking.{Turn, no_turn, turn_with, turn_then, turn_after, turn_of}
-use Rattle.pb_yard.specs.Replies.{LeasesAs, lease_events, lent_by, told_by, ReleasesAs, release_events, RenewsAs, renewal_events, RivalsAs, MarksAs, mark_events, SignsOffAs, reported, off_events}
+use Rattle.pb_yard.specs.Replies.{LeasesAs, lease_events, ReleasesAs, release_events, RenewsAs, renewal_events, RivalsAs, MarksAs, mark_events, SignsOffAs, reported, off_events}
 use Rattle.pb_yard.specs.Calls.{Holds, HasRead, ReadsAndHolds, Leases, Renews, Switches, Releases, AsksRival, Marks, SignsOff}
 use Rattle.pb_workers.specs.Turns.{HasTurnIn, IsBetweenTurns, MayEnd}
 use Rattle.pb_workers.proofs.Turns.{own, ending_none, one_more, two_more, none_more}

@@ -1,11 +1,11 @@
 -- The turns of a worker and its marks in them, as its events go on.
-use Rattle.std.proofs.Common.{◌≡◌, ℕ, ◌==◌, ◌⊎◌, Bool, true, false, cond, not, ◌&&◌, ◌||◌, is_none, List, [], ◌∷◌, ◌++◌, Option, Some, None, refl, sym, ap, ◌∙◌, subst, inl, inr, true≢false}
+use Rattle.std.proofs.Common.{◌≡◌, ℕ, ◌==◌, Bool, true, false, cond, not, ◌&&◌, ◌||◌, List, [], ◌∷◌, ◌++◌, Option, Some, None, refl, ap, ◌∙◌, inl, inr}
 use Rattle.std.proofs.lemmas.List.{append-nil}
 use Rattle.std.proofs.lemmas.List.Elements.{filter-append}
-use Rattle.pb_model.proofs.Callers.{by_cases, equal_self}
+use Rattle.pb_model.proofs.Callers.{equal_self}
 use Rattle.pb_machine.specs.declared.event.End.{End}
 use Rattle.pb_machine.specs.declared.event.Event.{Event}
-use Rattle.pb_machine.specs.declared.event.Event.TheVariants.{Lease, Renew, Hot, Release, Off}
+use Rattle.pb_machine.specs.declared.event.Event.TheVariants.{Renew, Hot, Release}
 use Rattle.pb_machine.specs.Tables.{one_if}
 use Rattle.pb_machine.specs.History.{is_event_of, events_of}
 use Rattle.pb_lease.specs.Events.{ending}

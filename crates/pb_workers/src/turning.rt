@@ -1,5 +1,5 @@
 //! The rule of a worker that has a lease, whatever it has it from.
-ghost use Rattle.std.specs.Prelude.{◌≡◌, ◌<◌, ◌≤◌, false, IfSome, IfNone, IsTrue, IsFalse};
+ghost use Rattle.std.specs.Prelude.{◌≡◌, ◌<◌, false, IfSome, IfNone, IsTrue, IsFalse};
 ghost use Rattle.pb_lease.specs.LeaseValue.{LeaseValue};
 ghost use Rattle.pb_yard.specs.Order.{HasCause};
 ghost use Rattle.pb_workers.specs.Serving.{Serves};

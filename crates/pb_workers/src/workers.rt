@@ -6,7 +6,7 @@ ghost use Rattle.std.specs.Thread.{IsSync};
 ghost use Rattle.pb_machine.specs.History.{is_off};
 ghost use Rattle.pb_estimate.specs.Tables.{HasTable};
 ghost use Rattle.pb_abstract.specs.Graph.{IsGraphOf};
-ghost use Rattle.pb_yard.specs.Passes.{view_of, worker_of, parts_of, all_parts, IsOf};
+ghost use Rattle.pb_yard.specs.Passes.{view_of, worker_of, parts_of, IsOf};
 ghost use Rattle.pb_yard.specs.Calls.{IsActive, AllSignedOff};
 ghost use Rattle.pb_workers.specs.Shared.{IsSameHolder, IsIdle};
 ghost use Rattle.pb_workers.specs.Teams.{IsToSplit, KeepsSearch};

@@ -15,4 +15,3 @@ pub use Rattle.pb_yard.proofs.Told.{end_none_off, ended_end, ending_none_off, en
 pub use Rattle.pb_yard.proofs.Told.{keeps_on, leased_active, leased_keeps, may_bring, own_none_off}
 pub use Rattle.pb_yard.proofs.Told.{released_keeps, released_ready, signing_off_is_seen}
 pub use Rattle.pb_yard.proofs.Told.{switch_gives, switch_keeps, switched_active}
-pub use Rattle.pb_yard.proofs.Told.{switched_bring, switched_keeps}

@@ -192,10 +192,11 @@ pub end_rooms : (room : ℕ → ℕ) (standing : Option End) (end : End) → roo
 end_rooms room None end = refl
 end_rooms room (Some standing) end = refl
 
+-- some events are not none
+pub some_events : (event : Event) (events : List Event) → event ∷ events ≡ [] → ⊥
+some_events event events e = cc
+
 -- without an event the incumbent of the last one stays
 pub settled_same : (setup : Setup) (room : ℕ → ℕ) (events : List Event) (old : Machine) (settled : Option ℕ) (new : Machine) (later : Option ℕ) → RunsSettled setup room old settled (moves_of events) new later → events ≡ [] → later ≡ settled
 settled_same setup room [] old settled new later runs none = runs.1
-settled_same setup room (event ∷ events) old settled new later runs none = absurd (cons_nil event events none)
-  where
-    cons_nil : (event : Event) (events : List Event) → event ∷ events ≡ [] → ⊥
-    cons_nil event events e = cc
+settled_same setup room (event ∷ events) old settled new later runs none = absurd (some_events event events none)

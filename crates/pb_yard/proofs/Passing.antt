@@ -11,7 +11,7 @@ use Rattle.pb_machine.specs.declared.event.Event.{Event}
 use Rattle.pb_machine.specs.declared.settings.Settings.{Settings}
 use Rattle.pb_machine.specs.Room.{no_room, room_after}
 use Rattle.pb_machine.specs.Views as of_machine
-use Rattle.pb_machine.specs.Views.{AreTrueOf, first_view, spent_view, with_one_more, next_view, met_view}
+use Rattle.pb_machine.specs.Views.{AreTrueOf, first_view, spent_view, next_view}
 use Rattle.pb_machine.proofs.Callers.{first_views_are_true, splitting_keeps_views, meeting_keeps_views, known_stays}
 use Rattle.pb_lease.specs.Tables.{rooms}
 use Rattle.pb_lease.specs.GraphValue.{GraphValue, setup_in, IsLeaseGraph}

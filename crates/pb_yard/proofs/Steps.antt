@@ -35,7 +35,7 @@ use Rattle.pb_yard.specs.Order.{HasCause, HasStopped, IsOvertaken, RunsSettled}
 use Rattle.pb_yard.specs.Replies.{reported}
 use Rattle.pb_yard.specs.Rule.{rows_of, grant_in, was_read, IsLent, IsViewOf, IsYard}
 use Rattle.pb_yard.specs.Returning.{IsBrought}
-use Rattle.pb_yard.proofs.InTime.{GrantsNone, ending_grants_none, ending_rooms, events_of_moves, settled_one, settled_switch, settled_events, settled_report, settled_same}
+use Rattle.pb_yard.proofs.InTime.{GrantsNone, ending_grants_none, ending_rooms, events_of_moves, settled_one, settled_switch, settled_events, settled_report, settled_same, some_events}
 use Rattle.pb_yard.proofs.Causes.{none_left, still_first, cannot_go_on, overtaken}
 use Rattle.pb_yard.proofs.Parts.{GoesOnAs, still_of_graph}
 use Rattle.pb_yard.proofs.Meaning.{known_above}
@@ -71,10 +71,6 @@ same_adds x y events adds task choice = record { task = task; abstraction = adds
 
 pub same_rest : (x y : GraphValue) (events : List Event) → Adds x.table y.table events → y ≡ record x { table = y.table } → GoesOnAs x y
 same_rest x y events adds rest = same_adds x y events adds (ap (λ (g : GraphValue). g.task) rest) (ap (λ (g : GraphValue). g.choice) rest)
-
--- some events are not none
-some_events : (event : Event) (events : List Event) → event ∷ events ≡ [] → ⊥
-some_events event events e = cc
 
 -- from any machine with the graph's counts, a run by these events is one in time
 abbrev pub AreTimely : GraphValue → List Event → Type 0

@@ -11,7 +11,7 @@ ghost use Rattle.pb_task.specs.Parts.{space_of};
 ghost use Rattle.pb_estimate.specs.Estimates.{estimate_by};
 ghost use Rattle.pb_abstract.specs.Graph.{IsGraphOf};
 ghost use Rattle.pb_bundles.specs.Parts.{content_in, away_rows};
-ghost use Rattle.pb_lease.specs.LeaseValue.{leased_store, HasWeights, IsSameLease};
+ghost use Rattle.pb_lease.specs.LeaseValue.{leased_store, HasWeights};
 ghost use Rattle.pb_lease.specs.Leased.{guide_of};
 ghost use Rattle.pb_lease.specs.Rows.{ChangesRows, SetsStatusAt, OffersAt, LeadsInto};
 

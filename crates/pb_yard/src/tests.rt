@@ -8,7 +8,7 @@ ghost use Rattle.pb_abstract.specs.Graph.{IsGraphOf};
 ghost use Rattle.pb_lease.specs.declared.answer.LeaseReply.TheVariants.{Leased};
 ghost use Rattle.pb_lease.specs.declared.answer.SwitchReply.TheVariants as reply;
 ghost use Rattle.pb_yard.specs.declared.switch.Switch.TheVariants.{Switched, Busy};
-ghost use Rattle.pb_yard.specs.Passes.{view_of, worker_of, parts_of, misses_of, all_parts, IsOf, IsFirstPass, KeepsPass};
+ghost use Rattle.pb_yard.specs.Passes.{view_of, parts_of, misses_of, all_parts, IsOf, IsFirstPass, KeepsPass};
 ghost use Rattle.pb_yard.specs.Order.{HasStopped};
 ghost use Rattle.pb_yard.specs.Returning.{IsBrought};
 ghost use Rattle.pb_yard.specs.Calls.{IsReady, IsActive, IsAlone, HasSignedOff, KeepsWorkers, Switches};

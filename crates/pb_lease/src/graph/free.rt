@@ -1,9 +1,8 @@
 //! The keys by which a graph chooses its next block. Those of clear blocks are the noted ones. A block
 //! that isn't clear may have any key among them, and loses it once it would be the best.
-ghost use Rattle.std.specs.Prelude.{◌≡◌, ◌<◌, ℕ, All, length};
-ghost use Rattle.pb_abstract.specs.Graph.{blocks_of};
+ghost use Rattle.std.specs.Prelude.{◌≡◌, ◌<◌, All, length};
 ghost use Rattle.pb_lease.specs.Tables.{blocks};
-ghost use Rattle.pb_lease.specs.Free.{Shows, IsIn, IsClearIn, IsBesideHotIn, IsBesideHot, KeepsClear};
+ghost use Rattle.pb_lease.specs.Free.{Shows, IsIn, IsClearIn, IsBesideHot, KeepsClear};
 
 use crate::tables::MachineTables;
 use pb_bundles::{Homes, KeyTree};

@@ -1,4 +1,4 @@
-use Rattle.std.proofs.Common.{◌≡◌, ◌++◌, ◌∷◌, [], ◌<◌, ℕ, List, All, Option, length, Some, None, refl, sym, ap, subst, ◌∙◌, length-set, ◌-◌, take, arith}
+use Rattle.std.proofs.Common.{◌≡◌, ◌++◌, ◌∷◌, [], ◌<◌, ℕ, List, All, Option, length, Some, refl, sym, ap, subst, ◌∙◌, length-set, ◌-◌, take, arith}
 use Rattle.std.proofs.Math.Seq.{take-length}
 use Rattle.std.proofs.lemmas.List.Elements.{All-pop, All-from_recursion}
 use Rattle.indexmap.specs.Drain.{DrainKeeps, DrainStepsBack, drain_rest}

@@ -1,4 +1,4 @@
-use Rattle.std.proofs.Common.{◌≡◌, ◌<◌, ◌≤◌, [], length, All}
+use Rattle.std.proofs.Common.{◌≡◌, ◌<◌, ◌≤◌, length, All}
 use Rattle.indexmap.specs.Drain.{drain_rest, drain_room, drain_kept, drain_lender}
 use Rattle.pb_bundles.specs.Moves.{put_back}
 use Rattle.pb_bundles.proofs.moves.move_home.Given as goal

@@ -1,9 +1,9 @@
-use Rattle.std.proofs.Common.{◌≡◌, ◌<◌, ◌==◌, ℕ, Some, None, is_some, length, get_or, sym, ap, subst, ◌∙◌, arith}
+use Rattle.std.proofs.Common.{◌==◌, None, is_some, get_or, sym, ap, subst, ◌∙◌, arith}
 use Rattle.std.proofs.lemmas.Bool.{eqb-false}
 use Rattle.std.proofs.lemmas.Bool.Decides.{nat_tests}
 use Rattle.pb_model.specs.Key.{IsBest}
 use Rattle.pb_model.proofs.Callers.{by_cases, equal}
-use Rattle.pb_lists.specs.Bundle.{Content, row_of}
+use Rattle.pb_lists.specs.Bundle.{row_of}
 use Rattle.pb_bundles.proofs.Lists.{some_within}
 use Rattle.pb_bundles.proofs.reopening.note_all.Goals as goal
 

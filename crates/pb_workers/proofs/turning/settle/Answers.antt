@@ -1,4 +1,4 @@
-use Rattle.std.proofs.Common.{true, false, sym, subst, inl, inr}
+use Rattle.std.proofs.Common.{false, sym, subst, inl, inr}
 use Rattle.pb_model.proofs.Callers.{by_cases}
 use Rattle.pb_lease.specs.LeaseValue.{LeaseValue}
 use Rattle.pb_yard.specs.Order.{HasCause}

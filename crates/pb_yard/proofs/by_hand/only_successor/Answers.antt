@@ -1,4 +1,4 @@
-use Rattle.std.proofs.Common.{◌≡◌, length, get_or, sym, ◌∙◌, refl}
+use Rattle.std.proofs.Common.{◌≡◌, length, sym, ◌∙◌}
 use Rattle.pb_yard.proofs.ByHand.{one_succ}
 use Rattle.pb_yard.proofs.by_hand.only_successor.Goals as goal
 

@@ -1,4 +1,3 @@
-use Rattle.std.proofs.Common.{◌∙◌}
 use Rattle.pb_yard.proofs.tests.go_over.Goals as goal
 
 pub returns-clause-switched : goal.returns-clause-switched

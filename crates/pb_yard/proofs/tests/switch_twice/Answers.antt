@@ -1,4 +1,4 @@
-use Rattle.std.proofs.Common.{true, false, sym, subst}
+use Rattle.std.proofs.Common.{true, sym, subst}
 use Rattle.pb_lease.specs.LeaseValue.{LeaseValue}
 use Rattle.pb_yard.specs.declared.view.View.{View}
 use Rattle.pb_yard.specs.Passes.{view_of}

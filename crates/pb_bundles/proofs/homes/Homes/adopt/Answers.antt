@@ -1,5 +1,4 @@
-use Rattle.std.proofs.Common.{◌≡◌, ℕ, List, Option, None, length, get_or, sym, ap, subst, ◌∙◌, arith}
-use Rattle.pb_model.specs.Weight.{Weight}
+use Rattle.std.proofs.Common.{◌≡◌, List, Option, None, length, get_or, sym, ap, subst, ◌∙◌, arith}
 use Rattle.pb_lists.specs.Bundle.{Content}
 use Rattle.pb_bundles.specs.Parts.{rows_in}
 use Rattle.pb_bundles.specs.Homes.{HomeTable, content_at}

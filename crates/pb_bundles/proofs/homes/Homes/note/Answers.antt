@@ -1,4 +1,4 @@
-use Rattle.std.proofs.Common.{◌<◌, ℕ, IsSome, length, arith, sym, subst}
+use Rattle.std.proofs.Common.{ℕ, IsSome, arith, sym, subst}
 use Rattle.pb_bundles.specs.Parts.{PartList, content_in}
 use Rattle.pb_bundles.specs.Homes.{HomeTable}
 use Rattle.pb_bundles.specs.Moves.{IsVacant}

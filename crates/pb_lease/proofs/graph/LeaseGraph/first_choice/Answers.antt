@@ -1,7 +1,7 @@
-use Rattle.std.proofs.Common.{◌≡◌, ℕ, true, None, ◌&&◌, ap, sym, ◌∙◌, subst, get_or, nat_lt, is_none, true≢false, rules}
+use Rattle.std.proofs.Common.{true, None, sym, ◌∙◌, subst, get_or, true≢false, rules}
 use Rattle.pb_model.proofs.Callers.{and_true}
 use Rattle.pb_bundles.specs.Homes.{key_at}
-use Rattle.pb_lease.specs.Tables.{Table, blocks}
+use Rattle.pb_lease.specs.Tables.{blocks}
 use Rattle.pb_lease.specs.Leasing.{can_be_leased}
 use Rattle.pb_lease.specs.GraphValue.{GraphValue, counts_in}
 use Rattle.pb_lease.specs.Choices.{IsChoice}

@@ -1,4 +1,4 @@
-use Rattle.std.proofs.Common.{◌<◌, ℕ, Bool, true, None, Some, get_or, length, subst, arith, rules}
+use Rattle.std.proofs.Common.{ℕ, Bool, true, None, Some, get_or, subst, arith, rules}
 use Rattle.pb_bundles.specs.Choosing.{IsFirstBy}
 use Rattle.pb_bundles.proofs.Callers.{some_within}
 use Rattle.pb_lease.proofs.graph.free.prune.Goals as goal

@@ -1,7 +1,6 @@
-use Rattle.std.proofs.Common.{◌≡◌, ℕ, true, false, ◌+◌, ◌==◌, ◌||◌, ◌⊎◌, inl, inr, List, Option, take, get_or, sym, ap, subst, ◌∙◌, true≢false}
-use Rattle.pb_model.specs.declared.key.Key.{Key}
+use Rattle.std.proofs.Common.{◌≡◌, ℕ, true, false, ◌+◌, ◌==◌, ◌||◌, inl, inr, take, get_or, sym, ap, subst, ◌∙◌, true≢false}
 use Rattle.pb_model.proofs.Callers.{by_cases, equal}
-use Rattle.pb_machine.specs.Blocks.{Blocks, interferes}
+use Rattle.pb_machine.specs.Blocks.{interferes}
 use Rattle.pb_abstract.specs.Graph.{AbstractGraph, blocks_of, has}
 use Rattle.pb_lease.specs.Tables.{blocks, counts_of}
 use Rattle.pb_lease.specs.Free.{Shows, IsBesideHotIn, IsIn}

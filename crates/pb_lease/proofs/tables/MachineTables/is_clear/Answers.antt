@@ -1,4 +1,4 @@
-use Rattle.std.proofs.Common.{◌≡◌, ◌<◌, ℕ, false, true, cond, not, ◌&&◌, ◌==◌, ◌∙◌, arith, ap, sym, refl, subst, get_or}
+use Rattle.std.proofs.Common.{◌≡◌, ◌<◌, ℕ, false, true, cond, not, ◌&&◌, ◌==◌, ◌∙◌, arith, ap, sym, subst, get_or}
 use Rattle.pb_machine.proofs.Callers.{item_is}
 use Rattle.pb_lease.specs.Tables.{Table, blocks, counts_of}
 use Rattle.pb_lease.specs.Leasing.{is_clear}

@@ -1,4 +1,4 @@
-use Rattle.std.proofs.Common.{◌≡◌, List, Option, Some, None, length, inl, inr, ◌⊎◌, sym, ap, ◌∙◌, subst}
+use Rattle.std.proofs.Common.{◌≡◌, List, Option, Some, None, length, inl, inr, sym, ap, ◌∙◌, subst}
 use Rattle.pb_machine.specs.declared.event.Event.{Event}
 use Rattle.pb_machine.specs.Machine.{journal_of}
 use Rattle.pb_turn.specs.Passes.{view, number, found}
