@@ -17,7 +17,7 @@ use pb_task::{StripsParts, Task, next_atom};
 use std::alloc::{AllocError, Global};
 
 /// From so many actions on, a task has an index.
-pub const MANY_ACTIONS: usize = 500;
+pub const MANY_ACTIONS: usize = 100;
 
 /// The actions of a STRIPS task by the rarest atom that each needs.
 #[derive(Drop)]

@@ -252,7 +252,7 @@ impl Estimator {
     }
 
     /// Replaces the list by all successors of a state of the estimator's own task, in order of the
-    /// actions. It takes no memory: the list has room for them. From some 500 actions of a STRIPS
+    /// actions. It takes no memory: the list has room for them. From some 100 actions of a STRIPS
     /// task on, an action is looked at only if the state has the rarest of the atoms that it needs
     /// (M. Helmert, "The Fast Downward planning system", 2006).
     pub fn successors(&mut self, task: &Task, from: &Packed, out: &mut Vec<Succ>)
