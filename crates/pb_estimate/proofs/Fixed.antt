@@ -43,7 +43,7 @@ module _ (strips : StripsParts) (state : ℕ) where
       no_cheaper strips state (suc strips.atoms) atom cost less
       (lesser_right (atom_cost strips state strips.atoms atom) (cheapest_by strips.atoms (atom_cost strips state strips.atoms) atom strips.actions) cost h)
 
-  at_first : (round atom cost : ℕ) → has_atom state atom ≡ true → IsAtMost (atom_cost strips state round atom) cost
+  pub at_first : (round atom cost : ℕ) → has_atom state atom ≡ true → IsAtMost (atom_cost strips state round atom) cost
   at_first round atom cost has = in_later_rounds strips state atom cost 0 round (omega arith) (holds_from (has_atom state atom) cost has)
 
   -- an atom that costs something in a round holds, or actions add it at that cost
@@ -60,6 +60,11 @@ module _ (strips : StripsParts) (state : ℕ) where
       go rest (inr by) =
           inr (cheaper_by strips.atoms (atom_cost strips state round) (atom_cost strips state strips.atoms) atom strips.actions cost
           (λ need c less. no_cheaper strips state round need c less) (cheapest_is strips.atoms (atom_cost strips state round) atom strips.actions cost by))
+
+  pub cause : (round atom cost : ℕ) → IsAtMost (atom_cost strips state round atom) cost
+      → (has_atom state atom ≡ true) ⊎ IsAtMost (cheapest_by strips.atoms (atom_cost strips state strips.atoms) atom strips.actions) cost
+  unfolding final by_actions
+  cause round atom cost h = reason round atom cost h
 
   satisfied : SatisfyHmax strips state (atom_cost strips state strips.atoms)
   unfolding final by_actions

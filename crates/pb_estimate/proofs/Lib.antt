@@ -23,6 +23,8 @@ mod Pieces
 mod Standing
 mod Underway
 mod Steps
+mod Layering
+mod Passing
 mod Marked
 mod Relaxing
 mod Indexing

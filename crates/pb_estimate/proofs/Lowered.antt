@@ -17,7 +17,7 @@ known_here costs atom known less = get_or-set_same costs atom known Unreached le
 pub known_there : (costs : List AtomCost) (atom other : ℕ) (known : AtomCost) → other ≢ atom → known_in (set costs atom known) other ≡ known_in costs other
 known_there costs atom other known apart = get_or-set_other costs atom other known Unreached apart
 
-one_of : (atom other : ℕ) → Contains (atom ∷ []) other → other ≡ atom
+pub one_of : (atom other : ℕ) → Contains (atom ∷ []) other → other ≡ atom
 one_of atom other (zero, less, e) = sym e
 one_of atom other (suc k, less, e) = absurd (omega (arith, less))
 

@@ -5,7 +5,6 @@ use Rattle.pb_model.specs.Texts.{spaced}
 use Rattle.pb_task.specs.declared.kind.Kind.{Kind}
 use Rattle.pb_task.specs.declared.grounding.Grounding.{Grounding}
 use Rattle.pb_task.specs.declared.grounding.Grounding.TheVariants.{All, Reachable}
-use Rattle.pb_task.specs.declared.parts.TaskParts.{TaskParts}
 use Rattle.pb_task.specs.Groundings.{grounding_of}
 use Rattle.pb_task.specs.Kinds.{kind_of}
 use Rattle.pb_task.specs.Widths.{width_of}

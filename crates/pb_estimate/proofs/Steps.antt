@@ -44,7 +44,7 @@ module _ (strips : StripsParts) (state : ℕ) (is : IsStrips strips) (merged : L
       })
 
   -- what an action adds costs no more by hmax than what it needs, with the action
-  added : (user atom level cost : ℕ) → user < length merged → AddsAt (relaxed_at actions user) level atom cost
+  pub added : (user atom level cost : ℕ) → user < length merged → AddsAt (relaxed_at actions user) level atom cost
       → ((need : ℕ) → need < strips.atoms → has_atom (merged_at merged user).needs need ≡ true → IsAtMost (atom_cost strips state strips.atoms need) level)
       → IsAtMost (atom_cost strips state strips.atoms atom) cost
   added user atom level cost less (among, le) needs =

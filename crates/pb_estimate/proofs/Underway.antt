@@ -126,7 +126,7 @@ all_final wanted costs below none atom less is = go (wanted atom) (is_final_in c
   go false final e h = cc
 
 -- what is waited for passes, and isn't final
-is_waited_for : (test final : Bool) → (test && not final) ≡ true → (test ≡ true) × (final ≡ false)
+pub is_waited_for : (test final : Bool) → (test && not final) ≡ true → (test ≡ true) × (final ≡ false)
 is_waited_for test final h = let parts = and_parts test (not final) h in (parts.0, not-true final parts.1)
 
 pub none_waiting : (wanted : ℕ → Bool) (costs : List AtomCost) (below : ℕ) → ((atom : ℕ) → atom < below → wanted atom ≡ true → is_final_in costs atom ≡ true) → waiting wanted costs below ≡ 0

@@ -18,6 +18,7 @@ pub mod CostWords
 pub mod Exploring
 pub mod Merged
 pub mod Relaxed
+pub mod Layers
 pub mod Indexed
 pub mod Tables
 pub mod Spelling

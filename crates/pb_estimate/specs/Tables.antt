@@ -13,6 +13,7 @@ use Rattle.pb_estimate.specs.Estimates.{way_home, tables_suit}
 use Rattle.pb_estimate.specs.Hmax.{IsAtMost}
 use Rattle.pb_estimate.specs.Exploring.{count, cost_in, IsExploration}
 use Rattle.pb_estimate.specs.declared.exploration.AtomCost.{AtomCost}
+use Rattle.pb_estimate.specs.Layers.{HaveRoom, IsLayered}
 use Rattle.pb_estimate.specs.declared.merging.MergedAction.{MergedAction}
 use Rattle.pb_estimate.specs.Merged.{merged_at, StandFor}
 use Rattle.pb_estimate.specs.Relaxed.{RelaxedAction, relaxed_at}
@@ -109,14 +110,16 @@ pub record IsWanted (goal atoms : ℕ) (task : RelaxedTask) : Type 0 where
 
 -- ---- estimators
 
--- The counters are of a task: the task's actions and goal, and room for a counter for each action
--- and a cost for each atom.
+-- The counters are of a task: the task's actions and goal, and room for a counter for each action,
+-- and for a cost and a place in a layer for each atom.
 pub record AreCounters (strips : StripsParts) (counters : Counters) : Type 0 where
   pub actions : IsRelaxation strips.atoms strips.actions counters.task
   pub goal : IsWanted strips.goal strips.atoms counters.task
   pub counts : length counters.counts.items ≡ length counters.task.needs.items
   pub costs : length counters.exploration.costs.items ≡ strips.atoms
   pub exploration : IsExploration counters.exploration
+  pub layered : counters.is_layered ≡ true → IsLayered counters.task
+  pub layers : HaveRoom strips.atoms counters.layers
 
 -- what contracts see of an estimator
 pub record EstimatorValue : Type 0 where

@@ -19,6 +19,7 @@ mod exploration;
 mod flat_lists;
 mod grid;
 mod laws;
+mod layers;
 mod marks;
 mod merging;
 mod relaxed;
@@ -34,6 +35,7 @@ pub use flat_lists::FlatLists;
 pub use laws::{
     estimates_are_admissible, estimates_count_tiles, hmax_is_fixed, stated_lines_have_their_numbers,
 };
+pub use layers::Layers;
 pub use relaxed::{RelaxedActions, RelaxedTask};
 pub use spelling::{Spelling, Stated, Version};
 pub use strips::Counters;

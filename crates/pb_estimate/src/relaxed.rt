@@ -1,8 +1,9 @@
 //! The delete relaxation of a STRIPS task: its merged actions without what they delete.
-ghost use Rattle.std.specs.Prelude.{[], ◌∷◌, ◌≡◌, ℕ, ◌<◌, ◌≤◌, ◌++◌, All, Contains, IfOk, List, OnOk, length, replicate, false, slice_index, slice_index_or, slice_set, if◌then◌else◌, ◌==◌};
+ghost use Rattle.std.specs.Prelude.{[], ◌∷◌, ◌≡◌, ℕ, ◌<◌, ◌≤◌, ◌++◌, All, Contains, IfOk, List, OnOk, length, replicate, true, false, slice_index, slice_index_or, slice_set, if◌then◌else◌, ◌==◌};
 ghost use Rattle.pb_packed.specs.Sizes.{most_atoms};
 ghost use Rattle.pb_task.specs.Strips.{has_atom, IsStrips};
 ghost use Rattle.pb_estimate.specs.declared.merging.MergedAction.{MergedAction};
+ghost use Rattle.pb_estimate.specs.Layers.{CostOne};
 ghost use Rattle.pb_estimate.specs.Relaxed.{relaxed_at};
 ghost use Rattle.pb_estimate.specs.Tables.{AreRelaxed, IsRelaxation, IsWanted};
 
@@ -306,4 +307,17 @@ pub fn relaxed_task(alloc: Global, strips: &StripsParts) -> Result<RelaxedTask, 
     }
     task.users = users.flat(alloc)?;
     Ok(task)
+}
+
+/// Whether each action costs 1.
+pub fn cost_one(task: &RelaxedTask) -> bool
+    requires many { length task.now.needs.items ≡ length task.now.actions }
+    ensures { result ≡ true → CostOne task.now.actions }
+{
+    for action in 0..task.needs.len() {
+        if task.actions.cost(action) != 1 {
+            return false;
+        }
+    }
+    true
 }

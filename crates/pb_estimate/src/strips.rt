@@ -7,7 +7,9 @@ ghost use Rattle.pb_estimate.specs.Relaxed.{relaxed_at};
 ghost use Rattle.pb_estimate.specs.Tables.{AddsAt, AddsAtMost, IsAddedBy, IsRelaxation, IsWanted, IsRelaxed, AreCounters};
 
 use crate::exploration::Exploration;
-use crate::relaxed::{RelaxedActions, RelaxedTask, relaxed_task};
+use crate::layers;
+use crate::layers::Layers;
+use crate::relaxed::{RelaxedActions, RelaxedTask, cost_one, relaxed_task};
 use pb_model::Estimate;
 use pb_packed::Packed;
 use pb_task::StripsParts;
@@ -22,6 +24,10 @@ pub struct Counters {
     pub counts: Vec<u16>,
     /// What the atoms cost.
     pub exploration: Exploration,
+    /// Whether each action costs 1 and needs an atom, so that layers give the costs.
+    pub is_layered: bool,
+    /// The layers of the atoms.
+    pub layers: Layers,
 }
 
 /// The counters of a task. All the memory that estimates need is taken here.
@@ -32,10 +38,14 @@ pub fn counters_of(alloc: Global, strips: &StripsParts) -> Result<Counters, Allo
     let task = relaxed_task(alloc, strips)?;
     let counts = task.needs.clone()?;
     let exploration = Exploration::of(alloc, strips.atoms as usize)?;
+    let is_layered = cost_one(&task) && task.free.as_slice().is_empty();
+    let layers = Layers::of(alloc, strips.atoms as usize)?;
     Ok(Counters {
         task,
         counts,
         exploration,
+        is_layered,
+        layers,
     })
 }
 
@@ -182,6 +192,24 @@ fn goal_cost(
     None
 }
 
+// What the dearest atom of the goal costs, by layers if they give it.
+fn goal_cost_by(strips: &StripsParts, counters: &mut Counters, state: &Packed) -> Option<u32>
+    requires strips { IsStrips strips.now }
+    requires counters { AreCounters strips.now counters.old }
+    requires counts { counters.old.counts.items ≡ counters.old.task.needs.items }
+    requires some { 1 ≤ counters.old.task.wanted }
+    ensures cost { result ≡ goal_cost strips.now state.now }
+    ensures counters { AreCounters strips.now counters.new }
+{
+    let task = &counters.task;
+    let counts = counters.counts.as_mut_slice();
+    if counters.is_layered {
+        layers::goal_cost(strips, task, counts, &mut counters.layers, state)
+    } else {
+        goal_cost(strips, task, counts, &mut counters.exploration, state)
+    }
+}
+
 /// The estimate hmax of a state. `counters` are those of the task.
 pub fn estimate(strips: &StripsParts, counters: &mut Counters, state: &Packed) -> Estimate
     requires strips { IsStrips strips.now }
@@ -199,14 +227,7 @@ pub fn estimate(strips: &StripsParts, counters: &mut Counters, state: &Packed) -
     counters
         .counts
         .copy_from_slice(counters.task.needs.as_slice());
-    let cost = goal_cost(
-        strips,
-        &counters.task,
-        counters.counts.as_mut_slice(),
-        &mut counters.exploration,
-        state,
-    );
-    match cost {
+    match goal_cost_by(strips, counters, state) {
         None => Estimate::Dead,
         Some(cost) => Estimate::Cost(u64::from(cost)),
     }
