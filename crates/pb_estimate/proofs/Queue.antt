@@ -4,7 +4,8 @@ use Rattle.std.proofs.lemmas.Bool.{cases_lt}
 use Rattle.std.proofs.lemmas.List.{get_or_default, get_or-take, get_or-drop, length-take, length-drop}
 use Rattle.pb_estimate.specs.declared.exploration.AtomCost.{AtomCost}
 use Rattle.pb_estimate.specs.declared.exploration.AtomCost.TheVariants.{Open}
-use Rattle.pb_estimate.specs.Exploring.{known_cost, final_cost, known_in, cost_in, is_final_in}
+use Rattle.pb_estimate.specs.Exploring.{count, known_cost, final_cost, known_in, cost_in, is_final_in}
+use Rattle.pb_estimate.proofs.Rounds.{count_is_small}
 
 -- the atoms from one place of the queue to another
 abbrev pub part : (queue : List ℕ) → (first reached : ℕ) → List ℕ
@@ -17,6 +18,11 @@ part_long : (queue : List ℕ) (first reached : ℕ) → first ≤ reached → r
 part_long queue first reached le room = let e : length (part queue first reached) ≡ min (reached - first) (length (drop first queue)) = length-take (reached - first) (drop first queue) in
     let rest : length (drop first queue) ≡ length queue - first = length-drop first queue in
     omega arith
+
+-- what was reached has a place
+pub at_place : (costs : List AtomCost) (queue : List ℕ) (reached at : ℕ) → length queue ≡ length costs → reached ≡ count (λ atom. is_some (cost_in costs atom)) (length costs) → at < reached → at < length queue
+at_place costs queue reached at places many less =
+    let few : count (λ atom. is_some (cost_in costs atom)) (length costs) ≤ length costs = count_is_small (λ atom. is_some (cost_in costs atom)) (length costs) in omega (arith, places, many, less, few)
 
 module _ (costs : List AtomCost) (queue : List ℕ) (first reached : ℕ) (le : first ≤ reached) (room : reached ≤ length queue) where
   pub part_inside : ((k : ℕ) → k < reached → get_or queue k 0 < length costs) → All (λ atom. atom < length costs) (part queue first reached)

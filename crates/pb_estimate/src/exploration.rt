@@ -101,6 +101,8 @@ pub struct Exploration {
     pub first: usize,
     /// How many atoms were reached.
     pub reached: usize,
+    /// Where the next atom of the current level is looked for: a hint, on which no proof depends.
+    pub cursor: usize,
 }
 
 // Whether a cost is final.
@@ -111,6 +113,17 @@ fn is_final(cost: AtomCost) -> bool
         AtomCost::Final(_) => true,
         AtomCost::Unreached => false,
         AtomCost::Open(_) => false,
+    }
+}
+
+// Whether a cost is open, and this one.
+fn is_open_at(cost: AtomCost, level: u32) -> bool
+    ensures { result ≡ true → cost ≡ Open level }
+{
+    match cost {
+        AtomCost::Open(known) => known == level,
+        AtomCost::Unreached => false,
+        AtomCost::Final(_) => false,
     }
 }
 
@@ -163,6 +176,7 @@ impl Exploration {
             queue: vec![in alloc; 0; count]?,
             first: 0,
             reached: 0,
+            cursor: 0,
         })
     }
 
@@ -176,6 +190,7 @@ impl Exploration {
         self.costs.fill(CostWord::unreached());
         self.first = 0;
         self.reached = 0;
+        self.cursor = 0;
     }
 
     /// Begins anew at a state: the atoms that hold cost nothing, and no other is reached.
@@ -257,6 +272,67 @@ impl Exploration {
         first
     }
 
+    // The first place from the cursor on of an atom whose cost is open and this one.
+    fn place_of(&self, level: u32) -> Option<usize>
+        requires is { IsExploration self.now }
+        ensures inside { IfSome result (λ at. at < self.now.reached) }
+        ensures is { IfSome result (λ at. known_in self.now.costs.items
+            (slice_index self.now.queue.items at) ≡ Open level) }
+    {
+        let queue = self.queue.as_slice();
+        let costs = self.costs.as_slice();
+        for at in self.cursor..self.reached {
+            if is_open_at(costs[queue[at] as usize].read(), level) {
+                return Some(at);
+            }
+        }
+        None
+    }
+
+    // Makes the cost of the atom at a place final, which is `level`. Later atoms are looked for
+    // behind it.
+    fn take(&mut self, at: usize, level: u32) -> (u16, u32)
+        requires is { IsExploration self.old }
+        requires level { OpensAreFrom level self.old.costs.items }
+        requires at { at < self.old.reached }
+        requires open { known_in self.old.costs.items (slice_index self.old.queue.items at)
+            ≡ Open level }
+        ensures is { IsExploration self.new }
+        ensures long { length self.new.costs.items ≡ length self.old.costs.items }
+        ensures least { IsLeastOpen self.old.costs.items result.0 result.1 }
+        ensures made { self.new.costs.items
+            ≡ slice_set self.old.costs.items result.0 (Final result.1) }
+    {
+        let atom = self.queue[at];
+        let open = self.costs[atom as usize];
+        self.costs[atom as usize] = open.as_final();
+        self.cursor = at + 1;
+        (atom, level)
+    }
+
+    // Makes the least cost that is open, with its atom, final. It is a new level, if no atom from the
+    // cursor on has the last one.
+    fn next_level(&mut self, level: u32) -> Option<(u16, u32)>
+        requires is { IsExploration self.old }
+        requires level { OpensAreFrom level self.old.costs.items }
+        ensures is { IsExploration self.new }
+        ensures long { length self.new.costs.items ≡ length self.old.costs.items }
+        ensures least { IfSome result (λ found. IsLeastOpen self.old.costs.items found.0 found.1) }
+        ensures made { IfSome result (λ found. self.new.costs.items
+            ≡ slice_set self.old.costs.items found.0 (Final found.1)) }
+        ensures none { IfNone result ((atom cost : ℕ) → known_in self.old.costs.items atom
+            ≡ Open cost → ⊥) }
+    {
+        self.first = self.first_open();
+        // Atoms of a level stand anywhere behind the first open one.
+        self.cursor = self.first;
+        let queue = &self.queue.as_slice()[self.first..self.reached];
+        let (atom, cost) = least(self.costs.as_slice(), queue, level)?;
+        let open = self.costs[atom as usize];
+        self.costs[atom as usize] = open.as_final();
+        Some((atom, cost))
+    }
+
     /// Makes the least cost that is open, with its atom, final. No open cost is less than `level`.
     pub fn next(&mut self, level: u32) -> Option<(u16, u32)>
         requires is { IsExploration self.old }
@@ -269,11 +345,10 @@ impl Exploration {
         ensures none { IfNone result ((atom cost : ℕ) → known_in self.old.costs.items atom
             ≡ Open cost → ⊥) }
     {
-        self.first = self.first_open();
-        let queue = &self.queue.as_slice()[self.first..self.reached];
-        let (atom, cost) = least(self.costs.as_slice(), queue, level)?;
-        let open = self.costs[atom as usize];
-        self.costs[atom as usize] = open.as_final();
-        Some((atom, cost))
+        match self.place_of(level) {
+            // No open cost is less, so no other atom need be looked at.
+            Some(at) => Some(self.take(at, level)),
+            None => self.next_level(level),
+        }
     }
 }

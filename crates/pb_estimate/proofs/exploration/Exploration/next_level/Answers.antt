@@ -7,7 +7,7 @@ use Rattle.pb_estimate.specs.Exploring.{known_cost, final_cost, known_in}
 use Rattle.pb_estimate.proofs.Least.{IsNoMore, HasNone}
 use Rattle.pb_estimate.proofs.Lowered.{same_length, changed}
 use Rattle.pb_estimate.proofs.Queue.{part, part_inside, open_in_part}
-use Rattle.pb_estimate.proofs.exploration.Exploration.next.Goals as goal
+use Rattle.pb_estimate.proofs.exploration.Exploration.next_level.Goals as goal
 
 pub least-requires-clause-inside : goal.least-requires-clause-inside
 least-requires-clause-inside c =
