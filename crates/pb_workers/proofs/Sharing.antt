@@ -53,7 +53,7 @@ HasNoOff events = list_any is_off events ≡ false
 -- ---- the same holder
 
 pub holder_self : (v : View) → IsSameHolder v v
-holder_self v = record { worker = refl; taken_in = refl; made = refl; task = refl; abstraction = refl; choice = refl; settings = refl; begin = refl }
+holder_self v = record { worker = refl; taken_in = refl; made = refl; task = refl; abstraction = refl; choice = refl; settings = refl; begin = refl; left_order = refl }
 
 pub holder_then : (old mid new : View) → IsSameHolder old mid → IsSameHolder mid new → IsSameHolder old new
 holder_then old mid new one two = record {
@@ -65,13 +65,14 @@ holder_then old mid new one two = record {
   choice = two.choice ∙ one.choice;
   settings = two.settings ∙ one.settings;
   begin = two.begin ∙ one.begin;
+  left_order = two.left_order ∙ one.left_order;
 }
 
 -- ---- a pass that held the graph
 
 module _ (step : GraphValue → GraphValue → Type 0) (list : GraphValue → List Event) (old : View) (lent : Option LeaseValue) (told : Option ℕ) (new : View) (h : Holds step list old lent told new) where
   pub holder : IsSameHolder old new
-  holder = subst (λ (v : View). IsSameHolder old v) (sym h.view) record { worker = refl; taken_in = refl; made = refl; task = refl; abstraction = refl; choice = refl; settings = refl; begin = refl }
+  holder = subst (λ (v : View). IsSameHolder old v) (sym h.view) record { worker = refl; taken_in = refl; made = refl; task = refl; abstraction = refl; choice = refl; settings = refl; begin = refl; left_order = refl }
 
   lent_is : new.lent ≡ lent
   lent_is = ap (λ (v : View). v.lent) h.view
@@ -92,7 +93,7 @@ module _ (step : GraphValue → GraphValue → Type 0) (list : GraphValue → Li
 
 module _ (old between : View) (r : HasRead old between) where
   pub read_holder : IsSameHolder old between
-  read_holder = subst (λ (v : View). IsSameHolder old v) (sym r.view) record { worker = refl; taken_in = refl; made = refl; task = refl; abstraction = refl; choice = refl; settings = refl; begin = refl }
+  read_holder = subst (λ (v : View). IsSameHolder old v) (sym r.view) record { worker = refl; taken_in = refl; made = refl; task = refl; abstraction = refl; choice = refl; settings = refl; begin = refl; left_order = refl }
 
   read_active : IsActive old → IsActive between
   read_active stays = subst (λ (v : View). IsActive v) (sym r.view) stays
@@ -211,6 +212,7 @@ module _ (task : TaskParts) (abstraction : AbstractGraph) (view : View) (live : 
       choice = still.choice;
       settings = still.settings;
       begin = still.begin;
+      left_order = still.left_order;
     }
 
     pub work_active : IsActive new
@@ -244,7 +246,7 @@ module _ (task : TaskParts) (abstraction : AbstractGraph) (view : View) (live : 
         same = of_new.from.same;
         weights = scope.weights;
         work = of_new.from.work;
-        turns = of_new.from.turns;
+        turns = λ order. of_new.from.turns;
         copy = of_new.copy;
         told = of_new.shown;
       }
@@ -268,7 +270,7 @@ module _ (old : View) (most_broken : ℕ) (lease : LeaseValue) (b : IsBrought ol
         same = b.same;
         weights = b.weights;
         work = stays.0;
-        turns = subst (λ (works : List Work). AreLeaseTurns (space_of old.task) (guide_of old.task old.abstraction old.choice) works (leased_store b.lent)) (sym stays.1) b.turns;
+        turns = λ order. subst (λ (works : List Work). AreLeaseTurns (space_of old.task) (guide_of old.task old.abstraction old.choice) works (leased_store b.lent)) (sym stays.1) (b.turns order);
         copy = b.copy;
         told = b.told;
       }
@@ -332,7 +334,7 @@ module _ (task : TaskParts) (abstraction : AbstractGraph) (old new : View) (of_t
     (switches : Switches worked old (Switched next) new) where
   pub switched_holder : IsSameHolder old new
   switched_holder = holder_then old switches.0 new (read_holder old switches.0 switches.1) (subst (λ (v : View). IsSameHolder switches.0 v) (sym switches.2.view)
-      record { worker = refl; taken_in = refl; made = refl; task = refl; abstraction = refl; choice = refl; settings = refl; begin = refl })
+      record { worker = refl; taken_in = refl; made = refl; task = refl; abstraction = refl; choice = refl; settings = refl; begin = refl; left_order = refl })
 
   pub switched_then : IsLeased task abstraction new next
   switched_then = record {

@@ -1,6 +1,7 @@
 -- Workers that search together: how their passes are split and meet again.
-use Rattle.std.proofs.Common.{◌≡◌, ℕ, true, is_some, [], ◌∷◌, suc, refl, sym, ap, ◌∙◌, arith, subst}
+use Rattle.std.proofs.Common.{◌≡◌, ℕ, true, is_some, List, [], ◌∷◌, ◌++◌, suc, refl, sym, ap, ◌∙◌, arith, subst}
 use Rattle.std.specs.List.{list_any, AllByRecursion}
+use Rattle.std.proofs.lemmas.List.{append-nil}
 use Rattle.pb_machine.specs.History.{is_off}
 use Rattle.pb_machine.specs.Views.{Share}
 use Rattle.pb_machine.proofs.Callers.{all_append}
@@ -41,7 +42,7 @@ module _ (task : TaskParts) (abstraction : AbstractGraph) (v : View) where
   }
 
 pub search_of : (v u : View) → IsSameHolder v u → KeepsSearch v u
-search_of v u same = record { task = same.task; abstraction = same.abstraction; choice = same.choice; settings = same.settings; begin = same.begin }
+search_of v u same = record { task = same.task; abstraction = same.abstraction; choice = same.choice; settings = same.settings; begin = same.begin; left_order = same.left_order }
 
 -- the first pass and those that it took in, of workers that have signed off, take in another such pass
 module _ (v split all next other met : View) (split_is : split ≡ split_view v) (keeps : KeepsSearch split all) (offs : AllSignedOff all) (next_is : next ≡ next_pass_view v) (same : IsSameHolder next other)
@@ -53,6 +54,8 @@ module _ (v split all next other met : View) (split_is : split ≡ split_view v)
     choice = keeps.choice ∙ ap (λ (w : View). w.choice) split_is;
     settings = keeps.settings ∙ ap (λ (w : View). w.settings) split_is;
     begin = keeps.begin ∙ ap (λ (w : View). w.begin) split_is;
+    left_order = ap (λ (l : List ℕ). all.left_order ++ l) (same.left_order ∙ ap (λ (w : View). w.left_order) next_is) ∙ append-nil all.left_order
+        ∙ keeps.left_order ∙ ap (λ (w : View). w.left_order) split_is;
   }
 
   none_made : other.journal.made ≡ 0

@@ -26,7 +26,7 @@ reads v new read falls is = subst (λ (u : View). HasRead (watch_view v) read (w
 }
 
 pub still_after_read : (v new : View) (read : Option ℕ) → new ≡ view_read None v read → KeepsLease v new
-still_after_read v new read is = subst (λ (u : View). KeepsLease v u) (sym is) record { journal = refl; lent = refl; task = refl; abstraction = refl; choice = refl; settings = refl; begin = refl }
+still_after_read v new read is = subst (λ (u : View). KeepsLease v u) (sym is) record { journal = refl; lent = refl; task = refl; abstraction = refl; choice = refl; settings = refl; begin = refl; left_order = refl }
 
 -- ---- a lowering
 
@@ -54,4 +54,4 @@ tells v new cost is = subst (λ (u : View). HasTold (watch_view v) cost (watch_v
 }
 
 pub still_after_telling : (v new : View) (cost : ℕ) → new ≡ view_told v cost → KeepsLease v new
-still_after_telling v new cost is = subst (λ (u : View). KeepsLease v u) (sym is) record { journal = refl; lent = refl; task = refl; abstraction = refl; choice = refl; settings = refl; begin = refl }
+still_after_telling v new cost is = subst (λ (u : View). KeepsLease v u) (sym is) record { journal = refl; lent = refl; task = refl; abstraction = refl; choice = refl; settings = refl; begin = refl; left_order = refl }

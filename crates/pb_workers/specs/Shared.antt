@@ -9,7 +9,7 @@ use Rattle.pb_yard.specs.Rule.{IsAt}
 use Rattle.pb_yard.specs.Calls.{IsActive, AsksRival, Marks}
 
 -- The pass is of the same worker in the same search, has taken in the same passes, and has made as
--- many.
+-- many. No worker left the order.
 pub record IsSameHolder (old new : View) : Type 0 where
   pub worker : new.journal.own.worker ≡ old.journal.own.worker
   pub taken_in : new.journal.taken_in ≡ old.journal.taken_in
@@ -19,6 +19,7 @@ pub record IsSameHolder (old new : View) : Type 0 where
   pub choice : new.choice ≡ old.choice
   pub settings : new.settings ≡ old.settings
   pub begin : new.begin ≡ old.begin
+  pub left_order : new.left_order ≡ old.left_order
 
 -- The search is for this task by these blocks of its own. The pass's worker has no lease and has
 -- not signed off.

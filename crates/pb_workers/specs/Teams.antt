@@ -13,10 +13,12 @@ pub record IsToSplit (task : TaskParts) (abstraction : AbstractGraph) (more : �
     pub none_taken_in : view.journal.taken_in ≡ []
     pub more_is : view.journal.made + more ≡ view.settings.workers
 
--- it is the same search: the same task, by the same blocks, with the same estimate and settings
+-- It is the same search: the same task, by the same blocks, with the same estimate and settings. No
+-- worker left the order.
 pub record KeepsSearch (old new : View) : Type 0 where
   pub task : new.task ≡ old.task
   pub abstraction : new.abstraction ≡ old.abstraction
   pub choice : new.choice ≡ old.choice
   pub settings : new.settings ≡ old.settings
   pub begin : new.begin ≡ old.begin
+  pub left_order : new.left_order ≡ old.left_order

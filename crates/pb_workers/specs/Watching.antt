@@ -34,6 +34,7 @@ pub record KeepsLease (old new : View) : Type 0 where
   pub choice : new.choice ≡ old.choice
   pub settings : new.settings ≡ old.settings
   pub begin : new.begin ≡ old.begin
+  pub left_order : new.left_order ≡ old.left_order
 
 -- It is the same yard and the same pass, which has the same lease.
 pub record IsSameWatch (old new : YardWatch) : Type 0 where
@@ -55,6 +56,7 @@ same_watch watch =
         choice = refl;
         settings = refl;
         begin = refl;
+        left_order = refl;
       };
     }
 
@@ -78,5 +80,6 @@ same_watch_on old mid new one two =
         choice = two.lease.choice ∙ one.lease.choice;
         settings = two.lease.settings ∙ one.lease.settings;
         begin = two.lease.begin ∙ one.lease.begin;
+        left_order = two.lease.left_order ∙ one.lease.left_order;
       };
     }

@@ -1,6 +1,7 @@
 -- What proofs of other crates may cite. All else in proofs/ is private to this crate.
 pub use Rattle.pb_yard.proofs.Causes.{block_known, brought_opened, none_here, none_left}
 pub use Rattle.pb_yard.proofs.Causes.{cannot_go_on, still_first}
+pub use Rattle.pb_yard.proofs.Closing.{closed_in_order}
 pub use Rattle.pb_yard.proofs.Few.{runs_are_short}
 pub use Rattle.pb_yard.proofs.InTime.{GrantsNone, end_grants_none, ending_grants_none}
 pub use Rattle.pb_yard.proofs.InTime.{events_of_moves, in_time_events, in_time_is_run, in_time_on}

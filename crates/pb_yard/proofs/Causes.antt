@@ -90,10 +90,16 @@ module _ (old : GraphValue) (lease : LeaseValue) (new : GraphValue) (noted : Not
       subst (λ (c : Counts). IsChoiceWithHome old lease new (Some block) ↔ IsFirstChoice (blocks old.table) old.table.settings (counts_with_lease_home c lease.worker lease.used) next.store block)
       (sym m.counts) both
 
+  -- so the block that is chosen by the keys is the first choice
+  pub first_with_home : (before after : (worker : ℕ) → Rows) (machine next : Machine) → IsMomentAt old before machine → IsMomentAt new after next → (block : ℕ)
+      → IsChoiceWithHome old lease new (Some block)
+      → IsFirstChoice (blocks old.table) old.table.settings (counts_with_lease_home machine.counts lease.worker lease.used) next.store block
+  first_with_home before after machine next m at block choice = (by_rows before after machine next m at block).0 choice
+
   pub still_first : (before after : (worker : ℕ) → Rows) (machine next : Machine) → IsMomentAt old before machine → IsMomentAt new after next
       → IsChoiceWithHome old lease new (Some lease.block)
       → IsFirstChoice (blocks old.table) old.table.settings (counts_with_lease_home machine.counts lease.worker lease.used) next.store lease.block
-  still_first before after machine next m at choice = (by_rows before after machine next m at lease.block).0 choice
+  still_first before after machine next m at choice = first_with_home before after machine next m at lease.block choice
 
   -- a lease that doesn't go on can't: its block isn't the first choice, or its room is used up
   pub cannot_go_on : (before after : (worker : ℕ) → Rows) (machine next : Machine) → IsMomentAt old before machine → IsMomentAt new after next

@@ -27,7 +27,7 @@ use Rattle.pb_lease.specs.Choices.{IsOver, IsToWait}
 use Rattle.pb_lease.specs.Moments.{moves_of}
 use Rattle.pb_lease.specs.Steps.{IsLeased, LeasesNext, IsEnded, end_events, KeepsLeases, IsMarked, GoesOn, ChoosesByRows, IsRenewed, RenewsNext, IsReleased, ReleasesNext, GoesOver, ComesBack, ChoosesAnyByRows, IsSwitched, SwitchesNext}
 use Rattle.pb_yard.specs.declared.view.View.{View}
-use Rattle.pb_yard.specs.Views.{cost_of, view_then, view_left}
+use Rattle.pb_yard.specs.Views.{cost_of, view_then, view_left, view_leaving_order, keeps_order, KeepsOrder}
 use Rattle.pb_yard.specs.Order.{HasCause, HasStopped}
 use Rattle.pb_yard.specs.Rule.{rows_of, YardFact, IsYard}
 use Rattle.pb_yard.specs.Replies.{NoneMayBeLeased, LeasesAs, lease_events, lent_by, told_by, RenewsAs, renewal_events, kept_by, SwitchesAs, switch_moves, switched_by, ReleasesAs, release_events, ChangesMarkAs, mark_events, SignsOffAs, reported, off_events}
@@ -134,16 +134,16 @@ module _ (x y : GraphValue) (v : View) (live : v.journal.is_live ≡ true) where
   may_lease is_last read_at (Over end) is = keeps (end_events x.table.end end) (plain_timely x (end_events x.table.end end) (end_grants_none x.table.end end)) (end_rooms (rooms x.table) x.table.end end ∙ sym is.1.room) is.1.events is.1.rest is.2 (end_by Own x.table.end end)
   may_lease is_last read_at Memory is = stays is.2
 
-  pub may_renew : x.incumbent ≡ v.last → v.read_at ≡ Some (length x.table.journal) → (lease : LeaseValue) (reply : Renewed) → lease.used ≡ lease.quota → length x.homes.keys ≡ (blocks x.table).count → IsBrought v 0 lease → RenewsAs lease reply x y → MayGo x y v live (renewal_events lease reply) (kept_by reply) None
+  pub may_renew : x.incumbent ≡ v.last → v.read_at ≡ Some (length x.table.journal) → (lease : LeaseValue) (reply : Renewed) → (KeepsOrder v → lease.used ≡ lease.quota) → length x.homes.keys ≡ (blocks x.table).count → IsBrought v 0 lease → RenewsAs lease reply x y → MayGo x y v live (renewal_events lease reply) (kept_by reply) None
   may_renew is_last read_at lease (Kept kept) spent places b is number views seat h at = renew_step x y (cost_of number) views seat v h at live lease kept spent places b is_last read_at is.1 is.0 is.3
   may_renew is_last read_at lease Given spent places b is number views seat h at =
-      release_step x y (cost_of number) views seat v h at live lease false (inr (spent, places, is.0)) b is_last is.1 is.3
+      release_step x y (cost_of number) views seat v h at live lease false (λ order. inr (spent order, places, is.0)) b is_last is.1 is.3
 
   -- a lease that goes on has a row of its block that is Opened, so its quota is used up
-  pub may_switch : x.incumbent ≡ v.last → v.read_at ≡ Some (length x.table.journal) → (lease : LeaseValue) (reply : SwitchReply) → HasStopped lease → length x.homes.keys ≡ (blocks x.table).count → IsBrought v 0 lease → SwitchesAs lease reply x y
+  pub may_switch : x.incumbent ≡ v.last → v.read_at ≡ Some (length x.table.journal) → (lease : LeaseValue) (reply : SwitchReply) → (KeepsOrder v → HasStopped lease) → length x.homes.keys ≡ (blocks x.table).count → IsBrought v 0 lease → SwitchesAs lease reply x y
       → MayGoBy x y v live (journal_of (switch_moves lease reply)) (switch_moves lease reply) (switched_by reply) None
   may_switch is_last read_at lease (switch.Kept kept) cause places b is number views seat h at =
-      renew_step x y (cost_of number) views seat v h at live lease kept (spent cause) places b is_last read_at is.1 is.0 is.3
+      renew_step x y (cost_of number) views seat v h at live lease kept (λ order. spent (cause order)) places b is_last read_at is.1 is.0 is.3
     where
       spent : HasStopped lease → lease.used ≡ lease.quota
       spent (inl used) = used
@@ -151,14 +151,14 @@ module _ (x y : GraphValue) (v : View) (live : v.journal.is_live ≡ true) where
           (brought_of_graph x x (cost_of number) views seat v h at live 0 lease b) (λ w. rows_of (h.lent w)) h.machine h.moment none))
   may_switch is_last read_at lease (switch.Switched next) cause places b is number views seat h at =
       switch_step x y (cost_of number) views seat v h at live lease next cause places b is_last read_at is.0 is.1 is.3
-  may_switch is_last read_at lease switch.Given cause places b is number views seat h at = release_step x y (cost_of number) views seat v h at live lease false (why cause) b is_last is.1 is.3
+  may_switch is_last read_at lease switch.Given cause places b is number views seat h at = release_step x y (cost_of number) views seat v h at live lease false (λ order. why (cause order)) b is_last is.1 is.3
     where
       why : HasStopped lease → MayReturn x y lease false
       why (inl used) = inr (used, places, back_stays_not x lease y is.0)
       why (inr none) = inl none
 
-  pub may_release : x.incumbent ≡ v.last → (lease : LeaseValue) (memory : Bool) → HasCause lease memory → IsBrought v (one_if memory) lease → ReleasesAs lease memory x y → MayGo x y v live (release_events lease memory x) None None
-  may_release is_last lease memory cause b is number views seat h at = release_step x y (cost_of number) views seat v h at live lease memory (may_cause x y lease memory cause) b is_last is.0 is.1
+  pub may_release : x.incumbent ≡ v.last → (lease : LeaseValue) (memory : Bool) → (KeepsOrder v → HasCause lease memory) → IsBrought v (one_if memory) lease → ReleasesAs lease memory x y → MayGo x y v live (release_events lease memory x) None None
+  may_release is_last lease memory cause b is number views seat h at = release_step x y (cost_of number) views seat v h at live lease memory (λ order. may_cause x y lease memory (cause order)) b is_last is.0 is.1
 
   pub may_mark : (may : Type 0) (event : Event) (done : Bool) → GrantsNone (event ∷ []) → ((room : ℕ → ℕ) → room_with room event ≡ with_entry room Own (room Own - 1)) → AreBy Own (event ∷ []) → ChangesMarkAs may Own event done x y → MayGo x y v live (mark_events event done) v.lent v.told
   may_mark may event true none takes by is = keeps (event ∷ []) (plain_timely x (event ∷ []) none) (takes (rooms x.table) ∙ sym is.1.room) is.1.events is.1.rest is.2 by

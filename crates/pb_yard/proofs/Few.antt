@@ -16,7 +16,7 @@ use Rattle.pb_machine.specs.Room.{leases_in, no_room, room_moved}
 use Rattle.pb_machine.specs.History.{AreFinished}
 use Rattle.pb_machine.specs.Machine.{Setup, IsSetup, Machine, opening_machine, lent_store, CameBack, Happens, Move, event_move, tell_move, switch_move, Moves, journal_of}
 use Rattle.pb_machine.specs.Lawful.{broken_leases, IsLawful}
-use Rattle.pb_yard.specs.Order.{IsTimely, settled_after, RunsSettled}
+use Rattle.pb_yard.specs.Order.{IsTimely, settled_after, RunsSettled, all_keep}
 use Rattle.pb_machine.proofs.Callers.{entry_here, entry_else, sum_with_entry, none_counted, passes, none_leased, within, some_is, opening_is_lawful, moves_keep_lawful, runs_are_lawful, scopes_are_apart, journals_are_histories, journals_are_short, broken_more, works_there}
 use Rattle.pb_yard.specs.Length.{leases_out, most_leases, LeasesAreFew, RunsAreShort}
 use Rattle.pb_yard.proofs.InTime.{in_time_is_run}
@@ -245,7 +245,7 @@ module _ (p : Setup) (greatest_cost : ℕ) (is : IsSetup p greatest_cost) where
   one_and_more (tell_move worker cost) moves = omega arith
   one_and_more (switch_move worker used block quota) moves = omega arith
 
-  runs : (room : ℕ → ℕ) (moves : List Move) (old : Machine) (settled : Option ℕ) (new : Machine) (later : Option ℕ) (given : ℕ) → IsLawful p old → RunsSettled p room old settled moves new later → IsPaid old given → IsPaid new (given + leases_in (journal_of moves))
+  runs : (room : ℕ → ℕ) (moves : List Move) (old : Machine) (settled : Option ℕ) (new : Machine) (later : Option ℕ) (given : ℕ) → IsLawful p old → RunsSettled p all_keep room old settled moves new later → IsPaid old given → IsPaid new (given + leases_in (journal_of moves))
   runs room [] old settled new later given l run was = subst (λ (m : Machine). IsPaid m (given + 0)) (sym run.0) (subst (IsPaid old) (omega arith) was)
   runs room (move ∷ moves) old settled new later given l run was =
       let first = moved room move old run.0 given l run.1 run.4 was in

@@ -1,10 +1,11 @@
 -- A call that holds the graph keeps the rule of the yard: the one lemma for all calls.
-use Rattle.std.proofs.Common.{◌≡◌, ◌≢◌, ℕ, ◌==◌, true, false, List, [], ◌++◌, map, set, Option, Some, None, refl, sym, ap, ◌∙◌, subst}
+use Rattle.std.proofs.Common.{◌≡◌, ◌≢◌, ℕ, ◌==◌, Bool, true, false, ◌&&◌, List, [], ◌++◌, map, set, Option, Some, None, refl, sym, ap, ◌∙◌, subst, true≢false}
+use Rattle.std.proofs.lemmas.Bool.{not-false}
 use mathlib.Core.Option.{some}
 use lib.ListN.{get_elem?}
 use Rattle.pb_turn.proofs.Callers.{each_set, put_there, map_set}
 use Rattle.pb_model.specs.Store.{Rows, AtMost}
-use Rattle.pb_model.proofs.Callers.{by_cases, equal, equal_self, equal_swap}
+use Rattle.pb_model.proofs.Callers.{and_true, by_cases, equal, equal_self, equal_swap}
 use Rattle.pb_task.specs.Parts.{greatest_cost}
 use Rattle.pb_machine.specs.declared.event.Event.{Event}
 use Rattle.pb_machine.specs.declared.event.Grant.{Grant}
@@ -23,19 +24,19 @@ use Rattle.pb_lease.specs.GraphValue.{GraphValue, setup_in}
 use Rattle.pb_lease.specs.Moments.{FollowsBy}
 use Rattle.pb_lease.specs.Begins.{begin_machine}
 use Rattle.pb_yard.specs.declared.view.View.{View}
-use Rattle.pb_yard.specs.Views.{view_then}
+use Rattle.pb_yard.specs.Views.{view_then, has_left, keeps_order}
 use Rattle.pb_yard.specs.Order.{RunsSettled}
-use Rattle.pb_yard.specs.Rule.{rows_of, grant_in, journal_view, IsLent, IsKnownTo, IsViewOf, IsRecent, HasNoPass, IsYard}
-use Rattle.pb_yard.proofs.InTime.{rooms_on, settled_on}
-use Rattle.pb_yard.proofs.Parts.{GoesOnAs, setup_same, run_same, search_same, still_of_graph, moment_where_leased, at_journal, workers_differ, no_pass_before, unread_recent, recent_stays}
+use Rattle.pb_yard.specs.Rule.{rows_of, grant_in, journal_view, IsLent, IsKnownTo, IsViewOf, IsRecent, HasNoPass, HasLeaver, IsYard}
+use Rattle.pb_yard.proofs.InTime.{rooms_on, settled_fewer, settled_on}
+use Rattle.pb_yard.proofs.Parts.{GoesOnAs, setup_same, run_same, search_same, still_of_graph, moment_where_leased, at_journal, workers_differ, no_pass_before, unread_recent, recent_stays, leaver_same}
 
 -- From the graph x at a moment of the rule these moves, with these events, of one pass's worker, or of nobody, lead to
--- y.
-pub record IsStep (x y : GraphValue) (machine next : Machine) (settled last : Option ℕ) (worker : ℕ) (events : List Event) (made : List Move) (lent_to : ℕ → Option LeaseValue) (lent : Option LeaseValue) (told : Option ℕ) : Type 0 where
+-- y. The moves are in order and in time for any workers, but for this one if it isn't in order.
+pub record IsStep (x y : GraphValue) (machine next : Machine) (settled last : Option ℕ) (worker : ℕ) (in_order : Bool) (events : List Event) (made : List Move) (lent_to : ℕ → Option LeaseValue) (lent : Option LeaseValue) (told : Option ℕ) : Type 0 where
   pub recorded : ℕ → Rows
   pub follows : FollowsBy x machine made y recorded next
   pub later : Option ℕ
-  pub in_time : RunsSettled (setup_in x) (rooms x.table) machine settled made next later
+  pub in_time : (keeps : ℕ → Bool) → (keeps worker ≡ true → in_order ≡ true) → RunsSettled (setup_in x) keeps (rooms x.table) machine settled made next later
   pub rooms_then : rooms_after (rooms x.table) made ≡ rooms y.table
   pub events_are : journal_of made ≡ events
   pub still : events ≡ [] → later ≡ settled
@@ -51,7 +52,7 @@ pub record IsStep (x y : GraphValue) (machine next : Machine) (settled last : Op
 
 module _ (x y : GraphValue) (shared later : Option ℕ) (views : List View) (seat : ℕ) (v : View) (events : List Event) (made : List Move) (lent : Option LeaseValue) (told : Option ℕ)
     (h : IsYard x shared views) (at : get_elem? views seat ≡ some v) (live : v.journal.is_live ≡ true)
-    (next : Machine) (s : IsStep x y h.machine next h.settled v.last v.journal.own.worker events made h.lent lent told) (shared_is : next.store.incumbent ≡ later) where
+    (next : Machine) (s : IsStep x y h.machine next h.settled v.last v.journal.own.worker (keeps_order v v.journal.own.worker) events made h.lent lent told) (shared_is : next.store.incumbent ≡ later) where
   abbrev Own : ℕ
   Own = v.journal.own.worker
 
@@ -71,9 +72,37 @@ module _ (x y : GraphValue) (shared later : Option ℕ) (views : List View) (sea
       → (next.counts.leases other ≡ h.machine.counts.leases other) × (next.given other ≡ h.machine.given other) × (next.told other ≡ h.machine.told other)
   left other else = others_are_left (setup_in x) made h.machine next other s.follows.moves (s.theirs other else)
 
-  run : RunsSettled (setup_in x) no_room (begin_machine h.begin) h.begin.incumbent (h.moves ++ made) next s.later
-  run = settled_on (setup_in x) no_room h.moves made (begin_machine h.begin) h.machine next h.begin.incumbent h.settled s.later h.run
-      (subst (λ (r : ℕ → ℕ). RunsSettled (setup_in x) r h.machine h.settled made next s.later) (sym h.rooms_are) s.in_time)
+  -- who keeps the order after the step
+  abbrev Keeps : ℕ → Bool
+  Keeps = with_entry h.keeps Own (h.keeps Own && keeps_order v Own)
+
+  keeps_own : Keeps Own ≡ (h.keeps Own && keeps_order v Own)
+  keeps_own = entry_here h.keeps Own Own (h.keeps Own && keeps_order v Own) (equal_self Own)
+
+  kept_before : (worker : ℕ) → Keeps worker ≡ true → h.keeps worker ≡ true
+  kept_before worker keeps = by_cases (worker == Own)
+      (λ e. ap h.keeps (equal worker Own e) ∙ (and_true (h.keeps Own) (keeps_order v Own) (sym (entry_here h.keeps Own worker (h.keeps Own && keeps_order v Own) e) ∙ keeps)).0)
+      (λ e. sym (entry_else h.keeps Own worker (h.keeps Own && keeps_order v Own) e) ∙ keeps)
+
+  run : RunsSettled (setup_in x) Keeps no_room (begin_machine h.begin) h.begin.incumbent (h.moves ++ made) next s.later
+  run = settled_on (setup_in x) Keeps no_room h.moves made (begin_machine h.begin) h.machine next h.begin.incumbent h.settled s.later
+      (settled_fewer (setup_in x) h.keeps Keeps kept_before no_room h.moves (begin_machine h.begin) h.begin.incumbent h.machine h.settled h.run)
+      (subst (λ (r : ℕ → ℕ). RunsSettled (setup_in x) Keeps r h.machine h.settled made next s.later) (sym h.rooms_are)
+      (s.in_time Keeps (λ keeps. (and_true (h.keeps Own) (keeps_order v Own) (sym keeps_own ∙ keeps)).1)))
+
+  -- a worker that doesn't keep it left it, as some view says
+  leavers : (worker : ℕ) → Keeps worker ≡ false → HasLeaver worker (set views seat New)
+  leavers worker none = by_cases (worker == Own)
+      (λ e. subst (λ w. HasLeaver w (set views seat New)) (sym (equal worker Own e)) (own (h.keeps Own) refl (keeps_order v Own) refl (sym keeps_own ∙ ap Keeps (sym (equal worker Own e)) ∙ none)))
+      (λ e. before worker (sym (entry_else h.keeps Own worker (h.keeps Own && keeps_order v Own) e) ∙ none))
+    where
+      before : (worker : ℕ) → h.keeps worker ≡ false → HasLeaver worker (set views seat New)
+      before worker none = leaver_same views seat v New at live refl worker (h.leavers worker none)
+
+      own : (kept : Bool) → h.keeps Own ≡ kept → (order : Bool) → keeps_order v Own ≡ order → (h.keeps Own && keeps_order v Own) ≡ false → HasLeaver Own (set views seat New)
+      own false kept order is none = before Own kept
+      own true kept false is none = (seat, New, here, live, not-false (has_left v Own) is)
+      own true kept true is none = absurd (true≢false (sym (ap (λ r. r && keeps_order v Own) kept ∙ is) ∙ none))
 
   journal : journal_of (h.moves ++ made) ≡ y.table.journal
   journal = (runs_go_on (setup_in x) h.moves made (begin_machine h.begin) h.machine next).2
@@ -147,7 +176,9 @@ module _ (x y : GraphValue) (shared later : Option ℕ) (views : List View) (sea
     machine = next;
     lent = Lent;
     settled = s.later;
-    run = subst (λ (t : Setup). RunsSettled t no_room (begin_machine h.begin) h.begin.incumbent (h.moves ++ made) next s.later) (sym setup) run;
+    keeps = Keeps;
+    run = subst (λ (t : Setup). RunsSettled t Keeps no_room (begin_machine h.begin) h.begin.incumbent (h.moves ++ made) next s.later) (sym setup) run;
+    leavers = leavers;
     journal = journal;
     rooms_are = rooms_on no_room h.moves made ∙ ap (λ (r : ℕ → ℕ). rooms_after r made) h.rooms_are ∙ s.rooms_then;
     moment = moment_where_leased y s.recorded (λ other. rows_of (Lent other)) next s.records s.follows.moment;
@@ -162,6 +193,6 @@ module _ (x y : GraphValue) (shared later : Option ℕ) (views : List View) (sea
     others = others;
   }
 
-  pub holding_keeps : (after : IsYard y later (set views seat New)) × RunsSettled (setup_in x) (rooms x.table) h.machine h.settled made after.machine after.settled
+  pub holding_keeps : (after : IsYard y later (set views seat New)) × RunsSettled (setup_in x) (keeps_order v) (rooms x.table) h.machine h.settled made after.machine after.settled
   unfolding held
-  holding_keeps = (held, s.in_time)
+  holding_keeps = (held, s.in_time (keeps_order v) (λ keeps. keeps))

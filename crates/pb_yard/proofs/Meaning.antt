@@ -29,7 +29,7 @@ use Rattle.pb_yard.proofs.InTime.{settled_is_run}
 
 module _ (g : GraphValue) (shared : Option ℕ) (views : List View) (yard : IsYard g shared views) where
   pub runs : Runs (setup_in g) (begin_machine yard.begin) yard.moves yard.machine
-  runs = settled_is_run (setup_in g) no_room yard.moves (begin_machine yard.begin) yard.begin.incumbent yard.machine yard.settled yard.run
+  runs = settled_is_run (setup_in g) yard.keeps no_room yard.moves (begin_machine yard.begin) yard.begin.incumbent yard.machine yard.settled yard.run
 
   -- what any worker can have read is at least the shared number
   pub known_above : (worker : ℕ) (incumbent : Option ℕ) → IsTrue (yard.machine.known worker incumbent) → AtMost shared incumbent

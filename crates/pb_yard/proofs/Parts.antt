@@ -5,6 +5,8 @@ use Rattle.std.proofs.lemmas.Option.{none-some}
 use mathlib.Core.Option.{some, some-injective}
 use lib.ListN.{get_elem?}
 use Rattle.atomic_table.proofs.Lists.{set_else, at_map}
+use Rattle.pb_turn.proofs.Callers.{put_there}
+use Rattle.std.specs.List.{list_any}
 use Rattle.pb_model.specs.Store.{Rows, AtMost}
 use Rattle.pb_model.proofs.Callers.{by_cases, equal, equal_self, not_both}
 use Rattle.pb_machine.specs.declared.event.Event.{Event}
@@ -21,7 +23,8 @@ use Rattle.pb_lease.specs.GraphValue.{GraphValue, setup_in, counts_in, IsOfGraph
 use Rattle.pb_lease.specs.Moments.{IsMomentAt}
 use Rattle.pb_lease.specs.Begins.{IsOfRun}
 use Rattle.pb_yard.specs.declared.view.View.{View}
-use Rattle.pb_yard.specs.Rule.{journal_view, IsSearchOf, IsRecent, HasNoPass}
+use Rattle.pb_yard.specs.Views.{has_left}
+use Rattle.pb_yard.specs.Rule.{journal_view, IsSearchOf, IsRecent, HasNoPass, HasLeaver}
 
 -- the same search goes on, and this is what stays of it
 pub record GoesOnAs (old new : GraphValue) : Type 0 where
@@ -111,3 +114,19 @@ no_pass_before worker views seat view new at live up same here none other left t
     (λ e. let is : view ≡ left = some-injective view left (sym at ∙ ap (get_elem? views) (sym (equal other seat e)) ∙ there) in
     ap (λ (u : View). u.journal.own.worker == worker) (sym is) ∙ ap (λ n. n == worker) (sym same) ∙ none seat new here up)
     (λ e. none other left (set_else views seat other new (λ p. not_both (other == seat) (ap (λ k. k == seat) p ∙ equal_self seat) e) ∙ there) on)
+
+-- ---- workers that left the order
+
+-- a worker that left the order by some views did so where one of them changed, and says as much
+pub leaver_stays : (views : List View) (seat : ℕ) (view new : View) → get_elem? views seat ≡ some view → new.journal.is_live ≡ true → ((worker : ℕ) → has_left view worker ≡ true → has_left new worker ≡ true)
+    → (worker : ℕ) → HasLeaver worker views → HasLeaver worker (set views seat new)
+leaver_stays views seat view new at up more worker (other, left, there, on, has) = by_cases (other == seat)
+    (λ e. let is : view ≡ left = some-injective view left (sym at ∙ ap (get_elem? views) (sym (equal other seat e)) ∙ there) in
+    (seat, new, put_there views seat view new at, up, more worker (subst (λ (u : View). has_left u worker ≡ true) (sym is) has)))
+    (λ e. (other, left, set_else views seat other new (λ p. not_both (other == seat) (ap (λ k. k == seat) p ∙ equal_self seat) e) ∙ there, on, has))
+
+-- the same where the view says the same of it
+pub leaver_same : (views : List View) (seat : ℕ) (view new : View) → get_elem? views seat ≡ some view → new.journal.is_live ≡ true → new.left_order ≡ view.left_order
+    → (worker : ℕ) → HasLeaver worker views → HasLeaver worker (set views seat new)
+leaver_same views seat view new at up same worker leaver = leaver_stays views seat view new at up
+    (λ other has. ap (λ (l : List ℕ). list_any (λ one. one == other) l) same ∙ has) worker leaver

@@ -1,10 +1,12 @@
 -- The first pass, passes that are split, and passes that meet keep the rule of the yard.
-use Rattle.std.proofs.Common.{◌≡◌, ◌≢◌, ℕ, zero, suc, ◌==◌, ◌<◌, ◌≤◌, true, false, List, [], ◌∷◌, ◌++◌, map, set, Option, Some, None, refl, sym, ap, ◌∙◌, subst, inl, true≢false, arith}
+use Rattle.std.proofs.Common.{◌≡◌, ◌≢◌, ℕ, zero, suc, ◌==◌, ◌<◌, ◌≤◌, ◌||◌, true, false, List, [], ◌∷◌, ◌++◌, map, set, Option, Some, None, refl, sym, ap, ◌∙◌, subst, inl, true≢false, arith}
 use Rattle.std.proofs.lemmas.Option.{none-some}
+use Rattle.std.proofs.lemmas.List.Folds.{list_any-append}
+use Rattle.std.proofs.Math.Bool.{or-true}
 use mathlib.Core.Option.{some, some-injective, some-ne-none}
 use lib.ListN.{get_elem?}
-use Rattle.atomic_table.proofs.Lists.{set_else, at_longer, at_map}
-use Rattle.pb_turn.specs.Obligations.{SplitKeeps, MeetKeeps}
+use Rattle.atomic_table.proofs.Lists.{set_again, set_else, at_longer, at_map}
+use Rattle.pb_turn.specs.Obligations.{LeaveKeeps, SplitKeeps, MeetKeeps}
 use Rattle.pb_turn.proofs.Callers.{each_set, each_snoc, put_there, map_set, map_snoc}
 use Rattle.pb_model.proofs.Callers.{by_cases, equal, equal_self, not_both}
 use Rattle.pb_machine.specs.declared.event.Event.{Event}
@@ -18,9 +20,10 @@ use Rattle.pb_lease.specs.GraphValue.{GraphValue, setup_in, IsLeaseGraph}
 use Rattle.pb_lease.specs.Begins.{begin_machine, IsBegin}
 use Rattle.pb_lease.proofs.Callers.{setup_is}
 use Rattle.pb_yard.specs.declared.view.View.{View}
-use Rattle.pb_yard.specs.Views.{cost_of, opening_view, split_view, next_pass_view, met_pass_view, spent_pass_view}
-use Rattle.pb_yard.specs.Rule.{rows_of, grant_in, journal_view, was_read, IsViewOf, IsRecent, HasNoPass, IsYard}
-use Rattle.pb_yard.proofs.Parts.{at_journal, below_made, no_pass_before, unread_recent}
+use Rattle.pb_yard.specs.Views.{cost_of, opening_view, split_view, next_pass_view, met_pass_view, spent_pass_view, has_left, view_leaving_order}
+use Rattle.pb_yard.specs.Order.{all_keep}
+use Rattle.pb_yard.specs.Rule.{rows_of, grant_in, journal_view, was_read, IsViewOf, IsRecent, HasNoPass, HasLeaver, IsYard}
+use Rattle.pb_yard.proofs.Parts.{at_journal, below_made, no_pass_before, unread_recent, leaver_stays, leaver_same}
 use Rattle.pb_yard.proofs.Meaning.{runs}
 
 -- where no event has come there is no room
@@ -43,7 +46,9 @@ opens g shared k most o is = record {
   machine = begin_machine g;
   lent = λ worker. None;
   settled = g.incumbent;
+  keeps = all_keep;
   run = (refl, refl);
+  leavers = λ worker none. absurd (true≢false none);
   journal = sym o.empty;
   rooms_are = sym (begins_without_room g most o.empty);
   moment = (o.moment (λ worker. rows_of None)).at;
@@ -163,7 +168,9 @@ module _ (x : GraphValue) (shared : Option ℕ) (views : List View) (seat : ℕ)
     machine = h.machine;
     lent = h.lent;
     settled = h.settled;
+    keeps = h.keeps;
     run = h.run;
+    leavers = λ worker none. let k = leaver_same views seat v Kept at live refl worker (h.leavers worker none) in (k.0, k.1, at_longer (set views seat Kept) (New ∷ []) k.0 k.1 k.2, k.3, k.4);
     journal = h.journal;
     rooms_are = h.rooms_are;
     moment = h.moment;
@@ -236,6 +243,22 @@ module _ (x : GraphValue) (shared : Option ℕ) (views : List View) (seat : ℕ)
       (λ same. let q : v ≡ u = some-injective v u (sym at ∙ ap (get_elem? views) (sym (equal j seat same)) ∙ is) in ap (λ (z : View). z.journal.own.worker == worker) (sym q) ∙ none seat Met met_here live)
       (λ off. none j u (set_else Taken other j spent_pass_view (differ j other far) ∙ set_else views seat j Met (differ j seat off) ∙ is) on))))
 
+  -- who left the order by the one view or the other did so by the view of both
+  left_first : (worker : ℕ) → has_left v worker ≡ true → has_left Met worker ≡ true
+  left_first worker has = list_any-append (λ one. one == worker) v.left_order w.left_order ∙ ap (λ r. r || has_left w worker) has
+
+  left_other : (worker : ℕ) → has_left w worker ≡ true → has_left Met worker ≡ true
+  left_other worker has = list_any-append (λ one. one == worker) v.left_order w.left_order ∙ ap (λ r. has_left v worker || r) has ∙ or-true (has_left v worker)
+
+  left : (worker : ℕ) → h.keeps worker ≡ false → HasLeaver worker Left
+  left worker none = go (leaver_stays views seat v Met at live left_first worker (h.leavers worker none))
+    where
+      go : HasLeaver worker Taken → HasLeaver worker Left
+      go (j, u, is, on, has) = by_cases (j == other)
+          (λ same. let q : w ≡ u = some-injective w u (sym there ∙ ap (get_elem? Taken) (sym (equal j other same)) ∙ is) in
+          (seat, Met, met_here, live, left_other worker (subst (λ (z : View). has_left z worker ≡ true) (sym q) has)))
+          (λ far. (j, u, set_else Taken other j spent_pass_view (differ j other far) ∙ is, on, has))
+
   pub met_yard : IsYard x shared Left
   met_yard = record {
     is_setup = h.is_setup;
@@ -247,7 +270,9 @@ module _ (x : GraphValue) (shared : Option ℕ) (views : List View) (seat : ℕ)
     machine = h.machine;
     lent = h.lent;
     settled = h.settled;
+    keeps = h.keeps;
     run = h.run;
+    leavers = left;
     journal = h.journal;
     rooms_are = h.rooms_are;
     moment = h.moment;
@@ -268,3 +293,60 @@ pub meet_keeps : (seat : ℕ) (v : View) (other : ℕ) (w : View) → v.journal.
     → MeetKeeps (λ (g : GraphValue) (number : ℕ) (views : List View). IsYard g (cost_of number) views) seat v other w (met_pass_view v w) spent_pass_view
 meet_keeps seat v other w live up free x number views h at apart there =
     met_yard x (cost_of number) views seat v other w h at live apart (sym (set_else views seat other (met_pass_view v w) apart) ∙ there) up free
+
+-- ---- a pass whose worker leaves the order
+
+module _ (x : GraphValue) (shared : Option ℕ) (views : List View) (seat : ℕ) (v : View) (h : IsYard x shared views) (at : get_elem? views seat ≡ some v) (live : v.journal.is_live ≡ true) where
+  abbrev Leaving : View
+  Leaving = view_leaving_order v
+
+  leaving_journals : AreTrueOf x.table.settings.workers x.table.journal (map journal_view (set views seat Leaving))
+  leaving_journals = subst (λ (l : List of_machine.View). AreTrueOf x.table.settings.workers x.table.journal l)
+      (sym (map_set journal_view views seat Leaving
+      ∙ set_again (map journal_view views) seat v.journal (at_journal x.table.settings.workers x.table.journal views h.journals seat v at))) h.journals
+
+  leaving : IsViewOf x h.machine h.lent Leaving
+  leaving = let m = h.each seat v at live in record {
+    lent = m.lent;
+    told = m.told;
+    search = record { task = m.search.task; abstraction = m.search.abstraction; choice = m.search.choice; settings = m.search.settings };
+    known = record { read = m.known.read; last = m.known.last };
+    copy = m.copy;
+  }
+
+  leaving_recent : IsRecent x h.settled Leaving
+  leaving_recent = let r = h.recent seat v at live in record { read_by = r.read_by; fresh = r.fresh }
+
+  pub leaving_yard : IsYard x shared (set views seat Leaving)
+  leaving_yard = record {
+    is_setup = h.is_setup;
+    in_range = h.in_range;
+    begin = h.begin;
+    begins = h.begins;
+    of_run = h.of_run;
+    moves = h.moves;
+    machine = h.machine;
+    lent = h.lent;
+    settled = h.settled;
+    keeps = h.keeps;
+    run = h.run;
+    leavers = λ worker none. leaver_stays views seat v Leaving at live (λ other has. ap (λ r. (v.journal.own.worker == other) || r) has ∙ or-true (v.journal.own.worker == other)) worker (h.leavers worker none);
+    journal = h.journal;
+    rooms_are = h.rooms_are;
+    moment = h.moment;
+    shared_is = h.shared_is;
+    leases = h.leases;
+    lent_is = h.lent_is;
+    journals = leaving_journals;
+    each = each_set (λ j u. u.journal.is_live ≡ true → IsViewOf x h.machine h.lent u) views seat Leaving (λ _. leaving) (λ j u apart e up. h.each j u e up);
+    recent = each_set (λ j u. u.journal.is_live ≡ true → IsRecent x h.settled u) views seat Leaving (λ _. leaving_recent) (λ j u apart e up. h.recent j u e up);
+    began = each_set (λ j u. u.journal.is_live ≡ true → u.begin ≡ h.begin) views seat Leaving (λ _. h.began seat v at live) (λ j u apart e up. h.began j u e up);
+    others = λ worker none. h.others worker (no_pass_before worker views seat v Leaving at live live refl (put_there views seat v Leaving at) none);
+  }
+
+-- the graph stays, and only the pass's own view changes
+pub leaving_keeps : (seat : ℕ) (v : View) (f y : GraphValue) → v.journal.is_live ≡ true → y ≡ f → (entered : View) → entered ≡ v
+    → LeaveKeeps (λ (g : GraphValue) (number : ℕ) (views : List View). IsYard g (cost_of number) views) seat entered f y (view_leaving_order entered)
+leaving_keeps seat v f y live same entered is number views h at =
+    subst (λ (z : GraphValue). IsYard z (cost_of number) (set views seat (view_leaving_order entered))) (sym same)
+    (leaving_yard f (cost_of number) views seat entered h at (ap (λ (u : View). u.journal.is_live) is ∙ live))

@@ -16,7 +16,7 @@ use Rattle.pb_machine.specs.Room.{room_moved}
 use Rattle.pb_machine.specs.Machine.{Setup, IsSetup, Machine, Happens, Move, event_move, tell_move, switch_move, Moves, journal_of}
 use Rattle.pb_machine.specs.Lawful.{IsLawful}
 use Rattle.pb_machine.proofs.Callers.{any_none, moves_keep_lawful, none_true, passes, runs_are_lawful}
-use Rattle.pb_yard.specs.Order.{IsTimely, settled_after, RunsSettled}
+use Rattle.pb_yard.specs.Order.{IsTimely, settled_after, RunsSettled, all_keep}
 use Rattle.pb_yard.proofs.InTime.{in_time_is_run}
 use Rattle.pb_yard.specs.Laws.{OtherEndsHaveNoReport}
 
@@ -98,7 +98,7 @@ module _ (p : Setup) (greatest_cost : ℕ) (is : IsSetup p greatest_cost) where
   one_and_more (tell_move worker cost) moves = refl
   one_and_more (switch_move worker used block quota) moves = refl
 
-  runs : (was : Bool) (room : ℕ → ℕ) (moves : List Move) (old : Machine) (settled : Option ℕ) (new : Machine) (later : Option ℕ) → IsLawful p old → RunsSettled p room old settled moves new later → Ends was old.counts
+  runs : (was : Bool) (room : ℕ → ℕ) (moves : List Move) (old : Machine) (settled : Option ℕ) (new : Machine) (later : Option ℕ) → IsLawful p old → RunsSettled p all_keep room old settled moves new later → Ends was old.counts
       → Ends (was || list_any is_report (journal_of moves)) new.counts
   runs was room [] old settled new later l run ends = λ there. subst (λ (m : Machine). (m.counts.trouble ≡ true) ⊎ (m.counts.end ≡ Some Memory)) (sym run.0) (ends (keep was there))
   runs was room (move ∷ moves) old settled new later l run ends = λ there.

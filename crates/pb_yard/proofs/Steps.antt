@@ -1,5 +1,5 @@
 -- What each call of a graph does is a step of the rule.
-use Rattle.std.proofs.Common.{◌≡◌, ℕ, ◌==◌, ◌⊎◌, inl, inr, length, Bool, true, false, cond, List, [], ◌∷◌, ◌++◌, Option, Some, None, refl, sym, ap, ◌∙◌, subst}
+use Rattle.std.proofs.Common.{◌≡◌, ℕ, ◌==◌, ◌⊎◌, inl, inr, length, Bool, true, false, cond, List, [], ◌∷◌, ◌++◌, Option, Some, None, refl, sym, ap, ◌∙◌, subst, true≢false}
 use Rattle.std.proofs.lemmas.Option.{none-some, same_Some}
 use mathlib.Core.Option.{some}
 use lib.ListN.{get_elem?}
@@ -15,7 +15,7 @@ use Rattle.pb_machine.specs.Counts.{Counts, counts_after}
 use Rattle.pb_machine.specs.History.{is_event_of, events_of}
 use Rattle.pb_machine.specs.Room.{rooms_after}
 use Rattle.pb_machine.specs.Views.{AreBy}
-use Rattle.pb_machine.specs.Machine.{Machine, IsWorked, KeepsRows, Move}
+use Rattle.pb_machine.specs.Machine.{Machine, IsWorked, KeepsRows, Move, event_move}
 use Rattle.pb_machine.specs.Turns.{AreLeaseTurns, RunsInOrder}
 use Rattle.pb_machine.proofs.Callers.{known_more, entry_here, entry_else}
 use Rattle.pb_abstract.specs.Graph.{AbstractGraph}
@@ -25,18 +25,19 @@ use Rattle.pb_estimate.specs.Choices.{Choice}
 use Rattle.pb_lease.specs.Tables.{blocks, rooms}
 use Rattle.pb_lease.specs.Events.{Adds, ending}
 use Rattle.pb_lease.specs.LeaseValue.{LeaseValue, leased_store}
-use Rattle.pb_lease.specs.Leased.{guide_of, grant_of, FitsScopes, IsOutInTurns}
+use Rattle.pb_lease.specs.Leased.{guide_of, grant_of, FitsScopes, IsOut, IsInTurns}
 use Rattle.pb_lease.specs.GraphValue.{GraphValue, setup_in, counts_in, IsOfGraph}
 use Rattle.pb_lease.specs.Moments.{IsMomentAt, Follows, moves_of, ShowsTold, IsKnownThen}
 use Rattle.pb_lease.specs.Steps.{IsLeased, LeasesNext, end_events, KeepsLeases, IsReleased, ReleasesNext, IsRenewed, RenewsNext, GoesOn, GoesOver, switch_of, switch_events, IsSwitched, SwitchesNext}
 use Rattle.pb_lease.proofs.Callers.{ending_leases, events_leave_others, worked_leases_are_out, same_places}
 use Rattle.pb_yard.specs.declared.view.View.{View}
-use Rattle.pb_yard.specs.Order.{HasCause, HasStopped, IsOvertaken, RunsSettled}
+use Rattle.pb_yard.specs.Order.{HasCause, HasStopped, IsOvertaken, RunsSettled, all_keep}
+use Rattle.pb_yard.specs.Views.{keeps_order, KeepsOrder}
 use Rattle.pb_yard.specs.Replies.{reported}
 use Rattle.pb_yard.specs.Rule.{rows_of, grant_in, was_read, IsLent, IsViewOf, IsYard}
 use Rattle.pb_yard.specs.Returning.{IsBrought}
-use Rattle.pb_yard.proofs.InTime.{GrantsNone, ending_grants_none, ending_rooms, events_of_moves, settled_one, settled_switch, settled_events, settled_report, settled_same, some_events}
-use Rattle.pb_yard.proofs.Causes.{none_left, still_first, cannot_go_on, overtaken}
+use Rattle.pb_yard.proofs.InTime.{GrantsNone, ending_grants_none, ending_rooms, events_of_moves, settled_one, settled_switch, settled_events, settled_report, settled_same, settled_any, settled_free, free_release, some_events}
+use Rattle.pb_yard.proofs.Causes.{none_left, first_with_home, still_first, cannot_go_on, overtaken}
 use Rattle.pb_yard.proofs.Parts.{GoesOnAs, still_of_graph}
 use Rattle.pb_yard.proofs.Meaning.{known_above}
 use Rattle.pb_yard.proofs.Holding.{IsStep}
@@ -75,7 +76,7 @@ same_rest x y events adds rest = same_adds x y events adds (ap (λ (g : GraphVal
 -- from any machine with the graph's counts, a run by these events is one in time
 abbrev pub AreTimely : GraphValue → List Event → Type 0
 AreTimely x events = (machine : Machine) (settled : Option ℕ) (next : Machine) → machine.counts ≡ counts_in x → RunsInOrder (setup_in x) machine (moves_of events) next
-    → (later : Option ℕ) × RunsSettled (setup_in x) (rooms x.table) machine settled (moves_of events) next later
+    → (later : Option ℕ) × RunsSettled (setup_in x) all_keep (rooms x.table) machine settled (moves_of events) next later
 
 pub plain_timely : (x : GraphValue) (events : List Event) → GrantsNone events → AreTimely x events
 plain_timely x events none machine settled next counts runs = settled_events (setup_in x) (rooms x.table) events machine settled next none runs
@@ -115,7 +116,7 @@ module _ (x y : GraphValue) (shared : Option ℕ) (views : List View) (seat : �
 
   -- a step by these events and moves, and the incumbent that the machine has then
   abbrev pub StepsBy : List Event → List Move → Option LeaseValue → Option ℕ → Option ℕ → Type 0
-  StepsBy events made lent told incumbent = (next : Machine) × IsStep x y h.machine next h.settled v.last Own events made h.lent lent told × (next.store.incumbent ≡ incumbent)
+  StepsBy events made lent told incumbent = (next : Machine) × IsStep x y h.machine next h.settled v.last Own (keeps_order v Own) events made h.lent lent told × (next.store.incumbent ≡ incumbent)
 
   -- a step by events alone
   abbrev pub Steps : List Event → Option LeaseValue → Option ℕ → Option ℕ → Type 0
@@ -129,10 +130,10 @@ module _ (x y : GraphValue) (shared : Option ℕ) (views : List View) (seat : �
       recorded = Recorded;
       follows = k.1;
       later = (timely h.machine h.settled next h.moment.counts k.4).0;
-      in_time = (timely h.machine h.settled next h.moment.counts k.4).1;
+      in_time = λ keeps less. settled_any (setup_in x) keeps (rooms x.table) (moves_of events) h.machine h.settled next (timely h.machine h.settled next h.moment.counts k.4).0 (timely h.machine h.settled next h.moment.counts k.4).1;
       rooms_then = room;
       events_are = events_of_moves (events);
-      still = settled_same (setup_in x) (rooms x.table) (events) h.machine h.settled next (timely h.machine h.settled next h.moment.counts k.4).0 (timely h.machine h.settled next h.moment.counts k.4).1;
+      still = settled_same (setup_in x) all_keep (rooms x.table) (events) h.machine h.settled next (timely h.machine h.settled next h.moment.counts k.4).0 (timely h.machine h.settled next h.moment.counts k.4).1;
       theirs = λ other else. events_leave_others Own other (events) by else;
       same = same;
       added = added;
@@ -201,7 +202,8 @@ module _ (x y : GraphValue) (shared : Option ℕ) (views : List View) (seat : �
         recorded = with_entry Recorded Own (away_rows lease.parts);
         follows = t.1;
         later = t.0.store.incumbent;
-        in_time = settled_one (setup_in x) (rooms x.table) (Lease Own lease.block lease.quota) h.machine h.settled t.0 gives_whole tt t.6;
+        in_time = λ keeps less. settled_any (setup_in x) keeps (rooms x.table) (moves_of (Lease Own lease.block lease.quota ∷ [])) h.machine h.settled t.0 t.0.store.incumbent
+            (settled_one (setup_in x) (rooms x.table) (Lease Own lease.block lease.quota) h.machine h.settled t.0 gives_whole tt t.6);
         rooms_then = sym l.room;
         events_are = refl;
         still = λ none. absurd (some_events (Lease Own lease.block lease.quota) [] none);
@@ -231,20 +233,20 @@ module _ (x y : GraphValue) (shared : Option ℕ) (views : List View) (seat : �
     pub is_own : lease.worker ≡ Own
     is_own = b.same.worker ∙ is_lent.worker_is
 
-    -- it worked in turns
+    -- it worked, in turns if its worker keeps the order
     abbrev WorkedBy : TaskParts → AbstractGraph → Choice → Type 0
     WorkedBy t a h = (w : IsWorked (space_of t) (guide_of t a h) b.lent.block lease.used most_broken (was_read v) (leased_store b.lent) (leased_store lease))
-        × AreLeaseTurns (space_of t) (guide_of t a h) w.works (leased_store b.lent)
+        × (KeepsOrder v → AreLeaseTurns (space_of t) (guide_of t a h) w.works (leased_store b.lent))
 
     worked : WorkedBy x.task x.table.abstraction x.choice
     worked = subst (λ (t : TaskParts). WorkedBy t x.table.abstraction x.choice) mine.search.task
         (subst (λ (a : AbstractGraph). WorkedBy v.task a x.choice) mine.search.abstraction (subst (λ (h : Choice). WorkedBy v.task v.abstraction h) mine.search.choice (b.work, b.turns)))
 
-    out : IsOutInTurns (setup_in x) h.machine most_broken lease
+    out : (there : IsOut (setup_in x) h.machine most_broken lease) × (KeepsOrder v → IsInTurns (setup_in x) h.machine most_broken lease there)
     out = let there = worked_leases_are_out x Recorded h.machine h.moment b.lent lease most_broken (was_read v) is_lent.of_graph b.same
         (ap (λ k. rows_of (h.lent k)) is_lent.worker_is ∙ ap rows_of lent_own) (ap h.machine.given is_lent.worker_is ∙ is_lent.given)
         (λ incumbent has. mine.known.read incumbent has b.lent.worker) worked.0 in
-        (there.0, there.1 worked.1)
+        (there.0, λ order. there.1 (worked.1 order))
 
     shows : ShowsTold x h.machine lease
     shows cost told =
@@ -278,13 +280,17 @@ module _ (x y : GraphValue) (shared : Option ℕ) (views : List View) (seat : �
       };
     }
 
-  module _ (lease : LeaseValue) (memory : Bool) (cause : MayReturn x y lease memory) (b : IsBrought v (one_if memory) lease) (is_last : x.incumbent ≡ v.last) (r : IsReleased x lease memory y) (n : ReleasesNext x lease memory y) where
+  -- a worker that left the order keeps it in no run
+  left_not : (worker : ℕ) (keeps : ℕ → Bool) → worker ≡ Own → (keeps Own ≡ true → keeps_order v Own ≡ true) → keeps_order v Own ≡ false → keeps worker ≡ false
+  left_not worker keeps own less left = by_cases (keeps worker) (λ e. absurd (true≢false (sym (less (ap keeps (sym own) ∙ e)) ∙ left))) (λ e. e)
+
+  module _ (lease : LeaseValue) (memory : Bool) (cause : KeepsOrder v → MayReturn x y lease memory) (b : IsBrought v (one_if memory) lease) (is_last : x.incumbent ≡ v.last) (r : IsReleased x lease memory y) (n : ReleasesNext x lease memory y) where
     abbrev Returns : Bool → Machine → Type 0
     Returns memory next = RunsInOrder (setup_in x) h.machine (moves_of (Release lease.worker lease.used memory ∷ ending memory x.table.end)) next
-        → (later : Option ℕ) × RunsSettled (setup_in x) (rooms x.table) h.machine h.settled (moves_of (Release lease.worker lease.used memory ∷ ending memory x.table.end)) next later
+        → (later : Option ℕ) × RunsSettled (setup_in x) all_keep (rooms x.table) h.machine h.settled (moves_of (Release lease.worker lease.used memory ∷ ending memory x.table.end)) next later
 
-    returns_in_time : (next : Machine) → IsMomentAt y Recorded next → Returns memory next
-    returns_in_time next m = go memory cause (r.noted) (out (one_if memory) lease b).0.leased
+    returns_in_time : (next : Machine) → IsMomentAt y Recorded next → KeepsOrder v → Returns memory next
+    returns_in_time next m order = go memory (cause order) (r.noted) (out (one_if memory) lease b).0.leased
       where
         go : (memory : Bool) → MayReturn x y lease memory → NotesKeys lease.parts x.homes.keys y.homes.keys → h.machine.counts.leases lease.worker ≡ Some (grant_of lease) → Returns memory next
         go true why noted leased runs = settled_events (setup_in x) (rooms x.table) (Release lease.worker lease.used true ∷ ending true x.table.end) h.machine h.settled next (ending_grants_none true x.table.end) runs
@@ -299,6 +305,21 @@ module _ (x y : GraphValue) (shared : Option ℕ) (views : List View) (seat : �
               (grant_of lease, leased, inl (none_left x lease y noted h.is_setup (brought_of_graph (one_if memory) lease b) Recorded h.machine h.moment none Recorded next m)) runs,
         )
 
+    -- for any workers, but for this one if it left the order
+    abbrev ReturnsFor : Machine → Type 0
+    ReturnsFor next = (later : Option ℕ) × ((keeps : ℕ → Bool) → (keeps Own ≡ true → keeps_order v Own ≡ true)
+        → RunsSettled (setup_in x) keeps (rooms x.table) h.machine h.settled (moves_of (Release lease.worker lease.used memory ∷ ending memory x.table.end)) next later)
+
+    returns_for : (next : Machine) → Follows x h.machine (Release lease.worker lease.used memory ∷ ending memory x.table.end) y Recorded next
+        → (KeepsOrder v → RunsInOrder (setup_in x) h.machine (moves_of (Release lease.worker lease.used memory ∷ ending memory x.table.end)) next) → ReturnsFor next
+    returns_for next follows runs = by_cases (keeps_order v Own)
+        (λ order.
+        let timely = returns_in_time next follows.moment order (runs order) in
+        (timely.0, λ keeps less. settled_any (setup_in x) keeps (rooms x.table) (moves_of (Release lease.worker lease.used memory ∷ ending memory x.table.end)) h.machine h.settled next timely.0 timely.1))
+        (λ left.
+        let free = free_release (setup_in x) (rooms x.table) lease.worker lease.used memory x.table.end h.machine h.settled next follows.moves in
+        (free.0, λ keeps less. free.1 keeps (left_not lease.worker keeps (is_own (one_if memory) lease b) less left)))
+
     pub release_step : Steps (Release lease.worker lease.used memory ∷ ending memory x.table.end) None None shared
     release_step =
         let t = n Recorded h.machine h.moment (out (one_if memory) lease b).0 (shows (one_if memory) lease b) (known_then (one_if memory) lease b is_last r.incumbent) in
@@ -311,8 +332,8 @@ module _ (x y : GraphValue) (shared : Option ℕ) (views : List View) (seat : �
           record {
             recorded = Recorded;
             follows = t.1;
-            later = (returns_in_time t.0 t.1.moment (t.4 (out (one_if memory) lease b).1)).0;
-            in_time = (returns_in_time t.0 t.1.moment (t.4 (out (one_if memory) lease b).1)).1;
+            later = (returns_for t.0 t.1 (λ order. t.4 ((out (one_if memory) lease b).1 order))).0;
+            in_time = (returns_for t.0 t.1 (λ order. t.4 ((out (one_if memory) lease b).1 order))).1;
             rooms_then = ending_rooms (with_entry (rooms x.table) lease.worker 0) memory x.table.end ∙ sym r.room;
             events_are = events_of_moves (Release lease.worker lease.used memory ∷ ending memory x.table.end);
             still = λ none. absurd (some_events (Release lease.worker lease.used memory) (ending memory x.table.end) none);
@@ -331,7 +352,7 @@ module _ (x y : GraphValue) (shared : Option ℕ) (views : List View) (seat : �
           t.2 ∙ brought (one_if memory) lease b,
         )
 
-  module _ (lease kept : LeaseValue) (spent : lease.used ≡ lease.quota) (places : length x.homes.keys ≡ (blocks x.table).count) (b : IsBrought v 0 lease) (is_last : x.incumbent ≡ v.last)
+  module _ (lease kept : LeaseValue) (spent : KeepsOrder v → lease.used ≡ lease.quota) (places : length x.homes.keys ≡ (blocks x.table).count) (b : IsBrought v 0 lease) (is_last : x.incumbent ≡ v.last)
       (read_at : v.read_at ≡ Some (length x.table.journal))
       (r : IsRenewed x lease kept y) (goes : GoesOn x lease y) (n : RenewsNext x lease kept y) where
     pub renew_step : Steps (Renew lease.worker lease.used kept.quota ∷ []) (Some kept) None shared
@@ -342,6 +363,7 @@ module _ (x y : GraphValue) (shared : Option ℕ) (views : List View) (seat : �
         let kept_incumbent : kept.incumbent ≡ x.incumbent = ap (λ (k : LeaseValue). k.incumbent) r.kept_is ∙ stays_bound 0 lease b is_last in
         let whole : AtMost (t.0.given lease.worker) h.settled =
         subst (λ o. AtMost o h.settled) (sym (ap t.0.given (ap (λ (k : LeaseValue). k.worker) (sym r.kept_is)) ∙ t.2 ∙ kept_incumbent)) (last_settled is_last read_at) in
+        let first = still_first x lease y r.noted places Recorded after h.machine t.0 h.moment t.1.moment goes.0 in
         let kept_own : kept.worker ≡ Own = ap (λ (k : LeaseValue). k.worker) r.kept_is ∙ own in
         let same : y.table.journal ≡ x.table.journal ++ Renew lease.worker lease.used kept.quota ∷ [] =
         r.events.journal ∙ ap (λ (k : LeaseValue). x.table.journal ++ Renew lease.worker lease.used k.quota ∷ []) (sym r.kept_is) in (
@@ -350,8 +372,12 @@ module _ (x y : GraphValue) (shared : Option ℕ) (views : List View) (seat : �
             recorded = with_entry Recorded lease.worker (away_rows kept.parts);
             follows = t.1;
             later = t.0.store.incumbent;
-            in_time = settled_one (setup_in x) (rooms x.table) (Renew lease.worker lease.used kept.quota) h.machine h.settled t.0 whole
-                (grant_of lease, (out 0 lease b).0.leased, spent, still_first x lease y r.noted places Recorded after h.machine t.0 h.moment t.1.moment goes.0) (t.6 (out 0 lease b).1);
+            in_time = λ keeps less. by_cases (keeps_order v Own)
+                (λ order. settled_any (setup_in x) keeps (rooms x.table) (moves_of (Renew lease.worker lease.used kept.quota ∷ [])) h.machine h.settled t.0 t.0.store.incumbent
+                (settled_one (setup_in x) (rooms x.table) (Renew lease.worker lease.used kept.quota) h.machine h.settled t.0 whole
+                (grant_of lease, (out 0 lease b).0.leased, spent order, first) (t.6 ((out 0 lease b).1 order))))
+                (λ left. settled_free (setup_in x) keeps (rooms x.table) (event_move (Renew lease.worker lease.used kept.quota)) h.machine h.settled t.0 (left_not lease.worker keeps own less left) tt whole
+                (grant_of lease, (out 0 lease b).0.leased, first) t.1.moves);
             rooms_then = sym r.room;
             events_are = refl;
             still = λ none. absurd (some_events (Renew lease.worker lease.used kept.quota) [] none);
@@ -369,14 +395,14 @@ module _ (x y : GraphValue) (shared : Option ℕ) (views : List View) (seat : �
           t.4 ∙ brought 0 lease b,
         )
 
-  module _ (lease next : LeaseValue) (cause : HasStopped lease) (places : length x.homes.keys ≡ (blocks x.table).count) (b : IsBrought v 0 lease) (is_last : x.incumbent ≡ v.last) (read_at : v.read_at ≡ Some (length x.table.journal))
+  module _ (lease next : LeaseValue) (cause : KeepsOrder v → HasStopped lease) (places : length x.homes.keys ≡ (blocks x.table).count) (b : IsBrought v 0 lease) (is_last : x.incumbent ≡ v.last) (read_at : v.read_at ≡ Some (length x.table.journal))
       (over : GoesOver x lease y next.block) (r : IsSwitched x lease next y) (n : SwitchesNext x lease next y) where
     switched_of_graph : IsOfGraph x lease
     switched_of_graph = brought_of_graph 0 lease b
 
     -- why the lease comes back
-    why : (after : Machine) (recorded : (worker : ℕ) → Rows) → IsMomentAt y recorded after → (HasOpened (after.store.rows lease.block) → ⊥) ⊎ ((lease.used ≡ lease.quota) × IsOvertaken (setup_in x) h.machine lease.worker lease.used lease.block after)
-    why after recorded m = go cause
+    why : (after : Machine) (recorded : (worker : ℕ) → Rows) → IsMomentAt y recorded after → KeepsOrder v → (HasOpened (after.store.rows lease.block) → ⊥) ⊎ ((lease.used ≡ lease.quota) × IsOvertaken (setup_in x) h.machine lease.worker lease.used lease.block after)
+    why after recorded m order = go (cause order)
       where
         go : HasStopped lease → (HasOpened (after.store.rows lease.block) → ⊥) ⊎ ((lease.used ≡ lease.quota) × IsOvertaken (setup_in x) h.machine lease.worker lease.used lease.block after)
         go (inl used) = inr (used, overtaken x lease y r.noted places Recorded recorded h.machine after h.moment m next.block over)
@@ -396,8 +422,12 @@ module _ (x y : GraphValue) (shared : Option ℕ) (views : List View) (seat : �
             recorded = after;
             follows = t.1;
             later = t.0.store.incumbent;
-            in_time = settled_switch (setup_in x) (rooms x.table) lease.worker lease.used next.block next.quota h.machine h.settled t.0 whole
-                (grant_of lease, (out 0 lease b).0.leased, why t.0 after t.1.moment, over.2) (t.6 (out 0 lease b).1);
+            in_time = λ keeps less. by_cases (keeps_order v Own)
+                (λ order. settled_any (setup_in x) keeps (rooms x.table) (switch_of lease next ∷ []) h.machine h.settled t.0 t.0.store.incumbent
+                (settled_switch (setup_in x) (rooms x.table) lease.worker lease.used next.block next.quota h.machine h.settled t.0 whole
+                (grant_of lease, (out 0 lease b).0.leased, why t.0 after t.1.moment order, over.2) (t.6 ((out 0 lease b).1 order))))
+                (λ left. settled_free (setup_in x) keeps (rooms x.table) (switch_of lease next) h.machine h.settled t.0 (left_not lease.worker keeps own less left)
+                (first_with_home x lease y r.noted places Recorded after h.machine t.0 h.moment t.1.moment next.block over.0) whole over.2 t.1.moves);
             rooms_then = sym r.room;
             events_are = refl;
             still = λ none. absurd (some_events (Release lease.worker lease.used false) (Lease lease.worker next.block next.quota ∷ []) none);

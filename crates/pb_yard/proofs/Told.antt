@@ -1,5 +1,5 @@
 -- What a worker knows after a call.
-use Rattle.std.proofs.Common.{◌≡◌, ℕ, ◌==◌, ◌||◌, Bool, true, false, cond, List, [], ◌∷◌, ◌++◌, Option, Some, None, ⊎_elim, refl, sym, ap, ◌∙◌, subst, arith}
+use Rattle.std.proofs.Common.{◌≡◌, ℕ, ◌==◌, ◌||◌, not, Bool, true, false, cond, List, [], ◌∷◌, ◌++◌, Option, Some, None, ⊎_elim, refl, sym, ap, ◌∙◌, subst, arith, true≢false}
 use Rattle.std.specs.List.{list_any}
 use Rattle.std.proofs.lemmas.List.Folds.{list_any-append}
 use Rattle.std.proofs.Math.Bool.{or-true}
@@ -21,6 +21,7 @@ use Rattle.pb_lease.specs.GraphValue.{GraphValue, counts_in}
 use Rattle.pb_lease.specs.Choices.{IsOver}
 use Rattle.pb_lease.specs.Steps.{IsEnded, end_events, switch_events}
 use Rattle.pb_yard.specs.declared.view.View.{View}
+use Rattle.pb_yard.specs.Views.{keeps_order, KeepsOrder, view_leaving_order}
 use Rattle.pb_yard.specs.Replies.{reported, lease_events, lent_by, told_by}
 use Rattle.pb_yard.specs.Returning.{IsBrought}
 use Rattle.pb_yard.specs.Calls.{Holds, Leases, Renews, Switches, Releases, SignsOff, HasRead, IsActive, IsReady, KeepsWorkers}
@@ -39,7 +40,7 @@ lent_leases_may_come_back g view at live lease is untold most_broken =
       same = record { worker = refl; block = refl; quota = refl; weight = refl; choice = refl; fits = refl; places = refl; incumbent = at_most_self lease.incumbent };
       weights = it.of_graph.scope.weights;
       work = record { works = []; on = tt; comes = refl; used_is = sym it.unused; few_broken = omega arith; stops = tt };
-      turns = tt;
+      turns = λ order. tt;
       copy = (at.yard.each at.seat view at.mine live).copy lease is;
       told = λ cost told. let bad : None ≡ Some cost = sym untold ∙ told in absurd cc;
     }
@@ -85,6 +86,7 @@ module _ (step : GraphValue → GraphValue → Type 0) (list : GraphValue → Li
     choice = ap (λ (u : View). u.choice) h.view;
     task = ap (λ (u : View). u.task) h.view;
     begin = ap (λ (u : View). u.begin) h.view;
+    left_order = ap (λ (u : View). u.left_order) h.view;
   }
 
   pub lent_then : new.lent ≡ lent
@@ -142,7 +144,20 @@ keeps_on old between new first later = record {
   choice = later.choice ∙ first.choice;
   task = later.task ∙ first.task;
   begin = later.begin ∙ first.begin;
+  left_order = later.left_order ∙ first.left_order;
 }
+
+-- so a worker that keeps the order did so before
+pub kept_before : (old new : View) → KeepsWorkers old new → KeepsOrder new → KeepsOrder old
+kept_before old new keeps order =
+    ap (λ (l : List ℕ). not (list_any (λ other. other == old.journal.own.worker) l)) (sym keeps.left_order)
+    ∙ ap (λ w. not (list_any (λ other. other == w) new.left_order)) (sym keeps.worker) ∙ order
+
+-- a worker that left the order doesn't keep it
+pub left_is_out : (old new : View) → new ≡ view_leaving_order old → KeepsOrder new → ⊥
+left_is_out old new is order =
+    true≢false (sym order ∙ ap (λ (u : View). keeps_order u u.journal.own.worker) is
+    ∙ ap (λ r. not (r || list_any (λ other. other == old.journal.own.worker) old.left_order)) (equal_self old.journal.own.worker))
 
 -- a reading changes nothing of the worker
 read_keeps : (old between : View) → HasRead old between → KeepsWorkers old between
@@ -155,6 +170,7 @@ read_keeps old between r = record {
   choice = ap (λ (u : View). u.choice) r.view;
   task = ap (λ (u : View). u.task) r.view;
   begin = ap (λ (u : View). u.begin) r.view;
+  left_order = ap (λ (u : View). u.left_order) r.view;
 }
 
 read_active : (old between : View) → HasRead old between → IsActive old → IsActive between
@@ -238,6 +254,7 @@ module _ (lease : LeaseValue) (old new : View) where
       choice = ap (λ (u : View). u.choice) h.2.view;
       task = ap (λ (u : View). u.task) h.2.view;
       begin = ap (λ (u : View). u.begin) h.2.view;
+      left_order = ap (λ (u : View). u.left_order) h.2.view;
     }
 
     pub switched_active : IsActive old → IsActive new

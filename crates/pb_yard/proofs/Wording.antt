@@ -23,15 +23,15 @@ use Rattle.pb_lease.specs.LeaseValue.{LeaseValue, leased_store}
 use Rattle.pb_lease.specs.Leased.{guide_of, grant_of, IsOut}
 use Rattle.pb_lease.specs.GraphValue.{GraphValue, setup_in}
 use Rattle.pb_lease.specs.Moments.{IsMomentAt}
-use Rattle.pb_machine.specs.Room.{no_room}
+use Rattle.pb_machine.specs.Room.{no_room, rooms_after}
 use Rattle.pb_lease.specs.Begins.{begin_machine}
 use Rattle.pb_lease.proofs.Callers.{worked_leases_are_out}
 use Rattle.pb_yard.specs.declared.view.View.{View}
 use Rattle.pb_yard.specs.Views.{cost_of, view_read, view_told}
 use Rattle.pb_yard.specs.Rule.{rows_of, journal_view, is_cost, was_read, IsLent, IsViewOf, IsRecent, IsYard}
 use Rattle.pb_yard.specs.Returning.{IsFound}
-use Rattle.pb_yard.proofs.InTime.{rooms_on, settled_on, settled_falls}
-use Rattle.pb_yard.proofs.Parts.{at_journal, workers_differ, no_pass_before, unread_recent}
+use Rattle.pb_yard.proofs.InTime.{rooms_on, settled_any, settled_on, settled_falls}
+use Rattle.pb_yard.proofs.Parts.{at_journal, workers_differ, no_pass_before, unread_recent, leaver_same}
 use Rattle.pb_yard.proofs.Clauses.{Fact}
 use Rattle.pb_yard.proofs.Reading.{read_falls}
 
@@ -76,7 +76,7 @@ module _ (seat : ℕ) (v : View) (held : Option GraphValue) (live : v.journal.is
 
   number_settled : AtMost (cost_of number) h.settled
   number_settled = subst (λ o. AtMost o h.settled) h.shared_is
-      (settled_falls (setup_in x) no_room h.moves (begin_machine h.begin) h.begin.incumbent h.machine h.settled (at_most_self h.begin.incumbent) h.run)
+      (settled_falls (setup_in x) h.keeps no_room h.moves (begin_machine h.begin) h.begin.incumbent h.machine h.settled (at_most_self h.begin.incumbent) h.run)
 
   read_recent : (o : Option GraphValue) → IsHeld o x → IsRecent x h.settled (view_read o v (cost_of number))
   read_recent None is = unread_recent x h.settled (view_read None v (cost_of number)) refl
@@ -104,7 +104,9 @@ module _ (seat : ℕ) (v : View) (held : Option GraphValue) (live : v.journal.is
     machine = h.machine;
     lent = h.lent;
     settled = h.settled;
+    keeps = h.keeps;
     run = h.run;
+    leavers = λ worker none. leaver_same views seat v Read at live refl worker (h.leavers worker none);
     journal = h.journal;
     rooms_are = h.rooms_are;
     moment = h.moment;
@@ -268,7 +270,10 @@ module _ (seat : ℕ) (v : View) (lease : LeaseValue) (cost : ℕ) (live : v.jou
     machine = Next;
     lent = h.lent;
     settled = h.settled;
-    run = settled_on (setup_in x) no_room h.moves (tell_move Own cost ∷ []) (begin_machine h.begin) h.machine Next h.begin.incumbent h.settled h.settled h.run (Next, tells, tt, tt, tt, (refl, refl));
+    keeps = h.keeps;
+    run = settled_on (setup_in x) h.keeps no_room h.moves (tell_move Own cost ∷ []) (begin_machine h.begin) h.machine Next h.begin.incumbent h.settled h.settled h.run
+        (settled_any (setup_in x) h.keeps (rooms_after no_room h.moves) (tell_move Own cost ∷ []) h.machine h.settled Next h.settled (Next, tells, tt, tt, tt, (refl, refl)));
+    leavers = λ worker none. leaver_same views seat v Told at live refl worker (h.leavers worker none);
     journal = (runs_go_on (setup_in x) h.moves (tell_move Own cost ∷ []) (begin_machine h.begin) h.machine Next).2 ∙ append-nil (journal_of h.moves) ∙ h.journal;
     rooms_are = rooms_on no_room h.moves (tell_move Own cost ∷ []) ∙ h.rooms_are;
     moment = moment;

@@ -88,7 +88,7 @@ module _ (g : GraphValue) (view : View) (at : IsAt g view) (live : view.journal.
           same = same;
           weights = changes.weights lent_weights;
           work = w.0;
-          turns = w.1;
+          turns = λ order. w.1;
           copy = subst (λ o. AtMost view.last o) (sym none) tt;
           told = λ cost told. let bad : ◌≡◌ {A = Option ℕ} None (Some cost) = sym untold ∙ told in absurd cc;
         }

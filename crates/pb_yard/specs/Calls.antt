@@ -20,8 +20,8 @@ use Rattle.pb_lease.specs.Choices.{is_out_in}
 use Rattle.pb_lease.specs.Moments.{IsMoment, moves_of}
 use Rattle.pb_lease.specs.Begins.{begin_machine, IsBegin, IsOfRun, FitsWord}
 use Rattle.pb_yard.specs.declared.view.View.{View}
-use Rattle.pb_yard.specs.Views.{view_read, view_told, view_then}
-use Rattle.pb_yard.specs.Order.{RunsSettled, RunsInTime}
+use Rattle.pb_yard.specs.Views.{view_read, view_told, view_then, keeps_order}
+use Rattle.pb_yard.specs.Order.{RunsSettled, RunsInTimeFor, all_keep}
 use Rattle.pb_yard.specs.Rule.{IsAt, IsSearchOf}
 use Rattle.pb_yard.specs.Replies.{LeasesAs, lease_events, lent_by, told_by, RenewsAs, renewal_events, kept_by, SwitchesAs, switch_moves, switched_by, ReleasesAs, release_events, RivalsAs, MarksAs, CoolsAs, mark_events, SignsOffAs, off_events}
 
@@ -43,7 +43,8 @@ LowersIncumbent old cost =
 -- The pass held the graph once. It found a lawful moment, whose journal begins with all that the
 -- pass had seen. From there the graph went to the moment that the pass left, as `step` says, which
 -- is lawful too. Exactly these events came to the journal. They are those of these moves, which lead
--- from the one moment to the other, in order and in time. The pass has seen the whole journal then,
+-- from the one moment to the other, in order and in time if the pass's worker keeps the order. The
+-- pass has seen the whole journal then,
 -- and of the new events it has its own worker's. It has this lease, and has told this cost.
 pub record HoldsBy (step : (found left : GraphValue) → Type 0)
     (events : (found : GraphValue) → List Event) (made : (found : GraphValue) → List Move)
@@ -56,8 +57,8 @@ pub record HoldsBy (step : (found left : GraphValue) → Type 0)
   pub step_is : step found left
   pub added : left.table.journal ≡ found.table.journal ++ events found
   pub events_are : journal_of (made found) ≡ events found
-  pub moves : RunsSettled (setup_in found) (rooms found.table) before.yard.machine
-      before.yard.settled (made found) after.yard.machine after.yard.settled
+  pub moves : RunsSettled (setup_in found) (keeps_order old) (rooms found.table)
+      before.yard.machine before.yard.settled (made found) after.yard.machine after.yard.settled
   pub view : new ≡ view_then found.table.journal (events found) lent told old
 
 -- the same, with each event a move of its own
@@ -158,6 +159,7 @@ pub record KeepsWorkers (old new : View) : Type 0 where
   pub choice : new.choice ≡ old.choice
   pub task : new.task ≡ old.task
   pub begin : new.begin ≡ old.begin
+  pub left_order : new.left_order ≡ old.left_order
 
 -- ---- the end
 
@@ -171,9 +173,9 @@ pub record AllSignedOff (view : View) : Type 0 where
 -- is a finished history: it has an end, and every worker has signed off. Each worker's events in it
 -- are those that the pass has of it, and no other worker has any. No lease is out. Moves from the machine that a run begins with,
 -- at the graph that the yard began with, lead to the graph's moment of the lease machine. They are
--- in order and in time, and their events are the journal. A word can say the incumbent beside "none",
+-- in order and in time for these workers, and their events are the journal. A word can say the incumbent beside "none",
 -- so a yard can take the graph again once it was opened again.
-pub record IsClosed (view : View) (g : GraphValue) : Type 0 where
+pub record IsClosedFor (keeps : (worker : ℕ) → Bool) (view : View) (g : GraphValue) : Type 0 where
   pub search : IsSearchOf g view
   pub of_run : IsOfRun view.begin g
   pub begins : IsBegin view.begin
@@ -188,7 +190,11 @@ pub record IsClosed (view : View) (g : GraphValue) : Type 0 where
   pub home : IsFalse (is_out_in g)
   pub moves : List Move
   pub machine : Machine
-  pub run : RunsInTime (setup_in g) no_room (begin_machine view.begin) moves machine
+  pub run : RunsInTimeFor (setup_in g) keeps no_room (begin_machine view.begin) moves machine
   pub journal : journal_of moves ≡ g.table.journal
   pub moment : (recorded : (worker : ℕ) → Rows) → IsMoment g recorded machine
   pub fits : FitsWord g.incumbent
+
+-- the same where every worker kept the order
+abbrev pub IsClosed : View → GraphValue → Type 0
+IsClosed view g = IsClosedFor all_keep view g

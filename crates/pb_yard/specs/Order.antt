@@ -1,7 +1,7 @@
 -- The order of a search by leases, whatever the number of its workers.
 use Rattle.std.specs.Prelude.{◌≡◌, ◌⊎◌, ◌<◌, ℕ, Bool, true, false, List, [], ◌∷◌, Option, Some, None, ⊤}
 use Rattle.pb_model.specs.Store.{HasOpened, AtMost}
-use Rattle.pb_machine.specs.declared.event.Event.TheVariants.{Lease, Renew, Release, Off}
+use Rattle.pb_machine.specs.declared.event.Event.TheVariants.{Lease, Renew, Hot, Cold, Release, Off, Ended}
 use Rattle.pb_machine.specs.declared.event.Grant.{Grant}
 use Rattle.pb_machine.specs.Choice.{IsFirstChoice, counts_with_lease_home}
 use Rattle.pb_machine.specs.Room.{room_moved}
@@ -22,7 +22,7 @@ abbrev pub HasStopped : LeaseValue → Type 0
 HasStopped lease =
     (lease.used ≡ lease.quota) ⊎ (HasOpened ((leased_store lease).rows lease.block) → ⊥)
 
--- ---- a run
+-- ---- the moves of a run
 
 -- A lease that is given, or goes on, gets at most the incumbent that the whole store had at the
 -- last event. If another worker told a cost since then, the lease may have it or not.
@@ -77,22 +77,75 @@ IsTimely setup room old (switch_move worker used block quota) new =
 IsTimely setup room old (event_move (Off worker true)) new = old.counts.end ≡ None
 IsTimely setup room old move new = ⊤
 
--- A run of any number of workers, in order and in time: these moves, one after another. Each block
--- that was leased was the first choice of those that might be leased then. Each row that was taken
--- was the first of its block. No lease was given a greater incumbent than that of the whole store
--- at the last event. Each lease used up its quota before it went on, and had a cause to come back.
--- The room at the start is given; the incumbent of the last event is stated at both ends.
-abbrev pub RunsSettled : Setup → (room : ℕ → ℕ) → (old : Machine) → (settled : Option ℕ)
-    → List Move → (new : Machine) → (later : Option ℕ) → Type 0
-RunsSettled setup room old settled [] new later = (new ≡ old) × (later ≡ settled)
-RunsSettled setup room old settled (move ∷ moves) new later =
-    (between : Machine) × Moves setup old move between × IsInOrder setup old move between
-    × GivesWholeIncumbent move settled between × IsTimely setup room old move between
-    × RunsSettled setup (room_moved room move) between (settled_after move settled between) moves
-    new later
+-- ---- workers that left the order
+
+-- whose move it is; an end is nobody's, and of an end no order is claimed
+abbrev pub mover : Move → ℕ
+mover (event_move (Lease worker block quota)) = worker
+mover (event_move (Renew worker used quota)) = worker
+mover (event_move (Hot worker block)) = worker
+mover (event_move (Cold worker block)) = worker
+mover (event_move (Release worker used memory)) = worker
+mover (event_move (Off worker memory)) = worker
+mover (event_move (Ended end)) = 0
+mover (tell_move worker cost) = worker
+mover (switch_move worker used block quota) = worker
+
+-- The order of a move, whose worker keeps the order or has left it. A worker that left it takes the
+-- rows of its lease in any order. The blocks that it leases are first choices all the same.
+abbrev pub IsInOrderIf : (keeps : Bool) → Setup → (old : Machine) → Move → (new : Machine) → Type 0
+IsInOrderIf true setup old move new = IsInOrder setup old move new
+IsInOrderIf false setup old (event_move (Lease worker block quota)) new =
+    IsFirstChoice setup.blocks setup.settings old.counts old.store block
+IsInOrderIf false setup old (switch_move worker used block quota) new =
+    IsFirstChoice setup.blocks setup.settings (counts_with_lease_home old.counts worker used)
+    new.store block
+IsInOrderIf false setup old move new = ⊤
+
+-- The time of a move, whose worker keeps the order or has left it. A worker that left it brings its
+-- lease back without a cause, or goes on with it before its quota is used up. The block of a lease
+-- that goes on is the first choice all the same.
+abbrev pub IsTimelyIf : (keeps : Bool) → Setup → (room : ℕ → ℕ) → (old : Machine) → Move
+    → (new : Machine) → Type 0
+IsTimelyIf true setup room old move new = IsTimely setup room old move new
+IsTimelyIf false setup room old (event_move (Renew worker used quota)) new =
+    (grant : Grant) × (old.counts.leases worker ≡ Some grant)
+    × IsFirstChoice setup.blocks setup.settings (counts_with_lease_home old.counts worker used)
+    new.store grant.block
+IsTimelyIf false setup room old (event_move (Off worker true)) new = old.counts.end ≡ None
+IsTimelyIf false setup room old (switch_move worker used block quota) new = 1 < room worker
+IsTimelyIf false setup room old move new = ⊤
+
+-- ---- runs
+
+-- A run of any number of workers: these moves, one after another. No lease was given a greater
+-- incumbent than that of the whole store at the last event. Each block that was leased was the first
+-- choice of those that might be leased then. The moves of the workers that keep the order are in
+-- order and in time. So each row that they took was the first of its block, each of their leases
+-- used up its quota before it went on, and each had a cause to come back. The room at the start is
+-- given; the incumbent of the last event is stated at both ends.
+abbrev pub RunsSettled : Setup → (keeps : (worker : ℕ) → Bool) → (room : ℕ → ℕ) → (old : Machine)
+    → (settled : Option ℕ) → List Move → (new : Machine) → (later : Option ℕ) → Type 0
+RunsSettled setup keeps room old settled [] new later = (new ≡ old) × (later ≡ settled)
+RunsSettled setup keeps room old settled (move ∷ moves) new later =
+    (between : Machine) × Moves setup old move between
+    × IsInOrderIf (keeps (mover move)) setup old move between
+    × GivesWholeIncumbent move settled between
+    × IsTimelyIf (keeps (mover move)) setup room old move between
+    × RunsSettled setup keeps (room_moved room move) between (settled_after move settled between)
+    moves new later
+
+-- a run that begins just after an event, in this room, in order and in time for these workers
+abbrev pub RunsInTimeFor : Setup → (keeps : (worker : ℕ) → Bool) → (room : ℕ → ℕ) → (old : Machine)
+    → List Move → (new : Machine) → Type 0
+RunsInTimeFor setup keeps room old moves new =
+    (later : Option ℕ) × RunsSettled setup keeps room old old.store.incumbent moves new later
+
+-- every worker keeps the order
+abbrev pub all_keep : (worker : ℕ) → Bool
+all_keep worker = true
 
 -- a run in order and in time that begins just after an event, in this room
 abbrev pub RunsInTime : Setup → (room : ℕ → ℕ) → (old : Machine) → List Move → (new : Machine)
     → Type 0
-RunsInTime setup room old moves new =
-    (later : Option ℕ) × RunsSettled setup room old old.store.incumbent moves new later
+RunsInTime setup room old moves new = RunsInTimeFor setup all_keep room old moves new

@@ -8,6 +8,7 @@ use Rattle.pb_machine.specs.Turns.{AreLeaseTurns}
 use Rattle.pb_lease.specs.LeaseValue.{LeaseValue, leased_store, HasWeights, IsSameLease}
 use Rattle.pb_lease.specs.Leased.{guide_of, grant_of}
 use Rattle.pb_yard.specs.declared.view.View.{View}
+use Rattle.pb_yard.specs.Views.{KeepsOrder}
 use Rattle.pb_yard.specs.Rule.{grant_in, was_read}
 
 -- The lease is the pass's: its worker's, of the block and with the quota that it was lent.
@@ -16,8 +17,8 @@ IsLeaseOf view lease =
     (lease.worker ≡ view.journal.own.worker) × (grant_in view.lent ≡ Some (grant_of lease))
 
 -- The lease came from the one that the pass was lent by the work of its worker. The work has
--- exactly the expansions that the lease counts, and at most this many broken off. It was done in
--- turns, each on the first Opened row of the block. What its worker told is shown by a goal's row
+-- exactly the expansions that the lease counts, and at most this many broken off. If the worker keeps
+-- the order, it was done in turns, each on the first Opened row of the block. What its worker told is shown by a goal's row
 -- of the lease. The lease's incumbent is at least what the pass has read or told.
 pub record IsBrought (view : View) (most_broken : ℕ) (lease : LeaseValue) : Type 0 where
   pub lent : LeaseValue
@@ -27,9 +28,8 @@ pub record IsBrought (view : View) (most_broken : ℕ) (lease : LeaseValue) : Ty
   pub work : IsWorked (space_of view.task) (guide_of view.task view.abstraction view.choice)
       lent.block lease.used
       most_broken (was_read view) (leased_store lent) (leased_store lease)
-  pub turns : AreLeaseTurns (space_of view.task) (guide_of view.task view.abstraction view.choice)
-      work.works
-      (leased_store lent)
+  pub turns : KeepsOrder view → AreLeaseTurns (space_of view.task)
+      (guide_of view.task view.abstraction view.choice) work.works (leased_store lent)
   pub copy : AtMost view.last lease.incumbent
   pub told : (cost : ℕ) → view.told ≡ Some cost
       → HasGoalWithin (space_of view.task) (guide_of view.task view.abstraction view.choice)

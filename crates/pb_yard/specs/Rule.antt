@@ -20,7 +20,7 @@ use Rattle.pb_lease.specs.GraphValue.{GraphValue, setup_in, IsOfGraph}
 use Rattle.pb_lease.specs.Moments.{IsMomentAt}
 use Rattle.pb_lease.specs.Begins.{begin_machine, IsBegin, IsOfRun}
 use Rattle.pb_yard.specs.declared.view.View.{View}
-use Rattle.pb_yard.specs.Views.{cost_of}
+use Rattle.pb_yard.specs.Views.{cost_of, has_left}
 use Rattle.pb_yard.specs.Order.{RunsSettled}
 
 -- the rows that a lease was given or last renewed with
@@ -92,9 +92,16 @@ HasNoPass worker views =
     (seat : ℕ) (view : View) → get_elem? views seat ≡ some view → IsTrue view.journal.is_live
     → IsFalse (view.journal.own.worker == worker)
 
+-- a live pass has it that the worker left the order
+abbrev pub HasLeaver : (worker : ℕ) → List View → Type 0
+HasLeaver worker views =
+    (seat : ℕ) × (view : View) × (get_elem? views seat ≡ some view) × IsTrue view.journal.is_live
+    × IsTrue (has_left view worker)
+
 -- The graph, with what its workers were lent, is a lawful moment of the lease machine. The yard was
 -- made with the graph `begin`, and all live views say so. Moves from the machine that a run begins
--- with there lead to that moment, in order and in time, and their events are the journal. Each lease
+-- with there lead to that moment, and their events are the journal. The moves are in order and in
+-- time but for those of workers of which a live pass has it that they left the order. Each lease
 -- has the room that these moves leave it. The shared number is the least cost that was found or
 -- told: the incumbent of the whole store. The views of all passes are true of the journal and of
 -- what is lent. A worker that has no live pass has no lease.
@@ -108,8 +115,10 @@ pub record IsYard (g : GraphValue) (shared : Option ℕ) (views : List View) : T
   pub machine : Machine
   pub lent : (worker : ℕ) → Option LeaseValue
   pub settled : Option ℕ
-  pub run : RunsSettled (setup_in g) no_room (begin_machine begin) begin.incumbent moves machine
-      settled
+  pub keeps : (worker : ℕ) → Bool
+  pub run : RunsSettled (setup_in g) keeps no_room (begin_machine begin) begin.incumbent moves
+      machine settled
+  pub leavers : (worker : ℕ) → IsFalse (keeps worker) → HasLeaver worker views
   pub journal : journal_of moves ≡ g.table.journal
   pub rooms_are : rooms_after no_room moves ≡ rooms g.table
   pub moment : IsMomentAt g (λ worker. rows_of (lent worker)) machine

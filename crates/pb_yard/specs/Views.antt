@@ -1,5 +1,6 @@
 -- How what a pass knows changes.
-use Rattle.std.specs.Prelude.{ℕ, ◌==◌, if◌then◌else◌, List, [], ◌∷◌, Option, Some, None, length, drop}
+use Rattle.std.specs.Prelude.{ℕ, ◌==◌, if◌then◌else◌, Bool, not, IsTrue, List, [], ◌∷◌, ◌++◌, Option, Some, None, length, drop}
+use Rattle.std.specs.List.{list_any}
 use Rattle.pb_model.specs.Store.{lesser}
 use Rattle.pb_task.specs.declared.parts.TaskParts.TheVariants.{Tiles}
 use Rattle.pb_estimate.specs.Choices.{Plain}
@@ -36,11 +37,12 @@ opening_view g =
       last = g.incumbent;
       read = [];
       read_at = None;
+      left_order = [];
     }
 
 -- The view of a pass after another was split from it, and then the view of the other. The other has
 -- the next worker's number, no lease and no events, and has seen what the first has. It knows the
--- incumbent that the yard began with.
+-- incumbent that the yard began with, and keeps the order.
 abbrev pub split_view : View → View
 split_view view = record view { journal = with_one_more view.journal }
 
@@ -53,6 +55,7 @@ next_pass_view view =
       last = view.begin.incumbent;
       read = [];
       read_at = None;
+      left_order = [];
     }
 
 -- the graph of no search
@@ -80,7 +83,11 @@ no_graph =
 -- the view of a pass after it took in another's; and then what is left at the other's number, which
 -- says nothing
 abbrev pub met_pass_view : (view other : View) → View
-met_pass_view view other = record view { journal = met_view view.journal other.journal }
+met_pass_view view other =
+    record view {
+      journal = met_view view.journal other.journal;
+      left_order = view.left_order ++ other.left_order;
+    }
 
 abbrev pub spent_pass_view : View
 spent_pass_view =
@@ -96,7 +103,25 @@ spent_pass_view =
       last = None;
       read = [];
       read_at = None;
+      left_order = [];
     }
+
+-- whether the worker left the order, as the pass has it
+abbrev pub has_left : View → (worker : ℕ) → Bool
+has_left view worker = list_any (λ other. other == worker) view.left_order
+
+-- whether the worker keeps the order, as the pass has it
+abbrev pub keeps_order : View → (worker : ℕ) → Bool
+keeps_order view worker = not (has_left view worker)
+
+-- the pass's own worker keeps the order
+abbrev pub KeepsOrder : View → Type 0
+KeepsOrder view = IsTrue (keeps_order view view.journal.own.worker)
+
+-- the view after its pass's worker left the order
+abbrev pub view_leaving_order : View → View
+view_leaving_order view =
+    record view { left_order = view.journal.own.worker ∷ view.left_order }
 
 -- how many events the journal of the graph has that the pass holds, if it holds one
 abbrev pub events_held : Option GraphValue → Option ℕ

@@ -4,13 +4,14 @@ ghost use Rattle.pb_machine.specs.Tables.{one_if};
 ghost use Rattle.pb_lease.specs.declared.answer.LeaseReply.TheVariants.{Leased};
 ghost use Rattle.pb_lease.specs.declared.answer.Renewed.TheVariants.{Kept};
 ghost use Rattle.pb_lease.specs.LeaseValue.{LeaseValue};
+ghost use Rattle.pb_yard.specs.Views.{KeepsOrder, view_leaving_order};
 ghost use Rattle.pb_yard.specs.Passes.{view_of, worker_of, IsOf, KeepsPass};
 ghost use Rattle.pb_yard.specs.Order.{HasCause};
 ghost use Rattle.pb_yard.specs.Returning.{IsBrought};
 ghost use Rattle.pb_yard.specs.Calls.{IsActive, Leases, Renews, Releases};
 
 use crate::pass::Pass;
-use crate::rule::{AfterLease, AfterRelease, AfterRenewal};
+use crate::rule::{AfterLease, AfterLeavingOrder, AfterRelease, AfterRenewal};
 use crate::yard::Yard;
 use pb_lease::{Lease, LeaseReply, Renewed};
 use std::sync::Wait;
@@ -35,12 +36,25 @@ impl Yard {
         reply
     }
 
-    /// The pass's worker asks to go on with its lease. Only its work, in turns, made this lease
-    /// from the one that it was lent. The lease's quota is used up.
+    /// The pass's worker leaves the order, for good. From now on it may expand the rows of its lease
+    /// in any order, and bring the lease back at any time. No call takes it back into the order, and
+    /// no other call lets it leave. What is claimed of the other workers' moves stays.
+    pub fn leave_order<W: Wait>(&self, rt: &W, pass: &mut Pass)
+        requires own { IsOf self.now pass.old }
+        ensures same { KeepsPass pass.old pass.new }
+        ensures left { view_of pass.new ≡ view_leaving_order (view_of pass.old) }
+    {
+        let held = self.lock.enter(rt, &mut pass.turn);
+        self.lock
+            .leave::<AfterLeavingOrder>(&mut pass.turn, held, &());
+    }
+
+    /// The pass's worker asks to go on with its lease. Only its work made this lease from the one
+    /// that it was lent. A worker that keeps the order worked in turns, and used up the quota.
     pub fn renew<W: Wait>(&self, rt: &W, pass: &mut Pass, lease: Lease) -> Renewed
         requires own { IsOf self.now pass.old }
         requires brought { IsBrought (view_of pass.old) 0 lease }
-        requires spent { lease.used ≡ lease.quota }
+        requires spent { KeepsOrder (view_of pass.old) → lease.used ≡ lease.quota }
         ensures same { KeepsPass pass.old pass.new }
         ensures renewed { Renews lease (view_of pass.old) result (view_of pass.new) }
         ensures copy { (kept : LeaseValue) → result ≡ Kept kept
@@ -58,14 +72,16 @@ impl Yard {
         reply
     }
 
-    /// The pass's worker brings its lease back. Only its work, in turns, made this lease from the
-    /// one that it was lent. The return has a cause: no row of the lease's block is Opened, or the
-    /// worker reports that it is out of memory. Only then an expansion may have been broken off. A
-    /// worker whose quota is used up asks to go on: `renew` and `try_switch` tell it whether it may.
+    /// The pass's worker brings its lease back. Only its work made this lease from the one that it
+    /// was lent. Only with a report that it is out of memory an expansion may have been broken off.
+    ///
+    /// If the worker keeps the order, it worked in turns, and the return has a cause: such a report,
+    /// or that no row of the lease's block is Opened. With a used-up quota it asks to go on: `renew`
+    /// and `try_switch` tell it whether it may.
     pub fn release<W: Wait>(&self, rt: &W, pass: &mut Pass, lease: Lease, memory: bool)
         requires own { IsOf self.now pass.old }
         requires brought { IsBrought (view_of pass.old) (one_if memory) lease }
-        requires cause { HasCause lease memory }
+        requires cause { KeepsOrder (view_of pass.old) → HasCause lease memory }
         ensures same { KeepsPass pass.old pass.new }
         ensures released { Releases lease memory (view_of pass.old) (view_of pass.new) }
     {

@@ -1,9 +1,9 @@
 //! Making a yard, one pass for each worker, and taking the graph out at the end.
 ghost use Rattle.std.specs.Prelude.{◌≡◌, ◌+◌, ◌<◌, None, IfOk, IfErr};
-ghost use Rattle.pb_yard.specs.Views.{opening_view, split_view, next_pass_view, met_pass_view};
+ghost use Rattle.pb_yard.specs.Views.{opening_view, split_view, next_pass_view, met_pass_view, keeps_order};
 ghost use Rattle.pb_yard.specs.Passes.{view_of, worker_of, parts_of, all_parts, IsOf, IsFirstPass, IsSamePass};
 ghost use Rattle.pb_lease.specs.Begins.{IsBegin};
-ghost use Rattle.pb_yard.specs.Calls.{AllSignedOff, IsClosed};
+ghost use Rattle.pb_yard.specs.Calls.{AllSignedOff, IsClosedFor};
 
 use crate::pass::Pass;
 use crate::word::{cost, word_of};
@@ -87,12 +87,13 @@ impl Yard {
         pass.seen = pass.seen.max(seen);
     }
 
-    /// Takes the graph out, after every worker signed off and all other passes were met.
+    /// Takes the graph out, after every worker signed off and all other passes were met. The run was
+    /// in order and in time for all workers but those that left the order.
     pub fn close(self, pass: Pass) -> LeaseGraph
         requires own { IsOf self pass }
         requires met { parts_of pass ≡ all_parts }
         requires off { AllSignedOff (view_of pass) }
-        ensures closed { IsClosed (view_of pass) result }
+        ensures closed { IsClosedFor (keeps_order (view_of pass)) (view_of pass) result }
     {
         let Yard { lock } = self;
         let Pass {

@@ -82,6 +82,17 @@ impl Leaving<YardRule> for AfterRelease {
     ghost after = { λ _ x y v. view_left x y None None v };
 }
 
+/// Leaving after the pass's worker left the order.
+pub(crate) struct AfterLeavingOrder;
+
+impl Leaving<YardRule> for AfterLeavingOrder {
+    ghost use Rattle.pb_yard.specs.Views.{view_leaving_order};
+
+    type Said = ();
+
+    ghost after = { λ _ x y v. view_leaving_order v };
+}
+
 /// Leaving after anything else: the pass has the lease that it had.
 pub(crate) struct AfterLook;
 

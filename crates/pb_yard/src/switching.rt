@@ -3,6 +3,7 @@ ghost use Rattle.std.specs.Prelude.{◌≡◌, ◌≢◌, ◌+◌, ◌⊎◌};
 ghost use Rattle.pb_lease.specs.declared.answer.SwitchReply.TheVariants as reply;
 ghost use Rattle.pb_lease.specs.LeaseValue.{LeaseValue};
 ghost use Rattle.pb_yard.specs.declared.switch.Switch.TheVariants.{Switched, Kept, Given, Busy};
+ghost use Rattle.pb_yard.specs.Views.{KeepsOrder};
 ghost use Rattle.pb_yard.specs.Passes.{view_of, parts_of, tries_of, misses_of, all_parts, IsOf, KeepsPass};
 ghost use Rattle.pb_yard.specs.Order.{HasStopped};
 ghost use Rattle.pb_yard.specs.Returning.{IsBrought};
@@ -15,9 +16,9 @@ use crate::yard::Yard;
 use pb_lease::{Lease, SwitchReply};
 
 impl Yard {
-    /// The pass's worker tries to go on, in one holding of the turn, and never waits. Only its
-    /// work, in turns, made its lease from the one that it was lent. The lease's quota is used up,
-    /// or no row of its block is Opened.
+    /// The pass's worker tries to go on, in one holding of the turn, and never waits. Only its work
+    /// made its lease from the one that it was lent. If the worker keeps the order, it worked in
+    /// turns, and the lease's quota is used up, or no row of its block is Opened.
     ///
     /// It is answered as the graph answers: it goes on with its lease, or with another block, or
     /// its lease comes back. Whatever the answer, all takes effect at one step. The pass tries for
@@ -26,7 +27,7 @@ impl Yard {
     pub fn try_switch(&self, pass: &mut Pass, lease: Lease) -> Switch
         requires own { IsOf self.now pass.old }
         requires brought { IsBrought (view_of pass.old) 0 lease }
-        requires cause { HasStopped lease }
+        requires cause { KeepsOrder (view_of pass.old) → HasStopped lease }
         ensures same { KeepsPass pass.old pass.new }
         ensures one_step { tries_of pass.new ≡ tries_of pass.old + 1 }
         ensures kept { (kept : LeaseValue) → result ≡ Kept kept

@@ -1,5 +1,6 @@
-//! A worked row: a worker goes on to another block in one call, which never waits. While another
-//! pass holds the turn nothing is done, and the lease is as it was.
+//! Worked rows. A worker goes on to another block in one call, which never waits. While another pass
+//! holds the turn nothing is done, and the lease is as it was. A worker that left the order brings a
+//! lease back before its work has stopped.
 ghost use Rattle.std.specs.Prelude.{◌≡◌, ◌+◌, false, [], None};
 ghost use Rattle.std.specs.Arc.{arc_value};
 ghost use Rattle.pb_task.specs.Parts.{space_of};
@@ -8,6 +9,7 @@ ghost use Rattle.pb_abstract.specs.Graph.{IsGraphOf};
 ghost use Rattle.pb_lease.specs.declared.answer.LeaseReply.TheVariants.{Leased};
 ghost use Rattle.pb_lease.specs.declared.answer.SwitchReply.TheVariants as reply;
 ghost use Rattle.pb_yard.specs.declared.switch.Switch.TheVariants.{Switched, Busy};
+ghost use Rattle.pb_yard.specs.Views.{KeepsOrder};
 ghost use Rattle.pb_yard.specs.Passes.{view_of, parts_of, misses_of, all_parts, IsOf, IsFirstPass, KeepsPass};
 ghost use Rattle.pb_yard.specs.Order.{HasStopped};
 ghost use Rattle.pb_yard.specs.Returning.{IsBrought};
@@ -399,5 +401,56 @@ fn a_worker_goes_on_without_waiting(rt: HostRuntime) -> Result<(), Fail> {
     assert!(rt; journal[2] == lease(1));
     assert!(rt; journal[3] == release(0, true));
     assert!(rt; journal[4] == Event::Ended(End::Memory));
+    Ok(())
+}
+
+// The worker, which left the order, leases a block and brings the lease back at once: a row of the
+// block is Opened, and it reports nothing.
+fn return_early<R: Wait + Abort>(rt: &R, yard: &Yard, pass: &mut Pass) -> (u32, u64, u64)
+    requires own { IsOf yard.now pass.old }
+    requires ready { IsReady (view_of pass.old) }
+    requires left { KeepsOrder (view_of pass.old) → ⊥ }
+    ensures same { KeepsPass pass.old pass.new }
+    ensures workers { KeepsWorkers (view_of pass.old) (view_of pass.new) }
+    ensures ready { IsReady (view_of pass.new) }
+{
+    let reply = yard.lease(rt, pass);
+    let lease = leased(rt, reply);
+    let seen = numbers(&lease);
+    yard.release(rt, pass, lease, false);
+    seen
+}
+
+// The first worker leaves the order and returns early. Then both sign off, and the yard is closed.
+fn leave_order<R: Wait + Abort>(
+    rt: &R,
+    yard: Yard,
+    mut first: Pass,
+) -> ((u32, u64, u64), LeaseGraph)
+    requires own { IsFirstPass yard first }
+    requires ready { IsReady (view_of first) }
+    requires view { IsAlone (view_of first) 2 }
+{
+    let second = yard.split(&mut first);
+    yard.leave_order(rt, &mut first);
+    let seen = return_early(rt, &yard, &mut first);
+    let first = sign_off(rt, &yard, first);
+    let second = sign_off(rt, &yard, second);
+    (seen, finish(yard, first, second))
+}
+
+#[test]
+fn a_worker_out_of_order_returns_early(rt: HostRuntime) -> Result<(), Fail> {
+    let alloc = rt.alloc();
+    let task = Arc::new(alloc, square(alloc)?)?;
+    let abstraction = Arc::new(alloc, AbsGraph::of(alloc, &task, 256)?)?;
+    let (yard, first) = open(&rt, alloc, &task, &abstraction);
+    let (seen, graph) = leave_order(&rt, yard, first);
+    assert_eq!(rt; seen, (0, 256, 0));
+    let journal = graph.journal();
+    assert_eq!(rt; journal.len(), 5);
+    assert!(rt; journal[0] == lease(0));
+    assert!(rt; journal[1] == release(0, false));
+    assert!(rt; journal[3] == Event::Ended(End::Memory));
     Ok(())
 }

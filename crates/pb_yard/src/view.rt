@@ -63,4 +63,6 @@ pub struct View {
     /// How many events the journal had when it last read, if it held the graph then and did nothing
     /// since.
     pub read_at: Option<u64>,
+    /// The workers that left the order: of its own worker and of those whose passes it took in.
+    pub left_order: LinkedList<u32>,
 }
