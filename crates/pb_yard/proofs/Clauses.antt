@@ -27,7 +27,7 @@ use Rattle.pb_lease.specs.Choices.{IsOver, IsToWait}
 use Rattle.pb_lease.specs.Moments.{moves_of}
 use Rattle.pb_lease.specs.Steps.{IsLeased, LeasesNext, IsEnded, end_events, KeepsLeases, IsMarked, GoesOn, ChoosesByRows, IsRenewed, RenewsNext, IsReleased, ReleasesNext, GoesOver, ComesBack, ChoosesAnyByRows, IsSwitched, SwitchesNext}
 use Rattle.pb_yard.specs.declared.view.View.{View}
-use Rattle.pb_yard.specs.Views.{cost_of, view_then, view_left, view_leaving_order, keeps_order, KeepsOrder}
+use Rattle.pb_yard.specs.Views.{cost_of, view_then, view_left, KeepsOrder}
 use Rattle.pb_yard.specs.Order.{HasCause, HasStopped}
 use Rattle.pb_yard.specs.Rule.{rows_of, YardFact, IsYard}
 use Rattle.pb_yard.specs.Replies.{NoneMayBeLeased, LeasesAs, lease_events, lent_by, told_by, RenewsAs, renewal_events, kept_by, SwitchesAs, switch_moves, switched_by, ReleasesAs, release_events, ChangesMarkAs, mark_events, SignsOffAs, reported, off_events}

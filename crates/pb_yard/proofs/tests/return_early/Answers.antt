@@ -1,6 +1,5 @@
 use Rattle.std.proofs.Common.{subst}
 use Rattle.pb_lease.specs.declared.answer.LeaseReply.{LeaseReply}
-use Rattle.pb_lease.specs.declared.answer.LeaseReply.TheVariants.{Leased}
 use Rattle.pb_yard.specs.Passes.{view_of, worker_of}
 use Rattle.pb_yard.specs.Calls.{Leases}
 use Rattle.pb_yard.proofs.Told.{may_bring, leased_active, leased_keeps, keeps_on, kept_before, released_keeps, released_ready}

@@ -1,4 +1,4 @@
-use Rattle.pb_turn.specs.Passes.{view, number, found, state}
+use Rattle.pb_turn.specs.Passes.{view, found, state}
 use Rattle.pb_yard.proofs.Passing.{leaving_keeps}
 use Rattle.pb_yard.proofs.yard.Yard.leave_order.Goals as goal
 
