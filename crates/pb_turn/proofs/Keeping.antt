@@ -1,5 +1,5 @@
 -- Each step of the table under a lock keeps its rule.
-use Rattle.std.proofs.Common.{◌≡◌, ◌≢◌, ℕ, zero, suc, ◌+◌, ◌<◌, min, eqb, List, [], ◌∷◌, ◌++◌, map, get_or, set, Some, sym, refl, ap, ◌∙◌, subst, arith, eq-eqb, ne_eqb}
+use Rattle.std.proofs.Common.{◌≡◌, ◌≢◌, ℕ, zero, suc, ◌+◌, ◌<◌, ◌≤◌, min, eqb, List, [], ◌∷◌, ◌++◌, map, sum_by, get_or, set, Some, sym, refl, ap, ◌∙◌, subst, arith, eq-eqb, ne_eqb}
 use mathlib.Core.Option as maybe
 use mathlib.Core.Option.{none, some, some-injective, some-ne-none}
 use mathlib.Core.Logic.{dite}
@@ -15,7 +15,7 @@ use Rattle.pb_turn.specs.declared.table_rule.Stage.{Stage}
 use Rattle.pb_turn.specs.declared.table_rule.Stage.TheVariants.{Resting, Holding}
 use Rattle.pb_turn.specs.Obligations.{LeaveKeeps, LoadKeeps, LowerKeeps, SplitKeeps, MeetKeeps, Stands, StandsAt, StandsAlone, IsHeld}
 use Rattle.pb_turn.specs.Passes.{whole, found_by}
-use Rattle.pb_turn.specs.Table.{home_of, Knows, Known, pass_view, first_pass, spent_pass, kept_pass, given_pass, met_pass, view_of, parts_of, Turned, tried, read, sunk, left}
+use Rattle.pb_turn.specs.Table.{home_of, Knows, Known, pass_view, first_pass, spent_pass, kept_pass, given_pass, met_pass, view_of, parts_of, tries_of, misses_of, leaves_of, AddUp, AreKnown, Turned, tried, read, sunk, left}
 use Rattle.pb_turn.proofs.PassLists.{put_there, each_set, each_snoc, sum_set, sum_snoc, sum_two, map_at, map_set, map_snoc}
 
 module _ {S : Type 0} where
@@ -50,6 +50,10 @@ module _ {S V : Type 0} (fact : S → ℕ → List V → Type 0) (spent : V) whe
   first_parts v zero d e z = let p : whole ≡ d.parts = ap (λ (y : D). y.parts) (some-injective (first_pass v) d e) in absurd (omega arith)
   first_parts v (suc j) d e z = absurd (some-ne-none d (sym e))
 
+  first_changes : (v : V) (j : ℕ) (d : D) → get_elem? (first_pass {S = S} v ∷ []) j ≡ some d → d.changes + 0 ≤ 0
+  first_changes v zero d e = let p : 0 ≡ d.changes = ap (λ (y : D). y.changes) (some-injective (first_pass v) d e) in omega arith
+  first_changes v (suc j) d e = absurd (some-ne-none d (sym e))
+
   pub begins : (x : S) (n : ℕ) (v : V) → fact x n (v ∷ []) → Rule (opening (0 ∷ n ∷ []) (Some x ∷ []) (first_pass v))
   begins x n v h = record {
     state = x;
@@ -63,8 +67,23 @@ module _ {S V : Type 0} (fact : S → ℕ → List V → Type 0) (spent : V) whe
     holds_it = λ e. absurd (omega arith);
     all_parts = omega arith;
     no_parts = first_parts v;
+    counted = omega arith;
+    changed = first_changes v;
     kept = h;
   }
+
+  -- the counts of all passes, and what each knows of them, after those of one have changed
+  module _ (s : St) (r : Rule s) (id : ℕ) (d d' : D) (at : get_elem? s.views id ≡ some d) where
+    recounted : (turn : ℕ) → d'.tries + d.misses + d.leaves + r.turn ≡ d.tries + d'.misses + d'.leaves + turn → AddUp (set s.views id d') turn
+    recounted turn same =
+        let t = sum_set tries_of s.views id d d' at in let m = sum_set misses_of s.views id d d' at in let l = sum_set leaves_of s.views id d d' at in let c = r.counted in omega arith
+
+    still_known : d'.changes ≤ d.changes → d.tries + d.leaves + d'.misses ≤ d'.tries + d'.leaves + d.misses → AreKnown (set s.views id d')
+    still_known less more =
+        let t = sum_set tries_of s.views id d d' at in let m = sum_set misses_of s.views id d d' at in let l = sum_set leaves_of s.views id d d' at in
+        let all : List D = set s.views id d' in
+        each_set (λ j y. y.changes + sum_by misses_of all ≤ sum_by tries_of all + sum_by leaves_of all) s.views id d'
+        (let c = r.changed id d at in omega arith) (λ j y _ e. let c = r.changed j y e in omega arith)
 
   -- a resting pass with all parts: the state is at home, and all others are spent
   module _ (s : St) (r : Rule s) (id : ℕ) (d : D) (idle : d.stage ≡ Resting) (all : d.parts ≡ whole) (at : get_elem? s.views id ≡ some d) where
@@ -80,8 +99,8 @@ module _ {S V : Type 0} (fact : S → ℕ → List V → Type 0) (spent : V) whe
     at_home = ap (λ (l : List (maybe.Option (Option S))). get_elem? l 0) r.homes ∙ ap (λ (b : ℕ). some (home_of b r.state)) nobody_holds
 
   missed : (s : St) (r : Rule s) (id : ℕ) (me : Known S V) → me.0.stage ≡ Resting → 0 < me.0.parts → get_elem? s.views id ≡ some me.0
-      → Rule (stepped s 0 (get_or s.words 0 0) id me.1 (pass_view me.0.stage me.0.parts (me.0.tries + 1) (me.0.misses + 1) me.0.view) keeps)
-  missed s r id me idle some_parts at = let w : D = pass_view me.0.stage me.0.parts (me.0.tries + 1) (me.0.misses + 1) me.0.view in record {
+      → Rule (stepped s 0 (get_or s.words 0 0) id me.1 (pass_view me.0.stage me.0.parts (me.0.tries + 1) (me.0.misses + 1) me.0.leaves me.0.changes me.0.view) keeps)
+  missed s r id me idle some_parts at = let w : D = pass_view me.0.stage me.0.parts (me.0.tries + 1) (me.0.misses + 1) me.0.leaves me.0.changes me.0.view in record {
     state = r.state;
     turn = r.turn;
     holder = r.holder;
@@ -97,12 +116,14 @@ module _ {S V : Type 0} (fact : S → ℕ → List V → Type 0) (spent : V) whe
     );
     all_parts = let p = sum_set parts_of s.views id me.0 w at in let a = r.all_parts in omega arith;
     no_parts = each_set (λ j d. d.parts ≡ 0 → d ≡ spent_pass spent) s.views id w (λ z. absurd (omega arith)) (λ j d _ e. r.no_parts j d e);
+    counted = recounted s r id me.0 w at r.turn (omega arith);
+    changed = still_known s r id me.0 w at (omega arith) (omega arith);
     kept = subst (fact r.state r.number) (sym (map_set view_of s.views id w ∙ set_again (map view_of s.views) id me.0.view (at_map view_of s.views id me.0 at))) r.kept;
   }
 
   gained : (s : St) (r : Rule s) (id : ℕ) (me : Known S V) → r.turn ≡ 0 → 0 < me.0.parts → get_elem? s.views id ≡ some me.0
-      → Rule (stepped s 0 1 id me.1 (pass_view (Holding r.state) me.0.parts (me.0.tries + 1) me.0.misses me.0.view) (takes 0 (Some r.state)))
-  gained s r id me free some_parts at = let w : D = pass_view (Holding r.state) me.0.parts (me.0.tries + 1) me.0.misses me.0.view in record {
+      → Rule (stepped s 0 1 id me.1 (pass_view (Holding r.state) me.0.parts (me.0.tries + 1) me.0.misses me.0.leaves me.0.changes me.0.view) (takes 0 (Some r.state)))
+  gained s r id me free some_parts at = let w : D = pass_view (Holding r.state) me.0.parts (me.0.tries + 1) me.0.misses me.0.leaves me.0.changes me.0.view in record {
     state = r.state;
     turn = 1;
     holder = id;
@@ -115,6 +136,8 @@ module _ {S V : Type 0} (fact : S → ℕ → List V → Type 0) (spent : V) whe
     holds_it = λ _. (w, put_there s.views id me.0 w at, refl);
     all_parts = let p = sum_set parts_of s.views id me.0 w at in let a = r.all_parts in omega arith;
     no_parts = each_set (λ j d. d.parts ≡ 0 → d ≡ spent_pass spent) s.views id w (λ z. absurd (omega arith)) (λ j d _ e. r.no_parts j d e);
+    counted = recounted s r id me.0 w at 1 (omega arith);
+    changed = still_known s r id me.0 w at (omega arith) (omega arith);
     kept = subst (fact r.state r.number) (sym (map_set view_of s.views id w ∙ set_again (map view_of s.views) id me.0.view (at_map view_of s.views id me.0 at))) r.kept;
   }
 
@@ -130,23 +153,23 @@ module _ {S V : Type 0} (fact : S → ℕ → List V → Type 0) (spent : V) whe
       → Allows Rule slots id me 0 (λ n. either (eqb n 0) 1 n) (tried fact number (step slots 0 0 1 none) me)
   tries slots id me number same idle some_parts s r _ at _ = let n : ℕ = get_or s.words 0 0 in let found : n ≡ r.turn = ap (λ (l : List ℕ). get_or l 0 0) r.words in dite (ℕ_discrete n 0)
       (λ hit. let free : r.turn ≡ 0 = sym found ∙ hit in (
-        pass_view (Holding r.state) me.0.parts (me.0.tries + 1) me.0.misses me.0.view,
+        pass_view (Holding r.state) me.0.parts (me.0.tries + 1) me.0.misses me.0.leaves me.0.changes me.0.view,
         takes 0 (Some r.state),
         ap (λ (l : List (maybe.Option (Option S))). get_elem? l 0) r.homes ∙ ap (λ (b : ℕ). some (home_of b r.state)) free,
-        subst (λ b. Rule (stepped s 0 (either b 1 n) id me.1 (pass_view (Holding r.state) me.0.parts (me.0.tries + 1) me.0.misses me.0.view) (takes 0 (Some r.state)))) (sym (eq-eqb n 0 hit)) (gained s r id me free some_parts at),
+        subst (λ b. Rule (stepped s 0 (either b 1 n) id me.1 (pass_view (Holding r.state) me.0.parts (me.0.tries + 1) me.0.misses me.0.leaves me.0.changes me.0.view) (takes 0 (Some r.state)))) (sym (eq-eqb n 0 hit)) (gained s r id me free some_parts at),
         ((λ _. (r.state, (refl, subst (λ k. Stands fact k me.0.view r.state) (sym same) (stands s r id me at)))), λ no. absurd (no hit)),
       ))
       (λ miss. (
-        pass_view me.0.stage me.0.parts (me.0.tries + 1) (me.0.misses + 1) me.0.view,
+        pass_view me.0.stage me.0.parts (me.0.tries + 1) (me.0.misses + 1) me.0.leaves me.0.changes me.0.view,
         keeps,
         tt,
-        subst (λ b. Rule (stepped s 0 (either b 1 n) id me.1 (pass_view me.0.stage me.0.parts (me.0.tries + 1) (me.0.misses + 1) me.0.view) keeps)) (sym (ne_eqb n 0 miss)) (missed s r id me idle some_parts at),
+        subst (λ b. Rule (stepped s 0 (either b 1 n) id me.1 (pass_view me.0.stage me.0.parts (me.0.tries + 1) (me.0.misses + 1) me.0.leaves me.0.changes me.0.view) keeps)) (sym (ne_eqb n 0 miss)) (missed s r id me idle some_parts at),
         ((λ yes. absurd (miss yes)), λ _. ((let l = r.low in omega arith), (refl, not_alone s r id me idle at found miss, (r.state, subst (λ k. Stands fact k me.0.view r.state) (sym same) (stands s r id me at))))),
       ))
 
   pub leaves : (slots id : ℕ) (me : Known S V) (x y : S) (w : V) (next : Option V) → me.0.stage ≡ Holding x → me.1 ≡ (0, Some y) ∷ [] → next ≡ Some w → LeaveKeeps fact id me.0.view x y w
       → Allows Rule slots id me 0 (λ _. 0) (λ _. left next (step slots 0 0 0 none) me 0)
-  leaves slots id me x y w next holds has is asked s r _ at _ = let d' : D = pass_view Resting me.0.parts me.0.tries me.0.misses w in
+  leaves slots id me x y w next holds has is asked s r _ at _ = let d' : D = pass_view Resting me.0.parts me.0.tries me.0.misses (me.0.leaves + 1) me.0.changes w in
       let known = subst (λ (st : Stage S). Knows r.turn r.holder r.state id st) holds (r.each_pass id me.0 at) in (
         d',
         gives,
@@ -164,6 +187,8 @@ module _ {S V : Type 0} (fact : S → ℕ → List V → Type 0) (spent : V) whe
           all_parts = let p = sum_set parts_of s.views id me.0 d' at in let a = r.all_parts in omega arith;
           no_parts = each_set (λ j d. d.parts ≡ 0 → d ≡ spent_pass spent) s.views id d'
               (λ z. absurd (idle_not x (sym (ap (λ (d : D). d.stage) (r.no_parts id me.0 at z)) ∙ holds))) (λ j d _ e. r.no_parts j d e);
+          counted = recounted s r id me.0 d' at 0 (let one : r.turn ≡ 1 = known.0 in omega arith);
+          changed = still_known s r id me.0 d' at (omega arith) (omega arith);
           kept = subst (fact y r.number) (sym (map_set view_of s.views id d')) (asked r.number (map view_of s.views) (subst (λ (z : S). fact z r.number (map view_of s.views)) (sym known.2) r.kept) (at_map view_of s.views id me.0 at));
         },
         (refl, refl, refl, refl, is, ap rest has),
@@ -184,31 +209,40 @@ module _ {S V : Type 0} (fact : S → ℕ → List V → Type 0) (spent : V) whe
         (λ apart. (h.0, at_longer l (b ∷ []) r.holder h.0 (set_else s.views id r.holder a apart ∙ h.1), h.2));
     all_parts = let p = sum_set parts_of s.views id d a at in let q = sum_snoc parts_of l b in let w = r.all_parts in omega arith;
     no_parts = each_snoc (λ j y. y.parts ≡ 0 → y ≡ spent_pass spent) l b (λ j z. absurd (omega arith)) (each_set (λ j y. y.parts ≡ 0 → y ≡ spent_pass spent) s.views id a (λ z. absurd (omega arith)) (λ j y _ e. r.no_parts j y e));
+    counted = let c = recounted s r id d a at r.turn (omega arith) in let t = sum_snoc tries_of l b in let m = sum_snoc misses_of l b in let f = sum_snoc leaves_of l b in omega arith;
+    changed = let c = recounted s r id d a at r.turn (omega arith) in let t = sum_snoc tries_of l b in let m = sum_snoc misses_of l b in let f = sum_snoc leaves_of l b in let all : List D = l ++ b ∷ [] in
+        each_snoc (λ j y. y.changes + sum_by misses_of all ≤ sum_by tries_of all + sum_by leaves_of all) l b (λ j. omega arith)
+        (λ j y e. let k = still_known s r id d a at (omega arith) (omega arith) j y e in omega arith);
     kept = subst (fact r.state r.number) (sym (map_snoc view_of l b ∙ ap (λ (cs : List V). cs ++ b.view ∷ []) (map_set view_of s.views id a))) (asked r.state r.number (map view_of s.views) r.kept (at_map view_of s.views id d at));
   }
 
   pub joins : (id : ℕ) (d : D) (other : ℕ) (e : D) (met : V → V → V) → 0 < d.parts → e.stage ≡ Resting → MeetKeeps fact id d.view other e.view (met d.view e.view) spent
       → Joins Rule id d other e (met_pass met d e) (spent_pass spent)
-  joins id d other e met some_parts idle asked s r at apart there = let b : D = met_pass met d e in let z : D = spent_pass spent in let l : List D = set s.views id b in record {
-    state = r.state;
-    turn = r.turn;
-    holder = r.holder;
-    number = r.number;
-    low = r.low;
-    words = r.words;
-    homes = r.homes;
-    each_pass = each_set (λ j y. Knows r.turn r.holder r.state j y.stage) l other z tt (λ j y _ i. each_set (λ k u. Knows r.turn r.holder r.state k u.stage) s.views id b (r.each_pass id d at) (λ k u _ m. r.each_pass k u m) j y i);
-    holds_it = λ is. let h = r.holds_it is in dite (ℕ_discrete r.holder id)
-        (λ same. (b, set_else l other r.holder z (λ k. apart (sym k ∙ same)) ∙ subst (λ (k : ℕ). get_elem? l k ≡ some b) (sym same) (put_there s.views id d b at), ap (λ (y : D). y.stage) (some-injective d h.0 (sym at ∙ ap (get_elem? s.views) (sym same) ∙ h.1)) ∙ h.2))
-        (λ off. let here : get_elem? l r.holder ≡ some h.0 = set_else s.views id r.holder b off ∙ h.1 in
-        (h.0, set_else l other r.holder z (λ k. idle_not r.state (sym idle ∙ ap (λ (y : D). y.stage) (some-injective e h.0 (sym there ∙ ap (get_elem? l) (sym k) ∙ here)) ∙ h.2)) ∙ here, h.2));
-    all_parts = let p = sum_set parts_of s.views id d b at in let q = sum_set parts_of l other e z there in let w = r.all_parts in omega arith;
-    no_parts = each_set (λ j y. y.parts ≡ 0 → y ≡ spent_pass spent) l other z (λ _. refl)
-        (λ j y _ i. each_set (λ k u. u.parts ≡ 0 → u ≡ spent_pass spent) s.views id b (λ n. absurd (omega arith)) (λ k u _ m. r.no_parts k u m) j y i);
-    kept = subst (fact r.state r.number) (sym (map_set view_of l other z ∙ ap (λ (cs : List V). set cs other spent) (map_set view_of s.views id b)))
-        (asked r.state r.number (map view_of s.views) r.kept (at_map view_of s.views id d at) apart
-        (subst (λ (cs : List V). get_elem? cs other ≡ some e.view) (map_set view_of s.views id b) (at_map view_of l other e there)));
-  }
+  joins id d other e met some_parts idle asked s r at apart there = let b : D = met_pass met d e in let z : D = spent_pass spent in let l : List D = set s.views id b in
+      let one = λ (f : D → ℕ). sum_set f s.views id d b at in let two = λ (f : D → ℕ). sum_set f l other e z there in record {
+        state = r.state;
+        turn = r.turn;
+        holder = r.holder;
+        number = r.number;
+        low = r.low;
+        words = r.words;
+        homes = r.homes;
+        each_pass = each_set (λ j y. Knows r.turn r.holder r.state j y.stage) l other z tt (λ j y _ i. each_set (λ k u. Knows r.turn r.holder r.state k u.stage) s.views id b (r.each_pass id d at) (λ k u _ m. r.each_pass k u m) j y i);
+        holds_it = λ is. let h = r.holds_it is in dite (ℕ_discrete r.holder id)
+            (λ same. (b, set_else l other r.holder z (λ k. apart (sym k ∙ same)) ∙ subst (λ (k : ℕ). get_elem? l k ≡ some b) (sym same) (put_there s.views id d b at), ap (λ (y : D). y.stage) (some-injective d h.0 (sym at ∙ ap (get_elem? s.views) (sym same) ∙ h.1)) ∙ h.2))
+            (λ off. let here : get_elem? l r.holder ≡ some h.0 = set_else s.views id r.holder b off ∙ h.1 in
+            (h.0, set_else l other r.holder z (λ k. idle_not r.state (sym idle ∙ ap (λ (y : D). y.stage) (some-injective e h.0 (sym there ∙ ap (get_elem? l) (sym k) ∙ here)) ∙ h.2)) ∙ here, h.2));
+        all_parts = let p = sum_set parts_of s.views id d b at in let q = sum_set parts_of l other e z there in let w = r.all_parts in omega arith;
+        no_parts = each_set (λ j y. y.parts ≡ 0 → y ≡ spent_pass spent) l other z (λ _. refl)
+            (λ j y _ i. each_set (λ k u. u.parts ≡ 0 → u ≡ spent_pass spent) s.views id b (λ n. absurd (omega arith)) (λ k u _ m. r.no_parts k u m) j y i);
+        counted = let c = r.counted in let t = one tries_of in let m = one misses_of in let f = one leaves_of in let u = two tries_of in let n = two misses_of in let g = two leaves_of in omega arith;
+        changed = let c = r.counted in let t = one tries_of in let m = one misses_of in let f = one leaves_of in let u = two tries_of in let n = two misses_of in let g = two leaves_of in let all : List D = set l other z in
+            each_set (λ j y. y.changes + sum_by misses_of all ≤ sum_by tries_of all + sum_by leaves_of all) l other z (omega arith)
+            (λ j y _ i. each_set (λ k u. u.changes + sum_by misses_of all ≤ sum_by tries_of all + sum_by leaves_of all) s.views id b (let k = r.changed id d at in omega arith) (λ k v _ q. let h = r.changed k v q in omega arith) j y i);
+        kept = subst (fact r.state r.number) (sym (map_set view_of l other z ∙ ap (λ (cs : List V). set cs other spent) (map_set view_of s.views id b)))
+            (asked r.state r.number (map view_of s.views) r.kept (at_map view_of s.views id d at) apart
+            (subst (λ (cs : List V). get_elem? cs other ≡ some e.view) (map_set view_of s.views id b) (at_map view_of l other e there)));
+      }
 
   pub closes : (id : ℕ) (d : D) (ws : List ℕ) (xs : List (Option S)) → d.stage ≡ Resting → d.parts ≡ whole → Final (Seen Rule id d) ws xs → (y : Option S) (n : ℕ) → get_elem? xs 0 ≡ some y → get_elem? ws 1 ≡ some n
       → (x : S) × (y ≡ Some x) × StandsAlone fact id d.view spent x n
@@ -226,8 +260,8 @@ module _ {S V : Type 0} (fact : S → ℕ → List V → Type 0) (spent : V) whe
 
   -- a step on the number alone, after which the pass has another view
   numbered : (s : St) (r : Rule s) (n id : ℕ) (me : Known S V) (w : V) → 0 < me.0.parts → get_elem? s.views id ≡ some me.0 → fact r.state n (set (map view_of s.views) id w)
-      → Rule (stepped s 1 n id me.1 (pass_view me.0.stage me.0.parts me.0.tries me.0.misses w) keeps)
-  numbered s r n id me w some_parts at h = let d' : D = pass_view me.0.stage me.0.parts me.0.tries me.0.misses w in record {
+      → Rule (stepped s 1 n id me.1 (pass_view me.0.stage me.0.parts me.0.tries me.0.misses me.0.leaves me.0.changes w) keeps)
+  numbered s r n id me w some_parts at h = let d' : D = pass_view me.0.stage me.0.parts me.0.tries me.0.misses me.0.leaves me.0.changes w in record {
     state = r.state;
     turn = r.turn;
     holder = r.holder;
@@ -241,6 +275,8 @@ module _ {S V : Type 0} (fact : S → ℕ → List V → Type 0) (spent : V) whe
         (λ apart. (k.0, set_else s.views id r.holder d' apart ∙ k.1, k.2));
     all_parts = let p = sum_set parts_of s.views id me.0 d' at in let a = r.all_parts in omega arith;
     no_parts = each_set (λ j d. d.parts ≡ 0 → d ≡ spent_pass spent) s.views id d' (λ z. absurd (omega arith)) (λ j d _ e. r.no_parts j d e);
+    counted = recounted s r id me.0 d' at r.turn (omega arith);
+    changed = still_known s r id me.0 d' at (omega arith) (omega arith);
     kept = subst (fact r.state n) (sym (map_set view_of s.views id d')) h;
   }
 
@@ -253,7 +289,7 @@ module _ {S V : Type 0} (fact : S → ℕ → List V → Type 0) (spent : V) whe
   reads slots id me pass loaded same some_parts asked s r _ at _ = let n : ℕ = get_or s.words 1 0 in let h = at_number s r in
       let there = at_map view_of s.views id me.0 at in let w : V = loaded (found_by me.0.stage) me.0.view n in
       let held = knows_held r.turn r.holder r.state id me.0.stage (r.each_pass id me.0 at) in (
-        pass_view me.0.stage me.0.parts me.0.tries me.0.misses w,
+        pass_view me.0.stage me.0.parts me.0.tries me.0.misses me.0.leaves me.0.changes w,
         keeps,
         tt,
         numbered s r n id me w some_parts at (asked r.state n (map view_of s.views) h there held),
@@ -264,7 +300,7 @@ module _ {S V : Type 0} (fact : S → ℕ → List V → Type 0) (spent : V) whe
       → Allows Rule slots id me 1 (λ n. min n k) (sunk fact lowered pass (step slots 1 k 0 none) me)
   sinks slots id me pass k lowered same some_parts asked s r _ at _ = let n : ℕ = get_or s.words 1 0 in let h = at_number s r in
       let there = at_map view_of s.views id me.0 at in let w : V = lowered me.0.view k in (
-        pass_view me.0.stage me.0.parts me.0.tries me.0.misses w,
+        pass_view me.0.stage me.0.parts me.0.tries me.0.misses me.0.leaves me.0.changes w,
         keeps,
         tt,
         numbered s r (min n k) id me w some_parts at (asked r.state n (map view_of s.views) h there),

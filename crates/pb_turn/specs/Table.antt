@@ -27,26 +27,35 @@ abbrev pub Known : Type 0 → Type 0 → Type 0
 Known S V = Me (Option S) (PassView S V)
 
 module _ {S V : Type 0} where
-  abbrev pub pass_view : Stage S → ℕ → ℕ → ℕ → V → PassView S V
-  pass_view stage parts tries misses v =
-      record { stage = stage; parts = parts; tries = tries; misses = misses; view = v }
+  abbrev pub pass_view : Stage S → (parts tries misses leaves changes : ℕ) → V → PassView S V
+  pass_view stage parts tries misses leaves changes v =
+      record {
+        stage = stage;
+        parts = parts;
+        tries = tries;
+        misses = misses;
+        leaves = leaves;
+        changes = changes;
+        view = v;
+      }
 
   abbrev pub first_pass : V → PassView S V
-  first_pass v = pass_view Resting whole 0 0 v
+  first_pass v = pass_view Resting whole 0 0 0 0 v
 
   abbrev pub spent_pass : V → PassView S V
-  spent_pass v = pass_view Resting 0 0 0 v
+  spent_pass v = pass_view Resting 0 0 0 0 0 v
 
   abbrev pub kept_pass : (V → V) → PassView S V → PassView S V
-  kept_pass kept d = pass_view d.stage (d.parts - 1) d.tries d.misses (kept d.view)
+  kept_pass kept d =
+      pass_view d.stage (d.parts - 1) d.tries d.misses d.leaves d.changes (kept d.view)
 
   abbrev pub given_pass : (V → V) → PassView S V → PassView S V
-  given_pass given d = pass_view Resting 1 0 0 (given d.view)
+  given_pass given d = pass_view Resting 1 0 0 0 0 (given d.view)
 
   abbrev pub met_pass : (V → V → V) → PassView S V → PassView S V → PassView S V
   met_pass met d e =
       pass_view d.stage (d.parts + e.parts) (d.tries + e.tries) (d.misses + e.misses)
-      (met d.view e.view)
+      (d.leaves + e.leaves) d.changes (met d.view e.view)
 
   abbrev pub view_of : PassView S V → V
   view_of d = d.view
@@ -54,7 +63,29 @@ module _ {S V : Type 0} where
   abbrev pub parts_of : PassView S V → ℕ
   parts_of d = d.parts
 
-  -- `state` is the one that the last holder left: it is in the slot, or the holder has found it
+  abbrev pub tries_of : PassView S V → ℕ
+  tries_of d = d.tries
+
+  abbrev pub misses_of : PassView S V → ℕ
+  misses_of d = d.misses
+
+  abbrev pub leaves_of : PassView S V → ℕ
+  leaves_of d = d.leaves
+
+  -- Each try that was no miss took the turn, and each leaving freed it: as many as there were of the
+  -- ones, there were of the others, and one more while the turn is held.
+  abbrev pub AddUp : (views : List (PassView S V)) → (turn : ℕ) → Type 0
+  AddUp views turn = sum_by tries_of views ≡ sum_by misses_of views + sum_by leaves_of views + turn
+
+  -- The turn was taken and left at least as often as each pass knows.
+  abbrev pub AreKnown : (views : List (PassView S V)) → Type 0
+  AreKnown views =
+      (j : ℕ) (d : PassView S V) → get_elem? views j ≡ some d
+      → d.changes + sum_by misses_of views ≤ sum_by tries_of views + sum_by leaves_of views
+
+  -- `state` is the one that the last holder left: it is in the slot, or the holder has found it.
+  -- By `counted` and `changed` no step takes the turn that doesn't count as a try and as no miss,
+  -- whatever the step reports.
   pub record Turned (fact : S → ℕ → List V → Type 0) (spent : V)
       (s : State (Option S) (PassView S V)) : Type 0 where
     pub state : S
@@ -71,13 +102,15 @@ module _ {S V : Type 0} where
     pub all_parts : sum_by parts_of s.views ≡ whole
     pub no_parts : (j : ℕ) (d : PassView S V) → get_elem? s.views j ≡ some d → d.parts ≡ 0
         → d ≡ spent_pass spent
+    pub counted : AddUp s.views turn
+    pub changed : AreKnown s.views
     pub kept : fact state number (map view_of s.views)
 
   -- the pass counts a try. It has the turn and the state x, of which the fact holds
   abbrev pub Won : (S → ℕ → List V → Type 0) → ℕ → Known S V → S → Known S V → Type 0
   Won fact pass m x m' =
       (m' ≡ (
-        pass_view (Holding x) m.0.parts (m.0.tries + 1) m.0.misses m.0.view,
+        pass_view (Holding x) m.0.parts (m.0.tries + 1) m.0.misses m.0.leaves m.0.changes m.0.view,
         (0, Some x) ∷ m.1,
       ))
       × Stands fact pass m.0.view x
@@ -86,7 +119,11 @@ module _ {S V : Type 0} where
   -- found.
   abbrev pub Missed : (S → ℕ → List V → Type 0) → ℕ → Known S V → Known S V → Type 0
   Missed fact pass m m' =
-      (m' ≡ (pass_view m.0.stage m.0.parts (m.0.tries + 1) (m.0.misses + 1) m.0.view, m.1))
+      (m' ≡ (
+        pass_view m.0.stage m.0.parts (m.0.tries + 1) (m.0.misses + 1) m.0.leaves m.0.changes
+            m.0.view,
+        m.1,
+      ))
       × (m.0.parts ≢ whole) × ((x : S) × Stands fact pass m.0.view x)
 
   -- a try for the turn, by what it found
@@ -101,7 +138,8 @@ module _ {S V : Type 0} where
       → Known S V → ℕ → Known S V → Type 0
   read fact loaded pass st m n m' =
       (m' ≡ (
-        pass_view m.0.stage m.0.parts m.0.tries m.0.misses (loaded (found_by m.0.stage) m.0.view n),
+        pass_view m.0.stage m.0.parts m.0.tries m.0.misses m.0.leaves m.0.changes
+            (loaded (found_by m.0.stage) m.0.view n),
         m.1,
       )) × ((x : S) × StandsAt fact pass m.0.view x n × IsHeld (found_by m.0.stage) x)
 
@@ -111,7 +149,8 @@ module _ {S V : Type 0} where
       → Known S V → Type 0
   sunk fact lowered pass st m n m' =
       (m' ≡ (
-        pass_view m.0.stage m.0.parts m.0.tries m.0.misses (lowered m.0.view st.first),
+        pass_view m.0.stage m.0.parts m.0.tries m.0.misses m.0.leaves m.0.changes
+            (lowered m.0.view st.first),
         m.1,
       ))
       × ((x : S) × StandsAt fact pass m.0.view x n)

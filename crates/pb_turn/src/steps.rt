@@ -129,6 +129,16 @@ impl<R: TurnRule> TurnLock<R> {
         shared.store::<LeaveTurn<N>>(&mut pass.seat, TURN, FREE);
     }
 
+    // Wakes one pass that sleeps on the turn. The pass has left the turn: a sleeper that was woken
+    // earlier could find the turn still held, and sleep on.
+    pub(crate) fn wake_next(&self, pass: &Pass<R>)
+        requires own { IsPassOf self.now pass.now }
+        requires rests { IsResting pass.now }
+    {
+        let _ = pass;
+        self.table.shared.wake_one(TURN);
+    }
+
     // Reads the number.
     pub(crate) fn load_number(&self, pass: &mut Pass<R>) -> u64
         requires own { IsPassOf self.now pass.old }

@@ -37,6 +37,11 @@ pub struct PassView<S, V> {
     pub tries: u64,
     /// How often a step of the pass's own found the turn held.
     pub misses: u64,
+    /// How often a step of the pass's own left the turn.
+    pub leaves: u64,
+    /// At least so often the turn was taken or left, by whichever pass. No step sets it, but each
+    /// step has to keep the rule whatever another pass knows. So none can count backwards.
+    pub changes: u64,
     /// What the caller's rule sees.
     pub view: V,
 }

@@ -111,6 +111,6 @@ impl<R: TurnRule> TurnLock<R> {
         // state.
         self.put_state(pass, state, &found);
         self.leave_turn::<M>(pass, &found, &leaves, said);
-        self.table.shared.wake_one(TURN);
+        self.wake_next(pass);
     }
 }
