@@ -7,10 +7,14 @@ use pb_turn::{Held, Leaving, Pass, TurnLock, TurnRule};
 use std::alloc::Global;
 use std::process::Abort;
 use std::sync::Wait;
+use std::sync::atomic::{AtomicBool, Ordering};
 use std::test::Fail;
-use std::thread::{Threads, join};
+use std::thread::{Threads, join, yield_now};
 
 const TIMES: u64 = 100;
+
+// How often a holder gives its processor away. A pass that waits for it is asleep by then.
+const YIELDS: u32 = 100_000;
 
 /// A counter with each number that it came to. It can't be dropped.
 struct Counter {
@@ -253,12 +257,79 @@ fn try_beside_a_holder<W: Wait>(
     (during, after, close(lock, first))
 }
 
-// A lock over a new counter, and its first pass.
+// Counts once, and holds the turn until another pass, which sees that it is held, sleeps for it.
+fn count_slowly<W: Wait>(
+    rt: &W,
+    lock: &TurnLock<CounterRule>,
+    mut pass: Pass<CounterRule>,
+    holds: &AtomicBool,
+) -> Pass<CounterRule>
+    requires { IsPassOf lock.now pass × IsResting pass }
+    ensures { IsPassOf lock.now result × IsResting result × (parts result ≡ parts pass) }
+{
+    let held = lock.enter(rt, &mut pass);
+    holds.store(true, Ordering::SeqCst);
+    for _ in 0..YIELDS {
+        yield_now();
+    }
+    count_and_leave(lock, &mut pass, held);
+    pass
+}
+
+// Counts as soon as another pass holds the turn.
+fn count_behind<W: Wait>(
+    rt: &W,
+    lock: &TurnLock<CounterRule>,
+    pass: Pass<CounterRule>,
+    holds: &AtomicBool,
+) -> Pass<CounterRule>
+    requires { IsPassOf lock.now pass × IsResting pass }
+    ensures { IsPassOf lock.now result × IsResting result × (parts result ≡ parts pass) }
+{
+    for _ in 0..10_000_000 {
+        if holds.load(Ordering::SeqCst) {
+            break;
+        }
+        yield_now();
+    }
+    let (pass, _) = count_times(rt, lock, pass);
+    pass
+}
+
+// One thread holds the turn until another one sleeps for it. Then that one counts.
+fn wake_a_sleeper<R: Threads + Wait + Sync>(
+    rt: &R,
+    lock: TurnLock<CounterRule>,
+    mut first: Pass<CounterRule>,
+) -> Counter
+    requires { IsPassOf lock first × IsResting first × (parts first ≡ whole) }
+{
+    let second = lock.split(&mut first);
+    let (shared, holds) = (&lock, &AtomicBool::new(false));
+    let (mut first, second) = join(
+        rt,
+        || -> Pass<CounterRule>
+            requires { IsPassOf shared.now first × IsResting first }
+            ensures { IsPassOf shared.entry.now result × IsResting result
+                × (parts result ≡ parts first) }
+        { count_slowly(rt, shared, first, holds) },
+        || -> Pass<CounterRule>
+            requires { IsPassOf shared.now second × IsResting second }
+            ensures { IsPassOf shared.entry.now result × IsResting result
+                × (parts result ≡ parts second) }
+        { count_behind(rt, shared, second, holds) },
+    );
+    lock.meet(&mut first, second);
+    close(lock, first)
+}
+
+// A lock over a new counter, and its first pass. The number is what the turn's word is while the turn
+// is held: a pass that slept on the number instead would sleep on.
 fn open<R: Abort>(rt: &R, alloc: Global) -> (TurnLock<CounterRule>, Pass<CounterRule>)
     ensures { IsPassOf result.0 result.1 × IsResting result.1 × (parts result.1 ≡ whole)
         × (view result.1 ≡ 0) }
 {
-    match TurnLock::new(alloc, Counter::new(alloc), 0) {
+    match TurnLock::new(alloc, Counter::new(alloc), 1) {
         Ok(made) => made,
         Err((_, counter)) => {
             drop(counter.destroy());
@@ -287,6 +358,16 @@ fn four_threads_count_each_number_once(rt: HostRuntime) -> Result<(), Fail> {
     assert_eq!(rt; history.len(), 400);
     assert_eq!(rt; history[0], 1);
     assert_eq!(rt; history[399], 400);
+    Ok(())
+}
+
+// A pass that nobody wakes would sleep for ever, and the test would never end.
+#[test]
+fn a_sleeper_is_woken(rt: HostRuntime) -> Result<(), Fail> {
+    let (lock, first) = open(&rt, rt.alloc());
+    let counter = wake_a_sleeper(&rt, lock, first);
+    let history = counter.destroy();
+    assert_eq!(rt; history.len(), 101);
     Ok(())
 }
 
