@@ -1,4 +1,4 @@
-//! What a gate is told, and that two leases are out at once.
+//! What a gate is told, and that leases are out at once: two, and one of each of four workers.
 use crate::samples::{ONE_WORKER, Sample, search_sample};
 use pb_machine::{End, Settings};
 use pb_outside::Gate;
@@ -115,5 +115,63 @@ fn two_leases_are_out_at_once(rt: HostRuntime) -> Result<(), Fail> {
         (seen.end, seen.incumbent, seen.expansions),
         (Some(End::Quiet), None, 9)
     );
+    Ok(())
+}
+
+// Holds each lease after the first hundred until four workers have one each, for at most 10,000,000
+// turns.
+#[derive(Drop)]
+struct FullGate {
+    leases: AtomicU64,
+    // A bit for each worker that has a lease. A renewal takes it away too.
+    workers: AtomicU64,
+    all: AtomicU64,
+}
+
+// The bit of a worker.
+fn bit_of(worker: u32) -> u64 {
+    1 << (worker % 64)
+}
+
+impl Gate for FullGate {
+    fn leased(&self, worker: u32, _block: u32) {
+        self.workers.fetch_or(bit_of(worker), Ordering::SeqCst);
+        if self.leases.fetch_add(1, Ordering::SeqCst) < 100 {
+            return;
+        }
+        for _ in 0..10_000_000 {
+            if self.workers.load(Ordering::SeqCst) == 0b1111 {
+                self.all.store(1, Ordering::SeqCst);
+            }
+            if self.all.load(Ordering::SeqCst) == 1 {
+                return;
+            }
+            yield_now();
+        }
+    }
+
+    fn giving(&self, worker: u32, _block: u32) {
+        self.workers.fetch_and(!bit_of(worker), Ordering::SeqCst);
+    }
+}
+
+// Four workers have a lease each at once, so no two of them take turns.
+#[test]
+fn each_of_four_workers_has_a_lease_at_once(rt: HostRuntime) -> Result<(), Fail> {
+    let gate = FullGate {
+        leases: AtomicU64::new(0),
+        workers: AtomicU64::new(0),
+        all: AtomicU64::new(0),
+    };
+    let settings = Settings {
+        workers: 4,
+        budget: 5000,
+        lot: 1,
+        wish: 256,
+        ..ONE_WORKER
+    };
+    let seen = search_sample(&rt, rt.alloc(), Sample::BoardWithoutPlan, settings, &gate)?;
+    assert_eq!(rt; gate.all.load(Ordering::SeqCst), 1);
+    assert_eq!(rt; seen.incumbent, None);
     Ok(())
 }
