@@ -1,4 +1,5 @@
-//! What a gate is told, and that leases are out at once: two, and one of each of four workers.
+//! What a gate is told, and that leases are out and worked on at once: two, and one of each of four
+//! workers.
 use crate::samples::{ONE_WORKER, Sample, search_sample};
 use pb_machine::{End, Settings};
 use pb_outside::Gate;
@@ -173,5 +174,88 @@ fn each_of_four_workers_has_a_lease_at_once(rt: HostRuntime) -> Result<(), Fail>
     let seen = search_sample(&rt, rt.alloc(), Sample::BoardWithoutPlan, settings, &gate)?;
     assert_eq!(rt; gate.all.load(Ordering::SeqCst), 1);
     assert_eq!(rt; seen.incumbent, None);
+    Ok(())
+}
+
+// The blocks of the hall's map with the long lease and with the short one.
+const LONG: u32 = 4;
+
+const SHORT: u32 = 1;
+
+// What became of a lease.
+const LEASED: u64 = 1;
+
+const AT_WORK: u64 = 2;
+
+const CAME_BACK: u64 = 3;
+
+// Lets the work on the long lease begin first, once the short one is leased too, and that on the
+// short one somewhat later. It waits for at most 10,000,000 turns.
+#[derive(Drop)]
+struct LateGate {
+    long: AtomicU64,
+    short: AtomicU64,
+    // 1 if the short lease came back while the long one was at work
+    overtook: AtomicU64,
+}
+
+// Waits until a lease got so far, for at most 10,000,000 turns.
+fn wait_for(lease: &AtomicU64, far: u64) {
+    for _ in 0..10_000_000 {
+        if lease.load(Ordering::SeqCst) >= far {
+            return;
+        }
+        yield_now();
+    }
+}
+
+// Reads a number a million times, which takes about a millisecond.
+fn linger(number: &AtomicU64) {
+    for _ in 0..1_000_000 {
+        let _ = number.load(Ordering::SeqCst);
+    }
+}
+
+impl Gate for LateGate {
+    fn leased(&self, _worker: u32, block: u32) {
+        if block == LONG {
+            self.long.store(LEASED, Ordering::SeqCst);
+            wait_for(&self.short, LEASED);
+            self.long.store(AT_WORK, Ordering::SeqCst);
+        } else if block == SHORT {
+            self.short.store(LEASED, Ordering::SeqCst);
+            wait_for(&self.long, AT_WORK);
+            // Whoever needs anything for the work alone has it by now.
+            linger(&self.long);
+        }
+    }
+
+    fn giving(&self, _worker: u32, block: u32) {
+        if block == LONG {
+            self.long.store(CAME_BACK, Ordering::SeqCst);
+        } else if block == SHORT && self.long.load(Ordering::SeqCst) == AT_WORK {
+            self.overtook.store(1, Ordering::SeqCst);
+        }
+    }
+}
+
+// A lease with some hundred expansions comes back before one with 62,500 whose work began earlier.
+// So no worker waits while another expands.
+#[test]
+fn a_short_lease_overtakes_a_long_one(rt: HostRuntime) -> Result<(), Fail> {
+    let gate = LateGate {
+        long: AtomicU64::new(0),
+        short: AtomicU64::new(0),
+        overtook: AtomicU64::new(0),
+    };
+    let settings = Settings {
+        workers: 2,
+        lot: 100_000,
+        wish: 16,
+        ..ONE_WORKER
+    };
+    let seen = search_sample(&rt, rt.alloc(), Sample::Hall, settings, &gate)?;
+    assert_eq!(rt; gate.overtook.load(Ordering::SeqCst), 1);
+    assert_eq!(rt; (seen.end, seen.incumbent), (Some(End::Quiet), None));
     Ok(())
 }

@@ -5,7 +5,7 @@ use pb_lease::LeaseGraph;
 use pb_machine::{End, Event, STANDARD, Settings};
 use pb_outside::{Gate, OpenGate};
 use pb_search::search;
-use pb_task::{Board, Task, TilesParts};
+use pb_task::{Board, Cells, Class, GridParts, Swamp, Task, TilesParts};
 use pb_test_examples::{corridor, near_board, open_square, other_ring, solved_board};
 use std::alloc::{AllocError, Global};
 use std::process::Abort;
@@ -24,11 +24,41 @@ pub(crate) enum Sample {
     // It has 3 by 3 cells. The start reaches 181,440 boards.
     BoardWithoutPlan,
     Corridor,
+    // A narrow way to the left of the start and a hall to its right. There is no plan.
+    Hall,
     SpentOnce,
     SpentTwice,
 }
 
-fn task_of(alloc: Global, sample: Sample) -> Result<Task, AllocError> {
+// How many columns and rows the map with the hall has.
+const HALL: (u32, u32) = (2000, 250);
+
+// A map that is land in one row of its left third, and in all rows of the rest but for the last
+// column but one, so that no way leads to the goal in the last column. In blocks of 250 by 250 cells,
+// the first three have 250 cells of land each, and each other has all.
+fn hall<R: Abort>(rt: &R, alloc: Global) -> Result<Task, AllocError> {
+    let mut cells = vec![in alloc; Class::Blocked; 500_000]?;
+    for at in 0..cells.len() {
+        let (x, y) = (at % 2000, at / 2000);
+        if x != 1998 && (x >= 750 || y == 125) {
+            cells[at] = Class::Land;
+        }
+    }
+    let parts = GridParts {
+        width: HALL.0,
+        height: HALL.1,
+        cells: Cells::of(cells),
+        swamp: Swamp::of(vec![in alloc; false; 500_000]?),
+        start: (740, 125),
+        goal: (1999, 125),
+    };
+    match (parts.class_at(740, 125), parts.class_at(1999, 125)) {
+        (Class::Land, Class::Land) => Ok(Task::of_grid(parts)),
+        _ => panic!(rt; "the start or the goal is blocked"),
+    }
+}
+
+fn task_of<R: Abort>(rt: &R, alloc: Global, sample: Sample) -> Result<Task, AllocError> {
     match sample {
         Sample::Solved => solved_board(alloc),
         Sample::OtherRing => other_ring(alloc),
@@ -41,6 +71,7 @@ fn task_of(alloc: Global, sample: Sample) -> Result<Task, AllocError> {
             goal: Board::of(vec![in alloc; 0, 1, 2, 3, 4, 5, 6, 7, 8]?),
         })),
         Sample::Corridor => corridor(alloc),
+        Sample::Hall => hall(rt, alloc),
         Sample::SpentOnce => spent_once(alloc),
         Sample::SpentTwice => spent_twice(alloc),
     }
@@ -74,7 +105,7 @@ fn searched<R: Threads + Wait + Sync + Abort, G: Gate>(
     if pattern > 12 {
         panic!(rt; "the pattern number is out of range")
     }
-    let task = Arc::new(alloc, task_of(alloc, sample)?)?;
+    let task = Arc::new(alloc, task_of(rt, alloc, sample)?)?;
     search(rt, alloc, &task, Choice::with(pattern), settings, gate)
 }
 

@@ -1,5 +1,5 @@
 -- What clauses say of a pass.
-use Rattle.std.specs.Prelude.{◌≡◌, ℕ}
+use Rattle.std.specs.Prelude.{◌≡◌, ◌+◌, ℕ}
 use Rattle.pb_turn.specs.Passes.{view, parts, tries, misses, whole, IsPassOf, IsSamePlace}
 use Rattle.pb_yard.specs.declared.view.View.{View}
 use Rattle.pb_yard.specs.declared.pass.Pass.{Pass}
@@ -44,3 +44,11 @@ tries_of pass = tries pass.turn
 -- how often a step of the pass itself found the turn held
 abbrev pub misses_of : Pass → ℕ
 misses_of pass = misses pass.turn
+
+-- The call took the turn once: each of its own steps that tried for the turn found it held, but one.
+abbrev pub TakesTurnOnce : Pass → Pass → Type 0
+TakesTurnOnce old new = tries_of new + misses_of old ≡ tries_of old + misses_of new + 1
+
+-- no step of the call tried for the turn
+abbrev pub TriesForNoTurn : Pass → Pass → Type 0
+TriesForNoTurn old new = (tries_of new ≡ tries_of old) × (misses_of new ≡ misses_of old)

@@ -5,7 +5,7 @@ ghost use Rattle.pb_lease.specs.declared.answer.LeaseReply.TheVariants.{Leased};
 ghost use Rattle.pb_lease.specs.declared.answer.Renewed.TheVariants.{Kept};
 ghost use Rattle.pb_lease.specs.LeaseValue.{LeaseValue};
 ghost use Rattle.pb_yard.specs.Views.{KeepsOrder, view_leaving_order};
-ghost use Rattle.pb_yard.specs.Passes.{view_of, worker_of, IsOf, KeepsPass};
+ghost use Rattle.pb_yard.specs.Passes.{view_of, worker_of, IsOf, KeepsPass, TakesTurnOnce};
 ghost use Rattle.pb_yard.specs.Order.{HasCause};
 ghost use Rattle.pb_yard.specs.Returning.{IsBrought};
 ghost use Rattle.pb_yard.specs.Calls.{IsActive, Leases, Renews, Releases};
@@ -24,6 +24,7 @@ impl Yard {
         requires vacant { (view_of pass.old).lent ≡ None }
         requires stays { IsActive (view_of pass.old) }
         ensures same { KeepsPass pass.old pass.new }
+        ensures one_turn { TakesTurnOnce pass.old pass.new }
         ensures leased { Leases (worker_of pass.old) (view_of pass.old) result (view_of pass.new) }
         ensures copy { (given : LeaseValue) → result ≡ Leased given
             → given.incumbent ≡ (view_of pass.new).last }
@@ -42,6 +43,7 @@ impl Yard {
     pub fn leave_order<W: Wait>(&self, rt: &W, pass: &mut Pass)
         requires own { IsOf self.now pass.old }
         ensures same { KeepsPass pass.old pass.new }
+        ensures one_turn { TakesTurnOnce pass.old pass.new }
         ensures left { view_of pass.new ≡ view_leaving_order (view_of pass.old) }
     {
         let held = self.lock.enter(rt, &mut pass.turn);
@@ -56,6 +58,7 @@ impl Yard {
         requires brought { IsBrought (view_of pass.old) 0 lease }
         requires spent { KeepsOrder (view_of pass.old) → lease.used ≡ lease.quota }
         ensures same { KeepsPass pass.old pass.new }
+        ensures one_turn { TakesTurnOnce pass.old pass.new }
         ensures renewed { Renews lease (view_of pass.old) result (view_of pass.new) }
         ensures copy { (kept : LeaseValue) → result ≡ Kept kept
             → kept.incumbent ≡ (view_of pass.new).last }
@@ -83,6 +86,7 @@ impl Yard {
         requires brought { IsBrought (view_of pass.old) (one_if memory) lease }
         requires cause { KeepsOrder (view_of pass.old) → HasCause lease memory }
         ensures same { KeepsPass pass.old pass.new }
+        ensures one_turn { TakesTurnOnce pass.old pass.new }
         ensures released { Releases lease memory (view_of pass.old) (view_of pass.new) }
     {
         let (mut held, incumbent) = self.enter_reading(rt, &mut pass.turn);

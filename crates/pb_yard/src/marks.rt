@@ -2,7 +2,7 @@
 ghost use Rattle.std.specs.Prelude.{◌≡◌, ◌<◌, ◌||◌, None, IsTrue, IsSome, is_some};
 ghost use Rattle.pb_machine.specs.History.{end_in};
 ghost use Rattle.pb_abstract.specs.Graph.{blocks_of};
-ghost use Rattle.pb_yard.specs.Passes.{view_of, worker_of, IsOf, KeepsPass};
+ghost use Rattle.pb_yard.specs.Passes.{view_of, worker_of, IsOf, KeepsPass, TakesTurnOnce};
 ghost use Rattle.pb_yard.specs.Returning.{IsLeaseOf};
 ghost use Rattle.pb_yard.specs.Replies.{reported};
 ghost use Rattle.pb_yard.specs.Calls.{IsActive, AsksRival, Marks, Cools, SignsOff};
@@ -27,6 +27,7 @@ impl Yard {
         requires own { IsOf self.now pass.old }
         requires leased { IsLeaseOf (view_of pass.old) lease.now }
         ensures same { KeepsPass pass.old pass.new }
+        ensures one_turn { TakesTurnOnce pass.old pass.new }
         ensures rival { AsksRival lease.now (view_of pass.old) result (view_of pass.new) }
     {
         let held = self.lock.enter(rt, &mut pass.turn);
@@ -43,6 +44,7 @@ impl Yard {
         requires leased { IsSome (view_of pass.old).lent }
         requires block { block < (blocks_of (view_of pass.old).abstraction).count }
         ensures same { KeepsPass pass.old pass.new }
+        ensures one_turn { TakesTurnOnce pass.old pass.new }
         ensures marked { Marks (worker_of pass.old) block (view_of pass.old) result
             (view_of pass.new) }
     {
@@ -60,6 +62,7 @@ impl Yard {
         requires leased { IsSome (view_of pass.old).lent }
         requires block { block < (blocks_of (view_of pass.old).abstraction).count }
         ensures same { KeepsPass pass.old pass.new }
+        ensures one_turn { TakesTurnOnce pass.old pass.new }
         ensures cooled { Cools (worker_of pass.old) block (view_of pass.old) result
             (view_of pass.new) }
     {
@@ -79,6 +82,7 @@ impl Yard {
         requires stays { IsActive (view_of pass.old) }
         requires cause { IsTrue (memory || is_some (end_in (view_of pass.old).journal.seen)) }
         ensures same { KeepsPass pass.old pass.new }
+        ensures one_turn { TakesTurnOnce pass.old pass.new }
         ensures signed_off { SignsOff (worker_of pass.old) memory (view_of pass.old)
             (view_of pass.new) }
     {

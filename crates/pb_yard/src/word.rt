@@ -8,7 +8,7 @@ ghost use Rattle.pb_lease.specs.GraphValue.{GraphValue};
 ghost use Rattle.pb_yard.specs.Views.{cost_of, bounded, view_read, view_told};
 ghost use Rattle.pb_yard.specs.Rule.{IsAt, YardFact};
 ghost use Rattle.pb_yard.specs.Returning.{IsFound};
-ghost use Rattle.pb_yard.specs.Passes.{view_of, IsOf, KeepsPass};
+ghost use Rattle.pb_yard.specs.Passes.{view_of, IsOf, KeepsPass, TriesForNoTurn};
 ghost use Rattle.pb_yard.specs.Calls.{HasPlanWithin, LowersIncumbent};
 
 use crate::pass::Pass;
@@ -56,6 +56,7 @@ impl Yard {
     pub fn glance(&self, pass: &mut Pass) -> Option<u64>
         requires own { IsOf self.now pass.old }
         ensures same { KeepsPass pass.old pass.new }
+        ensures no_turn { TriesForNoTurn pass.old pass.new }
         ensures falls { AtMost result (view_of pass.old).last }
         ensures shared { (g : GraphValue) × (at : IsAt g (view_of pass.old))
             × (at.shared ≡ result) }
@@ -74,6 +75,7 @@ impl Yard {
         requires fits { cost < 18446744073709551615 }
         requires found { IsFound (view_of pass.old) lease.now cost }
         ensures same { KeepsPass pass.old pass.new }
+        ensures no_turn { TriesForNoTurn pass.old pass.new }
         ensures step { LowersIncumbent (view_of pass.old) cost }
         ensures view { view_of pass.new ≡ view_told (view_of pass.old) cost }
     {
@@ -93,6 +95,8 @@ impl Yard {
         requires rests { IsResting turn.old }
         requires live { (view turn.old).journal.is_live ≡ true }
         ensures same { turns.IsSamePass turn.old turn.new }
+        ensures one_turn { tries turn.new + misses turn.old ≡ tries turn.old + misses turn.new
+            + 1 }
         ensures won { HoldsTurn turn.new (found result.0) }
         ensures graph { state result.0 ≡ bounded (found result.0) result.1 }
         ensures view { view turn.new ≡ view_read (Some (found result.0)) (view turn.old) result.1 }
@@ -144,7 +148,7 @@ impl Yard {
         requires fresh { state held ≡ found held }
         requires live { (view turn.old).journal.is_live ≡ true }
         ensures same { turns.IsSamePass turn.old turn.new }
-        ensures tries { tries turn.new ≡ tries turn.old }
+        ensures tries { (tries turn.new ≡ tries turn.old) × (misses turn.new ≡ misses turn.old) }
         ensures found { found result.0 ≡ found held }
         ensures won { HoldsTurn turn.new (found result.0) }
         ensures graph { state result.0 ≡ bounded (found result.0) result.1 }
