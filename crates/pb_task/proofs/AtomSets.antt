@@ -1,13 +1,13 @@
 -- Sets of atoms as numbers.
-use Rattle.std.proofs.Common.{◌≡◌, ℕ, zero, suc, ◌+◌, ◌-◌, ◌*◌, ◌/◌, ◌%◌, ◌^◌, ◌<◌, ◌≤◌, Bool, true, false, not, IsTrue, nat_eq, ◌==◌, ◌&&◌, ◌||◌, inl, inr, refl, sym, subst, ap, arith, ◌∙◌, bit_and, bit_or, min, max, lit<, ◌↔◌}
-use Rattle.std.proofs.Math.Nat.{div-eq_of_lt, pow-le-pow_right, pow-suc}
-use Rattle.std.specs.Int.{Width, bit_at, bit_not, w64}
+use Rattle.std.proofs.Common.{◌≡◌, ℕ, zero, suc, ◌+◌, ◌-◌, ◌*◌, ◌^◌, ◌<◌, ◌≤◌, Bool, true, false, not, IsTrue, ◌==◌, ◌&&◌, ◌||◌, inl, inr, refl, sym, subst, ap, arith, ◌∙◌, bit_and, bit_or, min, max, lit<, ◌↔◌}
+use Rattle.std.proofs.Math.Nat.{pow-le-pow_right, pow-suc}
+use Rattle.std.specs.Int.{Width, bit_at, bit_not}
 use mir.Val.{bits}
-use Rattle.std.proofs.lemmas.Bool.{eqb-true, eq-eqb, cases_lt, false≢true, and_parts, and_from}
+use Rattle.std.proofs.lemmas.Bool.{cases_lt, false≢true, and_parts, and_from}
 use Rattle.std.proofs.lemmas.Bool.Decides.{same_from_decides}
-use Rattle.std.proofs.lemmas.Nat.{pow-add, pow_pos, mod_below, and_le_l, shr-shr, shr_split, mul-add-lt}
+use Rattle.std.proofs.lemmas.Nat.{and_le_l, mul-add-lt}
 use Rattle.std.proofs.lemmas.Nat.Bits.{bit_at_and, bit_at_or, bit_at_not, bit_at-lt, bit_at_above, bit_at_cat_low, bit_at_cat_high, same_from_bits_below}
-use Rattle.pb_packed.specs.Bits.{bits_of, with_bits_of, bit_number}
+use Rattle.pb_packed.specs.Bits.{bit_number}
 use Rattle.pb_task.specs.Strips.{has_atom, set_of, is_within}
 use Rattle.pb_task.specs.Laws.{SetsAreOfAtoms}
 

@@ -1,5 +1,5 @@
 -- Sets of atoms as words: an atom is in a set where its bit of its word is 1.
-use Rattle.std.proofs.Common.{◌≡◌, ℕ, zero, suc, ◌+◌, ◌-◌, ◌*◌, ◌/◌, ◌%◌, ◌^◌, ◌<◌, ◌≤◌, ◌≢◌, ◌⊎◌, Bool, true, false, not, IsTrue, ◌&&◌, ◌||◌, ◌==◌, List, [], ◌∷◌, length, ◌++◌, take, drop, get_or, slice_set, bit_and, bit_or, refl, sym, ap, subst, arith, ◌∙◌, inl, inr, lit<}
+use Rattle.std.proofs.Common.{◌≡◌, ℕ, zero, suc, ◌+◌, ◌*◌, ◌/◌, ◌%◌, ◌^◌, ◌<◌, ◌≤◌, ◌≢◌, ◌⊎◌, Bool, true, false, not, IsTrue, ◌&&◌, ◌||◌, List, [], ◌∷◌, length, ◌++◌, take, drop, get_or, slice_set, bit_and, bit_or, refl, sym, ap, subst, arith, ◌∙◌, inl, inr, lit<}
 use Rattle.std.specs.Int.{bit_not, w64}
 use Rattle.std.proofs.Math.ListN.{get_or-eq_default}
 use Rattle.std.proofs.lemmas.Bool.{false≢true, cases_lt}

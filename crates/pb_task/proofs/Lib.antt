@@ -8,6 +8,7 @@ mod NextAtoms
 mod FlatWords
 mod FlatActions
 mod Acting
+mod Marked
 mod Grids
 mod Widths
 mod Successors

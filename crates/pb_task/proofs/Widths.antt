@@ -1,15 +1,13 @@
 -- The states of a task have no more digits than its width says.
-use Rattle.std.proofs.Common.{◌≡◌, ℕ, zero, suc, ◌+◌, ◌-◌, ◌*◌, ◌/◌, ◌^◌, ◌<◌, ◌≤◌, Bool, true, false, IsTrue, ◌==◌, nat_lt, if◌then◌else◌, refl, sym, subst, ap, arith, ◌∙◌}
+use Rattle.std.proofs.Common.{◌≡◌, ℕ, zero, suc, ◌+◌, ◌*◌, ◌/◌, ◌^◌, ◌<◌, ◌≤◌, IsTrue, nat_lt, if◌then◌else◌, refl, sym, subst, ap, arith, ◌∙◌}
 use Rattle.std.proofs.lemmas.Bool.{and_parts, ltb-true}
 use Rattle.std.proofs.lemmas.Nat.{pow-add}
 use Rattle.std.proofs.Math.Nat.{pow-suc}
 use Rattle.std.proofs.Math.Dec.{eqb-suc-zero}
 use Rattle.pb_packed.specs.Sizes.{most_atoms, most_digits}
-use Rattle.pb_task.specs.Widths.{digits_for, width_of, StatesFitTheirWidth}
-use Rattle.pb_task.specs.Parts.{space_of, IsTask}
+use Rattle.pb_task.specs.Widths.{digits_for, StatesFitTheirWidth}
 use Rattle.pb_task.specs.Tiles.{cell_count, is_board, board_of, is_board_state, IsTiles}
-use Rattle.pb_task.specs.Strips.{is_atom_set, IsStrips}
-use Rattle.pb_task.specs.declared.parts.TaskParts.{TaskParts}
+use Rattle.pb_task.specs.Strips.{is_atom_set}
 use Rattle.pb_task.specs.declared.parts.TilesParts.{TilesParts}
 use Rattle.pb_task.specs.declared.parts.StripsParts.{StripsParts}
 use Rattle.pb_task.specs.declared.parts.TaskParts.TheVariants.{Grid, Tiles, Strips}

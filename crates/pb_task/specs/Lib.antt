@@ -6,6 +6,8 @@ pub mod Slides
 pub mod FlatSets
 pub mod Actions
 pub mod Strips
+pub mod Marks
+pub mod Swamps
 pub mod Parts
 pub mod Kinds
 pub mod Groundings

@@ -22,16 +22,28 @@ const BITS: u32 = 11;
 // How many columns these bits can distinguish.
 const COLUMNS: u64 = 1 << BITS;
 
+// The word that represents a cell.
+#[inline]
+fn word_of(x: u32, y: u32) -> u64
+    requires x { x < 2048 }
+    requires y { y < 2048 }
+    ensures { result ≡ cell_state x y }
+{
+    u64::from(y) * COLUMNS + u64::from(x)
+}
+
 /// The state that represents a cell.
+#[inline]
 pub fn pack(x: u32, y: u32) -> Packed
     requires x { x < 2048 }
     requires y { y < 2048 }
     ensures { result ≡ cell_state x y }
 {
-    Packed::of_word(u64::from(y) * COLUMNS + u64::from(x))
+    Packed::of_word(word_of(x, y))
 }
 
 // The column and the row in a state's bits.
+#[inline]
 fn unpack(state: &Packed) -> (u32, u32)
     ensures x { result.0 ≡ bits_of state.now 0 11 }
     ensures y { result.1 ≡ bits_of state.now 11 11 }
@@ -44,6 +56,7 @@ fn unpack(state: &Packed) -> (u32, u32)
 
 impl GridParts {
     /// The class of the cell in this column and row. Off the map all is blocked.
+    #[inline]
     pub fn class_at(&self, x: u32, y: u32) -> Class
         ensures class { result ≡ class_at self.now x y }
         ensures column { result ≢ Blocked → x < self.now.width }
@@ -59,6 +72,7 @@ impl GridParts {
     }
 
     /// Whether the cell in this column and row is swamp. Off the map none is.
+    #[inline]
     pub fn is_swamp(&self, x: u32, y: u32) -> bool
         ensures { result ≡ is_swamp self.now x y }
     {
@@ -72,6 +86,7 @@ impl GridParts {
 }
 
 // What it costs to enter a cell.
+#[inline]
 fn entry_cost(grid: &GridParts, x: u32, y: u32) -> u64
     ensures { result ≡ entry_cost grid.now x y }
 {
@@ -87,6 +102,7 @@ pub fn class_of_state(grid: &GridParts, state: &Packed) -> Class
 }
 
 // The same, with the column and the row in the state's bits.
+#[inline]
 fn class_of_cell(grid: &GridParts, state: &Packed, x: u32, y: u32) -> Class
     requires x { x ≡ bits_of state.now 0 11 }
     requires y { y ≡ bits_of state.now 11 11 }
@@ -113,6 +129,7 @@ pub fn is_passable(class: Class) -> bool
 }
 
 /// Whether a cell of the one class can be left for one of the other that lies beside it.
+#[inline]
 pub fn are_connected(from: Class, to: Class) -> bool
     ensures { result ≡ are_connected from to }
 {
@@ -124,6 +141,7 @@ pub fn are_connected(from: Class, to: Class) -> bool
 
 /// The cell beside the one in a column and a row in the action's direction, on the map or off it: 0
 /// is up, 1 down, 2 left, 3 right.
+#[inline]
 pub fn cell_beside(x: u32, y: u32, action: u32) -> Option<(u32, u32)>
     requires x { x < 2 ^ 24 }
     requires y { y < 2 ^ 24 }
@@ -139,15 +157,16 @@ pub fn cell_beside(x: u32, y: u32, action: u32) -> Option<(u32, u32)>
     }
 }
 
-// The step from a cell of the class to this cell, if the two are connected.
-fn step_to(grid: &GridParts, from: Class, cell: Option<(u32, u32)>) -> Option<(Packed, u64)>
+// The step from a cell of the class to this cell, if the two are connected. The state is a word.
+#[inline]
+fn step_to(grid: &GridParts, from: Class, cell: Option<(u32, u32)>) -> Option<(u64, u64)>
     requires width { grid.now.width ≤ 2048 }
     requires height { grid.now.height ≤ 2048 }
     ensures { result ≡ step_to grid.now from cell }
 {
     let (x, y) = cell?;
     if are_connected(from, grid.class_at(x, y)) {
-        Some((pack(x, y), entry_cost(grid, x, y)))
+        Some((word_of(x, y), entry_cost(grid, x, y)))
     } else {
         None
     }
@@ -161,7 +180,8 @@ pub fn step(grid: &GridParts, from: &Packed, action: u32) -> Option<(Packed, u64
 {
     let (x, y) = unpack(from);
     let class = class_of_cell(grid, from, x, y);
-    step_to(grid, class, cell_beside(x, y, action))
+    let (word, cost) = step_to(grid, class, cell_beside(x, y, action))?;
+    Some((Packed::of_word(word), cost))
 }
 
 /// Replaces the list by all successors of a state, in order of the actions. The state is read once.

@@ -11,6 +11,7 @@ mod grid;
 mod grounding;
 mod kind;
 mod laws;
+mod marks;
 mod parts;
 mod plan;
 mod sets;

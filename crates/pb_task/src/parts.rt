@@ -1,5 +1,5 @@
 //! What a task of each kind is made of: maps, boards, and STRIPS tasks with their ground actions.
-ghost use Rattle.std.specs.Prelude.{◌≡◌, slice_get, string_bytes};
+ghost use Rattle.std.specs.Prelude.{◌≡◌, false, replicate, slice_get, string_bytes};
 
 use crate::actions::Actions;
 use crate::grounding::Grounding;
@@ -41,6 +41,7 @@ impl Cells {
     }
 
     /// The class of the cell at this place, counted from 0. None if there are fewer cells.
+    #[inline]
     pub fn get(&self, at: usize) -> Option<Class>
         ensures { result ≡ slice_get self.now at }
     {
@@ -48,18 +49,28 @@ impl Cells {
     }
 }
 
+// Which cells are swamp. A map without swamp keeps no marks: there may be four million cells.
+#[derive(Drop)]
+enum SwampMarks {
+    // A mark for each cell.
+    Marks(Vec<bool>),
+    // None of so many cells is swamp.
+    NoneOf(usize),
+}
+
 /// Which of a map's cells cost 2 to enter, row by row from the upper left cell on.
 #[derive(Drop)]
 pub struct Swamp {
-    marks: Vec<bool>,
+    marks: SwampMarks,
 }
 
 impl Model for Swamp {
     ghost use Rattle.std.specs.Prelude.{Bool, List};
+    ghost use Rattle.pb_task.specs.Swamps.{marks_of};
 
     ghost Value = { List Bool };
 
-    ghost view = { λ s. s.marks.items };
+    ghost view = { λ s. marks_of s.marks };
 }
 
 impl Swamp {
@@ -67,14 +78,30 @@ impl Swamp {
     pub fn of(marks: Vec<bool>) -> Swamp
         ensures { result ≡ marks.items }
     {
-        Swamp { marks }
+        Swamp {
+            marks: SwampMarks::Marks(marks),
+        }
+    }
+
+    /// No swamp among so many cells. It takes no memory.
+    pub fn none(count: usize) -> Swamp
+        ensures { result ≡ replicate count false }
+    {
+        Swamp {
+            marks: SwampMarks::NoneOf(count),
+        }
     }
 
     /// Whether the cell at this place, counted from 0, is swamp. None if there are fewer cells.
+    #[inline]
     pub fn get(&self, at: usize) -> Option<bool>
         ensures { result ≡ slice_get self.now at }
     {
-        self.marks.get(at).copied()
+        match &self.marks {
+            SwampMarks::Marks(marks) => marks.get(at).copied(),
+            SwampMarks::NoneOf(count) if at < *count => Some(false),
+            SwampMarks::NoneOf(_) => None,
+        }
     }
 }
 

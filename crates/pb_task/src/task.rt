@@ -1,9 +1,10 @@
 //! The type of tasks, whose calls go to the kind of the task.
-ghost use Rattle.std.specs.Prelude.{◌≡◌, ◌<◌, ◌≤◌, IsTrue, IfOk, vec_capacity, string_bytes};
+ghost use Rattle.std.specs.Prelude.{◌≡◌, ℕ, ◌*◌, ◌<◌, ◌≤◌, IsTrue, IfOk, None, false, length, vec_capacity, string_bytes};
 ghost use Rattle.pb_model.specs.Space.{steps};
 ghost use Rattle.pb_task.specs.Grid.{IsGrid};
 ghost use Rattle.pb_task.specs.Tiles.{IsTiles};
 ghost use Rattle.pb_task.specs.Strips.{IsStrips};
+ghost use Rattle.pb_task.specs.Marks.{is_marked};
 ghost use Rattle.pb_packed.specs.Sizes.{state_bits, most_digits};
 ghost use Rattle.pb_task.specs.Kinds.{kind_of};
 ghost use Rattle.pb_task.specs.Groundings.{grounding_of};
@@ -204,6 +205,26 @@ impl Task {
             TaskParts::Grid(parts) => grid::successors(parts, from, out),
             TaskParts::Tiles(parts) => tiles::successors(parts, from, out),
             TaskParts::Strips(parts) => strips::successors(parts, from, out),
+        }
+    }
+
+    /// Replaces the list by all successors of a state, in order of the actions, where no action but
+    /// the marked ones is applicable. Action i is marked if bit i % 64 of word i / 64 is 1. It takes
+    /// no memory: the list has room for the successors.
+    pub fn successors_among(&self, from: &Packed, marks: &[u64], out: &mut Vec<Succ>)
+        requires marks { (space_of self.now).actions ≤ 64 * length marks.now }
+        requires others { (action : ℕ) → action < (space_of self.now).actions
+            → is_marked marks.now action ≡ false → (space_of self.now).step from.now action ≡ None }
+        requires state { IsTrue ((space_of self.now).is_state from.now) }
+        requires room { max_degree_of self.now ≤ vec_capacity out.old }
+        ensures successors { out.new.items ≡ steps (space_of self.now) from.now }
+        ensures room { vec_capacity out.old ≤ vec_capacity out.new }
+    {
+        match &self.parts {
+            // Four actions are too few for marks to be of use.
+            TaskParts::Grid(parts) => grid::successors(parts, from, out),
+            TaskParts::Tiles(parts) => tiles::successors(parts, from, out),
+            TaskParts::Strips(parts) => strips::successors_among(parts, from, marks, out),
         }
     }
 

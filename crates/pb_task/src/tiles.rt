@@ -176,7 +176,8 @@ fn exchanged(word: u64, count: u32, blank: u32, other: u32) -> u64
     word - (number << (BITS * other)) + (number << (BITS * blank))
 }
 
-// The step that moves the blank of the board that a word represents.
+// The step that moves the blank of the board that a word represents. The state is a word too.
+#[inline]
 fn slide_word(
     tiles: &TilesParts,
     word: u64,
@@ -184,7 +185,7 @@ fn slide_word(
     column: u32,
     row: u32,
     action: u32,
-) -> Option<(Packed, u64)>
+) -> Option<(u64, u64)>
     requires tiles { IsTiles tiles.now }
     requires state { IsTrue (is_board_state (cell_count tiles.now) word) }
     requires blank { blank_of (board_of (cell_count tiles.now) word) ≡ Some blank }
@@ -195,7 +196,7 @@ fn slide_word(
 {
     let other = neighbour(tiles, column, row, action)?;
     let moved = exchanged(word, tiles.rows * tiles.cols, blank, other);
-    Some((Packed::of_word(moved), 1))
+    Some((moved, 1))
 }
 
 /// Replaces the list by all successors of a state, in order of the actions. The state is read once.

@@ -1,4 +1,4 @@
-use Rattle.std.proofs.Common.{◌≡◌, ◌<◌, ◌≤◌, ◌^◌, ℕ, length, get_or, bit_or, refl, ap, arith, ◌∙◌}
+use Rattle.std.proofs.Common.{◌<◌, ◌^◌, length, get_or, bit_or, refl, ap, arith, ◌∙◌}
 use Rattle.std.proofs.lemmas.List.{length-set}
 use Rattle.std.proofs.lemmas.Nat.{or_lt}
 use Rattle.pb_packed.proofs.Callers.{set_words}

@@ -1,4 +1,4 @@
-use Rattle.std.proofs.Common.{◌≡◌, ◌<◌, ◌≤◌, ◌^◌, ℕ, length, get_or, bit_and, refl, ap, arith, ◌∙◌}
+use Rattle.std.proofs.Common.{◌<◌, ◌^◌, length, get_or, bit_and, refl, ap, arith, ◌∙◌}
 use Rattle.std.specs.Int.{bit_not, w64}
 use Rattle.std.proofs.lemmas.List.{length-set}
 use Rattle.std.proofs.lemmas.Nat.{and_le_l}

@@ -1,4 +1,4 @@
-use Rattle.std.proofs.Common.{ℕ, ◌↔◌, IsTrue, subst, ◌∙◌, arith}
+use Rattle.std.proofs.Common.{ℕ, ◌↔◌, IsTrue, subst, ◌∙◌}
 use Rattle.pb_packed.specs.Words.{number_of}
 use Rattle.pb_task.specs.Strips.{has_atom}
 use Rattle.pb_task.proofs.Acting.{fits_words, action_known}
