@@ -1,7 +1,7 @@
 -- The marks of swamp: how loops add them, and that they are those of the rows that a map has.
-use Rattle.std.proofs.Common.{◌≡◌, ℕ, suc, ◌+◌, ◌-◌, ◌<◌, ◌≤◌, Bool, false, List, [], ◌∷◌, ◌++◌, length, take, drop, map, replicate, get_or, refl, sym, ap, ◌∙◌, arith, append_assoc}
+use Rattle.std.proofs.Common.{◌≡◌, ℕ, suc, ◌+◌, ◌-◌, ◌<◌, ◌≤◌, Bool, true, false, List, [], ◌∷◌, ◌++◌, length, length-append, take, drop, map, replicate, get_or, refl, sym, ap, ◌∙◌, arith, append_assoc}
 use Rattle.std.specs.List.{concat}
-use Rattle.std.proofs.lemmas.List.{append-nil, drop_more, drop_all, take_all, map-append}
+use Rattle.std.proofs.lemmas.List.{append-nil, drop_more, drop_all, map-append}
 use Rattle.std.proofs.Math.Seq.{take-append_seam}
 use Rattle.pb_task.specs.declared.parts.Class.{Class}
 use Rattle.pb_grid.specs.Lines.{lines_of}
@@ -22,13 +22,6 @@ none_marked : (row : List ℕ) → replicate (length row) false ≡ map (is_swam
 none_marked [] = refl
 none_marked (byte ∷ row) = ap (λ (marks : List Bool). false ∷ marks) (none_marked row)
 
--- a row without swamp
-pub none_added : (before : List Bool) (row : List ℕ) (len n : ℕ) → len ≡ length before → n ≡ len + length row → take n before ++ replicate (n - len) false ≡ before ++ map (is_swamp_byte false) row
-none_added before row len n len_is n_is =
-    let more : n - len ≡ length row = omega (arith, n_is) in
-    ap (λ (marks : List Bool). marks ++ replicate (n - len) false) (take_all n before (omega (arith, len_is, n_is)))
-    ∙ (ap (λ k. before ++ replicate k false) more ∙ ap (λ (marks : List Bool). before ++ marks) (none_marked row))
-
 -- ---- the marks of rows
 
 pub row_added : (f : ℕ → Bool) (before total : List Bool) (height y : ℕ) (lines behind : List (List ℕ)) (row : List ℕ) → y < height → lines ≡ row ∷ behind
@@ -44,6 +37,30 @@ row_added f before total height y lines behind row less lines_are so_far =
 pub rows_marked : (f : ℕ → Bool) (before total : List Bool) (height y : ℕ) (lines : List (List ℕ)) → height ≤ y → before ++ map f (concat (take (height - y) lines)) ≡ total → before ≡ total
 rows_marked f before total height y lines le so_far =
     let none : height - y ≡ 0 = omega (arith, le) in sym (append-nil before) ∙ (ap (λ n. before ++ map f (concat (take n lines))) (sym none) ∙ so_far)
+
+-- one row's bytes more are counted
+pub row_counted : (before after total height y : ℕ) (lines behind : List (List ℕ)) (row : List ℕ) → y < height → lines ≡ row ∷ behind
+    → after ≡ before + length row → before + length (concat (take (height - y) lines)) ≡ total → after + length (concat (take (height - (y + 1)) behind)) ≡ total
+row_counted before after total height y lines behind row less lines_are more so_far =
+    let left : ℕ = height - (y + 1) in
+    let one_more : height - y ≡ suc (height - (y + 1)) = omega arith in
+    let bytes : row ++ concat (take left behind) ≡ concat (take (height - y) lines) =
+    ap (λ n. concat (take n (row ∷ behind))) (sym one_more) ∙ ap (λ (ls : List (List ℕ)). concat (take (height - y) ls)) (sym lines_are) in
+    let sum : length row + length (concat (take left behind)) ≡ length (concat (take (height - y) lines)) = sym (length-append row (concat (take left behind))) ∙ ap length bytes in
+    omega (arith, more, so_far, sum)
+
+-- which cells of all rows are swamp: those of the marks, and without swamp none
+pub swamp_read : (swamp : Bool) (read marks : List Bool) (count height y : ℕ) (lines : List (List ℕ)) (bytes : List ℕ) → height ≤ y
+    → (swamp ≡ true → read ≡ marks) → (swamp ≡ false → read ≡ replicate count false)
+    → (swamp ≡ true → marks ++ map (is_swamp_byte true) (concat (take (height - y) lines)) ≡ map (is_swamp_byte true) bytes)
+    → count + length (concat (take (height - y) lines)) ≡ length bytes → read ≡ map (is_swamp_byte swamp) bytes
+swamp_read true read marks count height y lines bytes le with_marks without so_far counted =
+    with_marks refl ∙ rows_marked (is_swamp_byte true) marks (map (is_swamp_byte true) bytes) height y lines le (so_far refl)
+swamp_read false read marks count height y lines bytes le with_marks without so_far counted =
+    let none : height - y ≡ 0 = omega (arith, le) in
+    let all : count + 0 ≡ length bytes = ap (λ n. count + length (concat (take n lines))) (sym none) ∙ counted in
+    let same : count ≡ length bytes = omega (arith, all) in
+    without refl ∙ ap (λ n. replicate n false) same ∙ none_marked bytes
 
 -- ---- the rows of a map that is spelled
 

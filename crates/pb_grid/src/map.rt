@@ -1,6 +1,6 @@
 //! The map that a text spells, read a row at a time: each byte gives its cell's class and its mark
 //! of swamp.
-ghost use Rattle.std.specs.Prelude.{◌≡◌, ◌≤◌, ◌^◌, ◌&&◌, ◌++◌, true, take, drop, map, IfOk};
+ghost use Rattle.std.specs.Prelude.{◌≡◌, ◌+◌, ◌≤◌, ◌^◌, ◌&&◌, ◌++◌, true, false, length, take, drop, map, replicate, vec_len, IfOk};
 ghost use Rattle.std.specs.List.{concat};
 ghost use Rattle.pb_grid.specs.Lines.{lines_of};
 ghost use Rattle.pb_grid.specs.Reading.{Gives, added_to, is_side, cells_of, row_of_map, rows_of_map, below_map, map_reading, is_swamp_byte, swamp_of};
@@ -34,8 +34,9 @@ fn add_cells(
     line: u64,
     row: &[u8],
 ) -> Result<(), GridError>
-    ensures { Gives (λ _. cells.new.items) result
+    ensures gives { Gives (λ _. cells.new.items) result
         (added_to cells.old.items (cells_of line 1 row.now)) }
+    ensures len { IfOk result (λ _. vec_len cells.new ≡ vec_len cells.old + length row.now) }
 {
     // The text has all of the row's bytes, so room for them all may be reserved.
     cells.reserve(row.len())?;
@@ -59,8 +60,9 @@ fn add_row(
     line: u64,
     row: &[u8],
 ) -> Result<(), GridError>
-    ensures { Gives (λ _. cells.new.items) result
+    ensures gives { Gives (λ _. cells.new.items) result
         (added_to cells.old.items (row_of_map width line row.now)) }
+    ensures len { IfOk result (λ _. vec_len cells.new ≡ vec_len cells.old + length row.now) }
 {
     // The length is judged before the bytes, as the order of refusals has it.
     if row.len() != width as usize {
@@ -81,28 +83,37 @@ fn add_swamp(marks: &mut Vec<bool>, row: &[u8]) -> Result<(), AllocError>
     Ok(())
 }
 
-// Adds for each byte of a row whether its cell is swamp. No cell is, unless swamp is asked for.
+// Adds for each byte of a row whether its cell is swamp, if swamp is asked for. Else no mark is
+// kept.
 fn add_marks(marks: &mut Vec<bool>, swamp: bool, row: &[u8]) -> Result<(), AllocError>
-    ensures { IfOk result (λ _. marks.new.items ≡ marks.old.items
-        ++ map (is_swamp_byte swamp) row.now) }
+    ensures { IfOk result (λ _. swamp ≡ true → marks.new.items ≡ marks.old.items
+        ++ map (is_swamp_byte true) row.now) }
 {
-    if swamp {
-        return add_swamp(marks, row);
-    }
-    marks.resize(marks.len() + row.len(), false)?;
-    Ok(())
+    if swamp { add_swamp(marks, row) } else { Ok(()) }
 }
 
-// The cells of a map's rows, a mark for each of them, and the text below the rows.
+// The swamp among this many cells: that of the marks, if swamp is asked for.
+fn swamp_among(swamp: bool, marks: Vec<bool>, count: usize) -> Swamp
+    ensures marks { swamp ≡ true → result ≡ marks.items }
+    ensures none { swamp ≡ false → result ≡ replicate count false }
+{
+    if swamp {
+        Swamp::of(marks)
+    } else {
+        Swamp::none(count)
+    }
+}
+
+// The cells of a map's rows, which of them are swamp, and the text below the rows.
 fn rows_of_map(
     alloc: Global,
     width: u32,
     height: u32,
     text: &[u8],
     swamp: bool,
-) -> Result<(Vec<Class>, Vec<bool>, &[u8]), GridError>
+) -> Result<(Vec<Class>, Swamp, &[u8]), GridError>
     ensures gives { Gives (λ x. x.0.items) result (rows_of_map width height 5 (lines_of text.now)) }
-    ensures marks { IfOk result (λ x. x.1.items
+    ensures swamp { IfOk result (λ x. x.1
         ≡ map (is_swamp_byte swamp) (concat (take height (lines_of text.now)))) }
     ensures rest { IfOk result (λ x. lines_of x.2.now ≡ drop height (lines_of text.now)) }
 {
@@ -120,7 +131,8 @@ fn rows_of_map(
         add_marks(&mut marks, swamp, row)?;
         rest = below;
     }
-    Ok((cells, marks, rest))
+    let swamp = swamp_among(swamp, marks, cells.len());
+    Ok((cells, swamp, rest))
 }
 
 // That each line of a text is blank. The first has this number.
@@ -165,12 +177,12 @@ pub fn read_map(alloc: Global, text: &[u8], swamp: bool) -> Result<(MapParts, Sw
     if !is_size(height, width) {
         return Err(GridError::Size);
     }
-    let (cells, marks, below) = rows_of_map(alloc, width, height, rows, swamp)?;
+    let (cells, swamp, below) = rows_of_map(alloc, width, height, rows, swamp)?;
     below_map(FIRST_ROW + u64::from(height), below)?;
     let parts = MapParts {
         width,
         height,
         cells: Cells::of(cells),
     };
-    Ok((parts, Swamp::of(marks)))
+    Ok((parts, swamp))
 }
