@@ -13,20 +13,15 @@ pub fn push_successor(out: &mut Vec<Succ>, action: u32, state: Packed, cost: u64
     ensures len { vec_len out.new ≤ vec_len out.old + 1 }
     ensures room { vec_capacity out.old ≤ vec_capacity out.new }
 {
-    let successor = Succ {
+    out.push_reserved(Succ {
         action,
         state,
         cost,
-    };
-    match out.push(successor) {
-        Ok(()) => {}
-        // The list has room, so the call takes no memory.
-        Err(_) => unreachable!(),
-    }
+    });
 }
 
-/// Adds the successor by an action, if it is applicable, to a list that has room for it. Its state is
-/// one word: a whole state is copied only into the list.
+/// Adds the successor by an action, if it is applicable, to a list that has room for it. Its state
+/// is one word: a whole state is copied only into the list.
 #[inline]
 pub fn push_step(out: &mut Vec<Succ>, action: u32, step: Option<(u64, u64)>)
     requires { vec_len out.old < vec_capacity out.old }

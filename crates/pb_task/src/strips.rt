@@ -155,7 +155,7 @@ pub fn step(strips: &StripsParts, from: &Packed, action: u32) -> Option<(Packed,
 }
 
 // Adds the successor by an action of the state that these words spell, if the action is applicable,
-// to a list that has room for it. The state after it is made where it is added.
+// to a list that has room for it. The state after the action is made where it is added.
 #[inline]
 fn push_step<const W: usize>(
     strips: &StripsParts,
@@ -245,8 +245,8 @@ pub fn successors(strips: &StripsParts, from: &Packed, out: &mut Vec<Succ>)
     }
 }
 
-// Replaces the list by all successors of a state, of a task whose atoms fit so many words. No action
-// but the marked ones is applicable.
+// Replaces the list by all successors of a state, of a task whose atoms fit so many words. No
+// action but the marked ones is applicable.
 #[inline]
 fn among_in<const W: usize>(strips: &StripsParts, from: &Packed, marks: &[u64], out: &mut Vec<Succ>)
     requires some { 1 ≤ W }
