@@ -11,7 +11,7 @@ pub fn open_square(alloc: Global) -> Result<Task, AllocError> {
         width: 3,
         height: 3,
         cells: Cells::of(vec![in alloc; land, land, land, land, land, land, land, land, land]?),
-        swamp: Swamp::of(vec![in alloc; false; 9]?),
+        swamp: Swamp::none(9),
         start: (0, 0),
         goal: (2, 2),
     });
@@ -24,7 +24,7 @@ pub fn shore(alloc: Global) -> Result<Task, AllocError> {
         width: 2,
         height: 1,
         cells: Cells::of(vec![in alloc; Class::Land, Class::Water]?),
-        swamp: Swamp::of(vec![in alloc; false; 2]?),
+        swamp: Swamp::none(2),
         start: (0, 0),
         goal: (1, 0),
     });
@@ -37,7 +37,7 @@ pub fn two_cells(alloc: Global) -> Result<Task, AllocError> {
         width: 2,
         height: 1,
         cells: Cells::of(vec![in alloc; Class::Water, Class::Water]?),
-        swamp: Swamp::of(vec![in alloc; false; 2]?),
+        swamp: Swamp::none(2),
         start: (0, 0),
         goal: (1, 0),
     });
@@ -57,7 +57,7 @@ pub fn corridor(alloc: Global) -> Result<Task, AllocError> {
         width: 9,
         height: 3,
         cells: Cells::of(classes),
-        swamp: Swamp::of(vec![in alloc; false; 27]?),
+        swamp: Swamp::none(27),
         start: (4, 2),
         goal: (4, 0),
     });
