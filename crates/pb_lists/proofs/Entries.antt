@@ -71,6 +71,17 @@ sets_worse content state g estimate parent action was found le = record {
   others = λ other apart. refl;
 }
 
+-- an offer that is cheaper makes this row
+pub better_row : (g : ℕ) (parent : Option ℕ) (action : ℕ) (was : Row) (costs : ℕ × Estimate × Status) (made : Row) → costs ≡ (was.g, was.estimate, was.status) → g < was.g
+    → made ≡ record { g = g; estimate = costs.1; parent = parent; action = action; status = Opened } → made ≡ offered_row g was.estimate parent action (Some was)
+better_row g parent action was costs made same less is =
+    is ∙ (ap (λ (c : ℕ × Estimate × Status). record { g = g; estimate = c.1; parent = parent; action = action; status = Opened }) same
+    ∙ lower (nat_lt g was.g) (record { g = g; estimate = was.estimate; parent = parent; action = action; status = Opened }) (grind (arith, nat_tests)))
+  where
+    lower : (less : Bool) (row : Row) → less ≡ true → row ≡ (if less then row else was)
+    lower true row e = refl
+    lower false row e = cc
+
 -- a row that is written is set
 pub row_sets : (entries after : List (ℕ × Row)) (state : ℕ) (row : Row) → ((other : ℕ) → row_in after other ≡ cond (nat_eq state other) (Some row) (row_in entries other))
     → SetsRow (row_in entries) (row_in after) state row

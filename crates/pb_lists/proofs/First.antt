@@ -1,9 +1,10 @@
 -- The top of the first bucket is the first Opened row.
-use Rattle.std.proofs.Common.{◌≡◌, ◌≤◌, ◌<◌, ℕ, Bool, true, Option, Some, None, List, [], ◌∷◌, ◌&&◌, ◌⊎◌, inl, inr, refl, sym, ap, ◌∙◌, subst, arith, nat_lt, true≢false, is_some, IfSome, slice_get}
+use Rattle.std.proofs.Common.{◌≡◌, ◌≤◌, ◌<◌, ℕ, Bool, true, Option, Some, None, List, [], ◌∷◌, ◌&&◌, ◌⊎◌, inl, inr, refl, sym, ap, ◌∙◌, subst, arith, nat_lt, true≢false, is_some, IfSome, slice_get, if◌then◌else◌}
 use Rattle.std.specs.Ordering.{is_gt}
 use Rattle.std.specs.BTreeMap.{get, IsLowerBound}
 use Rattle.pb_model.specs.declared.key.Key.{Key}
 use Rattle.pb_model.specs.declared.key.Key.TheVariants.{Sum, Dead}
+use Rattle.pb_model.specs.declared.row.Estimate.{Estimate}
 use Rattle.pb_model.specs.declared.row.Row.{Row}
 use Rattle.pb_model.specs.declared.row.Status.{Status}
 use Rattle.pb_model.specs.declared.row.Status.TheVariants.{Opened, Closed, Cut}
@@ -12,8 +13,8 @@ use Rattle.pb_model.specs.KeyOrder.{key_cmp, same_key}
 use Rattle.pb_model.specs.Weight.{Weight}
 use Rattle.pb_model.proofs.Callers.{key_cases, by_cases, below, not_below}
 use Rattle.pb_lists.specs.Bundle.{row_in}
-use Rattle.pb_lists.specs.Fields.{key_at, is_opened, is_open_at, sum_of, estimate_in, key_with}
-use Rattle.pb_lists.specs.Buckets.{Buckets, has_entry, has_in, has_at, top_of, HasFiled, is_led, is_tidy, IsTidy}
+use Rattle.pb_lists.specs.Fields.{key_at, is_opened, is_open_at, opened_costs, sum_of, estimate_in, key_with}
+use Rattle.pb_lists.specs.Buckets.{Buckets, has_entry, has_in, has_at, top_of, HasFiled, is_led, is_tidy, IsTidy, HasPlaces}
 use Rattle.pb_lists.specs.Heaped.{Entry, estimate_and_place, IsNoLater, IsTop}
 use Rattle.std.specs.Option.{option_map}
 use Rattle.pb_lists.specs.declared.bucket.Bucket.{Bucket}
@@ -170,6 +171,32 @@ module _ (weight : Weight) (entries : List (ℕ × Row)) (buckets : Buckets) (fi
                 let le = at_key other row found opened same in
                 by_cases (nat_lt top.1 other) (λ t. inr (inr (here.3 ∙ same, below top.1 other t))) (λ f. let ge = not_below top.1 other f in inl (omega arith))
             which (inr (inr g)) = absurd (not_below_top other row found opened g)
+
+  -- the row at the top's place is the first row
+  module _ (top : Entry) (is_top : Some top ≡ top_of bucket) (led_by : IsTop (has_entry bucket) (top_of bucket)) (placed : HasPlaces entries buckets)
+      (found : Option (ℕ × Estimate)) (at : (state : ℕ) (row : Row) → slice_get entries top.2 ≡ Some (state, row) → found ≡ opened_costs (row_in entries state)) where
+    top_by : IsTop (has_entry bucket) (Some top)
+    top_by = subst (λ t. IsTop (has_entry bucket) t) (sym is_top) led_by
+
+    costs : (row : Row) → row_in entries top.1 ≡ Some row → row.status ≡ Opened → found ≡ Some (row.g, row.estimate)
+    costs row is opened =
+        let there = placed sum top (ap (λ f. has_in f top) value ∙ top_by.here) in
+        at top.1 there.0 there.1 ∙ (ap opened_costs is ∙ ap (λ status. if is_opened status then Some (row.g, row.estimate) else None) opened)
+
+    -- so it is Opened
+    pub has_costs : found ≡ None → ⊥
+    has_costs none =
+        let row = here top is_top top_by.least in
+        let some : found ≡ Some (row.0.g, row.0.estimate) = costs row.0 row.1 row.2 in
+        cc
+
+    -- and has its costs
+    pub first_costs : (g : ℕ) (estimate : Estimate) → found ≡ Some (g, estimate) → (row : Row) × IsFirstRow weight (row_in entries) top.1 row × (row.g ≡ g) × (row.estimate ≡ estimate)
+    first_costs g estimate is =
+        let first = first_row top is_top top_by.least in
+        let some : found ≡ Some (first.0.g, first.0.estimate) = costs first.0 first.1.found first.1.opened in
+        let same : (first.0.g, first.0.estimate) ≡ (g, estimate) = cc in
+        (first.0, first.1, ap (λ (c : ℕ × Estimate). c.0) same, ap (λ (c : ℕ × Estimate). c.1) same)
 
   -- the key of the least estimate
   pub best_at : (least : ℕ × ℕ) → Some least ≡ option_map estimate_and_place (top_of bucket) → IsTop (has_entry bucket) (top_of bucket) → IsBest weight (row_in entries) (Some (key_with sum least.0))

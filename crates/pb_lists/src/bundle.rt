@@ -56,6 +56,16 @@ pub enum Offer {
     Worse,
 }
 
+/// The state of a bundle's first Opened row, with what an expansion reads of that row.
+#[derive(Clone, Copy, Debug, PartialEq, Eq)]
+pub struct FirstRow {
+    pub state: Packed,
+    /// The cost of a known walk from the start to the state.
+    pub g: u64,
+    /// The heuristic estimate of the state.
+    pub estimate: Estimate,
+}
+
 impl Bundle {
     /// A bundle without a row, for a search at the weight num / den. An error means out of memory.
     pub fn new(alloc: Global, num: u64, den: u64) -> Result<Bundle, AllocError>
@@ -139,6 +149,20 @@ impl Bundle {
         }
     }
 
+    /// The state of the first Opened row, as `first` gives it, with the row's g and estimate. It is
+    /// quicker than `first` and `row`: it makes no row and looks up nothing.
+    pub fn first_row(&self) -> Option<FirstRow>
+        ensures some { IfSome result (λ first. (row : _)
+            × IsFirstRow self.now.weight (row_of self.now) first.state row
+            × (row.g ≡ first.g) × (row.estimate ≡ first.estimate)) }
+        ensures none { IfNone result (HasOpened (row_of self.now) → ⊥) }
+    {
+        let (_, bucket) = self.opened.first_key_value()?;
+        let (_, state, place) = bucket.top()?;
+        let (g, estimate) = self.rows.opened_at(place)?;
+        Some(FirstRow { state, g, estimate })
+    }
+
     /// The least key of an Opened row, or None if no row is Opened.
     pub fn best(&self) -> Option<Key>
         ensures { IsBest self.now.weight (row_of self.now) result }
@@ -209,8 +233,10 @@ impl Bundle {
         if self.rows.g_at(place) <= g {
             return Ok(Offer::Worse);
         }
-        let (state, was) = self.at(place);
-        self.lower(place, &state, &was, g, parent, action)
+        let state = self.rows.state_at(place);
+        let estimate = self.rows.costs_at(place).1;
+        self.open_again(place, &state, &opened_row(g, estimate, parent, action))?;
+        Ok(Offer::Better)
     }
 
     /// Offers a row to a state that has none, as `offer` does, with one look-up less.
@@ -309,32 +335,6 @@ impl Bundle {
         Ok(())
     }
 
-    // Offers the state at a place its row with this g, if that is lower.
-    fn lower(
-        &mut self,
-        place: u64,
-        state: &Packed,
-        was: &Row,
-        g: u64,
-        parent: Option<&Packed>,
-        action: u32,
-    ) -> Result<Offer, AllocError>
-        requires found { row_of self.old state.now ≡ Some was.now }
-        requires place { slice_get self.old.entries place ≡ Some (state.now, was.now) }
-        ensures put { OnOk result (self.new ≡ put self.old state.now
-            (offered_row g was.now.estimate (option_copied parent.entry) action (Some was.now))) }
-        ensures sets { OnOk result (SetsRow (row_of self.old) (row_of self.new) state.now
-            (offered_row g was.now.estimate (option_copied parent.entry) action (Some was.now))) }
-        ensures answer { IfOk result (λ answer. answer ≡ offer_of (Some was.now) g) }
-        ensures err { OnErr result (self.new ≡ self.old) }
-    {
-        if was.g <= g {
-            return Ok(Offer::Worse);
-        }
-        self.open_again(place, state, &opened_row(g, was.estimate, parent, action))?;
-        Ok(Offer::Better)
-    }
-
     // Replaces the row at a place by an Opened one, which enters its new bucket first. The state is
     // still in its old bucket, and leaves it when it comes first there.
     fn open_again(&mut self, place: u64, state: &Packed, row: &Row) -> Result<(), AllocError>
@@ -374,6 +374,7 @@ impl Bundle {
     }
 }
 
+#[inline]
 fn opened_row(g: u64, estimate: Estimate, parent: Option<&Packed>, action: u32) -> Row
     ensures { result ≡ record {
       g = g;

@@ -19,7 +19,7 @@ mod wide_rows;
 mod word_entries;
 mod word_entry;
 
-pub use bundle::{Bundle, Offer};
+pub use bundle::{Bundle, FirstRow, Offer};
 pub use laws::{entries_are_rows, keys_are_ordered};
 pub use reopening::OpenedSet;
 pub use rules::may_be_cut;

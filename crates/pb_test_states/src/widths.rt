@@ -61,10 +61,10 @@ fn row(order: u32, i: u32) -> Row {
     }
 }
 
-fn key(row: &Row) -> Key {
-    match row.estimate {
+fn key(g: u64, estimate: Estimate) -> Key {
+    match estimate {
         Estimate::Cost(h) => Key::Sum {
-            sum: u128::from(row.g) + u128::from(h),
+            sum: u128::from(g) + u128::from(h),
             h,
         },
         Estimate::Dead => Key::Dead,
@@ -77,7 +77,7 @@ fn first(rows: &[(Packed, Row)]) -> Option<(Key, Packed)> {
     for i in 0..rows.len() {
         let (state, row) = rows[i];
         if row.status == Opened {
-            let next = (key(&row), state);
+            let next = (key(row.g, row.estimate), state);
             least = match least {
                 Some(known) => Some(known.min(next)),
                 None => Some(next),
@@ -99,7 +99,11 @@ fn is_same(bundle: &Bundle, rows: &[(Packed, Row)]) -> bool {
         (Some(key), Some(state)) => Some((key, state)),
         _ => None,
     };
-    bundle.len() == rows.len() as u64 && front == first(rows)
+    let costs = match bundle.first_row() {
+        Some(first) => Some((key(first.g, first.estimate), first.state)),
+        None => None,
+    };
+    bundle.len() == rows.len() as u64 && front == first(rows) && costs == front
 }
 
 // Closes the row of a state in both, if it is Opened.
