@@ -1,13 +1,9 @@
--- The least of some open costs, found one after another.
-use Rattle.std.proofs.Common.{◌≡◌, ℕ, ◌+◌, ◌<◌, ◌≤◌, List, length, get_or, take, All, Option, None, Some, is_some, IfSome, IfNone, IsTrue, sym, subst, arith, ◌∙◌, inl, inr}
+-- The least of some open costs, found one after another by their words.
+use Rattle.std.proofs.Common.{◌≡◌, ℕ, ◌+◌, ◌-◌, ◌^◌, ◌<◌, ◌≤◌, ◌⊎◌, List, length, get_or, take, All, arith, inl, inr}
 use Rattle.std.proofs.lemmas.List.Elements.{All-more, All-weaker}
 use Rattle.pb_estimate.specs.declared.exploration.AtomCost.{AtomCost}
 use Rattle.pb_estimate.specs.declared.exploration.AtomCost.TheVariants.{Open}
-use Rattle.pb_estimate.specs.Exploring.{known_in, IsOneOf}
-
--- an atom whose cost is open
-abbrev pub IsOpen : (costs : List AtomCost) → (found : ℕ × ℕ) → Type 0
-IsOpen costs found = (found.0 < length costs) × (known_in costs found.0 ≡ Open found.1)
+use Rattle.pb_estimate.specs.Exploring.{known_in}
 
 -- no atom of these has a lower open cost
 abbrev pub IsNoMore : (costs : List AtomCost) → (atoms : List ℕ) → (cost : ℕ) → Type 0
@@ -16,41 +12,28 @@ IsNoMore costs atoms least = All (λ atom. (cost : ℕ) → known_in costs atom 
 abbrev pub HasNone : (costs : List AtomCost) → (atoms : List ℕ) → Type 0
 HasNone costs atoms = All (λ atom. (cost : ℕ) → known_in costs atom ≡ Open cost → ⊥) atoms
 
-same_open : (n m : ℕ) → ◌≡◌ {A = AtomCost} (Open n) (Open m) → n ≡ m
-same_open n m e = cc
+-- a cost has a word of 32 bits if it is open, and it isn't below this one
+abbrev pub IsFrom : (costs : List AtomCost) → (word atom : ℕ) → Type 0
+IsFrom costs word atom = (cost : ℕ) → known_in costs atom ≡ Open cost → (word ≤ 2 ^ 31 + cost) × (cost < 2 ^ 31 - 1)
 
-module _ (costs : List AtomCost) (atoms : List ℕ) (i : ℕ) (less : i < length atoms) where
-  module _ (cost : ℕ) (is : known_in costs (get_or atoms i 0) ≡ Open cost) (inside : get_or atoms i 0 < length costs) where
-    pub found_more : (best best' : Option (ℕ × ℕ)) → IfSome best (IsOpen costs) → IfSome best' (IsOneOf best (get_or atoms i 0, cost)) → IfSome best' (IsOpen costs)
-    found_more best None found one = tt
-    found_more best (Some f) found (inl e) = subst (λ o. IfSome o (IsOpen costs)) e found
-    found_more best (Some f) found (inr e) = subst (IsOpen costs) (sym e) (inside, is)
+-- the word of the atom's open cost, or the greatest word
+abbrev pub IsFound : (costs : List AtomCost) → (word atom : ℕ) → Type 0
+IsFound costs word atom = (word ≡ 2 ^ 32 - 1) ⊎ ((atom < length costs) × (2 ^ 31 ≤ word) × (known_in costs atom ≡ Open (word - 2 ^ 31)))
 
-    here : (least : ℕ) → least ≤ cost → (c : ℕ) → known_in costs (get_or atoms i 0) ≡ Open c → least ≤ c
-    here least le c e = let same : cost ≡ c = same_open cost c (sym is ∙ e) in omega arith
+pub found_here : (costs : List AtomCost) (word atom : ℕ) → atom < length costs → (word ≡ 2 ^ 32 - 1) ⊎ ((2 ^ 31 ≤ word) × (known_in costs atom ≡ Open (word - 2 ^ 31))) → IsFound costs word atom
+found_here costs word atom inside (inl none) = inl none
+found_here costs word atom inside (inr is) = inr (inside, is.0, is.1)
 
-    pub least_more : (best best' : Option (ℕ × ℕ)) → IfSome best (λ found. IsNoMore costs (take i atoms) found.1) → IfNone best (HasNone costs (take i atoms))
-        → IfSome best' (λ found. (found.1 ≤ cost) × IfSome best (λ b. found.1 ≤ b.1)) → IfSome best' (λ found. IsNoMore costs (take (i + 1) atoms) found.1)
-    least_more best None least none no_more = tt
-    least_more None (Some f) least none no_more =
-        All-more (λ atom. (c : ℕ) → known_in costs atom ≡ Open c → f.1 ≤ c) atoms i 0 less
-        (All-weaker (λ atom. (c : ℕ) → known_in costs atom ≡ Open c → ⊥) (λ atom. (c : ℕ) → known_in costs atom ≡ Open c → f.1 ≤ c) (λ atom never c e. absurd (never c e)) (take i atoms) none)
-        (here f.1 no_more.0)
-    least_more (Some b) (Some f) least none no_more =
-        All-more (λ atom. (c : ℕ) → known_in costs atom ≡ Open c → f.1 ≤ c) atoms i 0 less
-        (All-weaker (λ atom. (c : ℕ) → known_in costs atom ≡ Open c → b.1 ≤ c) (λ atom. (c : ℕ) → known_in costs atom ≡ Open c → f.1 ≤ c)
-        (λ atom before c e. let lower : b.1 ≤ c = before c e in let le : f.1 ≤ b.1 = no_more.1 in omega arith) (take i atoms) least)
-        (here f.1 no_more.0)
+module _ (costs : List AtomCost) (atoms : List ℕ) where
+  pub from_more : (i : ℕ) → i < length atoms → (best word best' : ℕ) → ((cost : ℕ) → known_in costs (get_or atoms i 0) ≡ Open cost → (word ≡ 2 ^ 31 + cost) × (cost < 2 ^ 31 - 1))
+      → best' ≤ best → best' ≤ word → All (IsFrom costs best) (take i atoms) → All (IsFrom costs best') (take (i + 1) atoms)
+  from_more i less best word best' open_is no_more no_more_here before =
+      All-more (IsFrom costs best') atoms i 0 less
+      (All-weaker (IsFrom costs best) (IsFrom costs best') (λ atom from cost e. let h : (best ≤ 2 ^ 31 + cost) × (cost < 2 ^ 31 - 1) = from cost e in (omega (arith, h.0, no_more), h.1)) (take i atoms) before)
+      (λ cost e. let h : (word ≡ 2 ^ 31 + cost) × (cost < 2 ^ 31 - 1) = open_is cost e in (omega (arith, h.0, no_more_here), h.1))
 
-    pub none_more : (best' : Option (ℕ × ℕ)) → IsTrue (is_some best') → IfNone best' (HasNone costs (take (i + 1) atoms))
-    none_more None some = cc
-    none_more (Some f) some = tt
+  pub none_from : All (IsFrom costs (2 ^ 32 - 1)) atoms → HasNone costs atoms
+  none_from all k d less cost e = let h : (2 ^ 32 - 1 ≤ 2 ^ 31 + cost) × (cost < 2 ^ 31 - 1) = all k d less cost e in omega (arith, h.0, h.1)
 
-  module _ (closed : (c : ℕ) → known_in costs (get_or atoms i 0) ≡ Open c → ⊥) where
-    pub least_past : (best : Option (ℕ × ℕ)) → IfSome best (λ found. IsNoMore costs (take i atoms) found.1) → IfSome best (λ found. IsNoMore costs (take (i + 1) atoms) found.1)
-    least_past None least = tt
-    least_past (Some f) least = All-more (λ atom. (c : ℕ) → known_in costs atom ≡ Open c → f.1 ≤ c) atoms i 0 less least (λ c e. absurd (closed c e))
-
-    pub none_past : (best : Option (ℕ × ℕ)) → IfNone best (HasNone costs (take i atoms)) → IfNone best (HasNone costs (take (i + 1) atoms))
-    none_past None none = All-more (λ atom. (c : ℕ) → known_in costs atom ≡ Open c → ⊥) atoms i 0 less none closed
-    none_past (Some f) none = tt
+  pub least_from : (best : ℕ) → All (IsFrom costs best) atoms → IsNoMore costs atoms (best - 2 ^ 31)
+  least_from best all k d less cost e = let h : (best ≤ 2 ^ 31 + cost) × (cost < 2 ^ 31 - 1) = all k d less cost e in omega (arith, h.0)

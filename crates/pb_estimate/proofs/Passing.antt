@@ -20,7 +20,7 @@ use Rattle.pb_estimate.proofs.Costs.{at_most_more, same_cost, dearest_at, deares
 use Rattle.pb_estimate.proofs.Fixed.{cause, at_first}
 use Rattle.pb_estimate.proofs.Rounds.{count_is_small}
 use Rattle.pb_estimate.proofs.Counts.{count_same, count_none, none_counted, some_counted, counted_at, count_drops}
-use Rattle.pb_estimate.proofs.Sets.{contains_in, is_in as is_in_set, many_in}
+use Rattle.pb_estimate.proofs.Sets.{contains_in, many_in}
 use Rattle.pb_estimate.proofs.Steps.{user_is, added}
 use Rattle.pb_estimate.proofs.Underway.{is_waited_for}
 use Rattle.pb_estimate.proofs.Layering.{among_here, among_other, among_more, among_same}

@@ -85,7 +85,3 @@ pub record IsLeastOpen (costs : List AtomCost) (atom cost : ℕ) : Type 0 where
   pub inside : atom < length costs
   pub is : known_in costs atom ≡ Open cost
   pub least : OpensAreFrom cost costs
-
--- the one or the other of two atoms with their costs
-abbrev pub IsOneOf : (best : Option (ℕ × ℕ)) → (other found : ℕ × ℕ) → Type 0
-IsOneOf best other found = (best ≡ Some found) ⊎ (found ≡ other)

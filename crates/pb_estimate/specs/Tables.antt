@@ -1,6 +1,6 @@
 -- What the estimator of a task keeps. A further kind of task is one case more, and so is a further
 -- choice of an estimate.
-use Rattle.std.specs.Prelude.{◌≡◌, ℕ, zero, suc, ◌+◌, ◌*◌, ◌<◌, ◌≤◌, ◌^◌, true, false, ⊤, Option, None, Some, List, [], ◌∷◌, ◌++◌, map, length, All, Contains, slice_index, slice_index_or, if◌then◌else◌}
+use Rattle.std.specs.Prelude.{◌≡◌, ℕ, zero, suc, ◌+◌, ◌*◌, ◌<◌, ◌≤◌, ◌^◌, ◌↔◌, true, false, ⊤, Option, None, Some, List, [], ◌∷◌, ◌++◌, map, length, All, Contains, slice_index, slice_index_or, if◌then◌else◌}
 use Rattle.pb_task.specs.declared.parts.GroundAction.{GroundAction}
 use Rattle.pb_task.specs.declared.parts.StripsParts.{StripsParts}
 use Rattle.pb_task.specs.declared.parts.TaskParts.{TaskParts}
@@ -118,7 +118,7 @@ pub record AreCounters (strips : StripsParts) (counters : Counters) : Type 0 whe
   pub counts : length counters.counts.items ≡ length counters.task.needs.items
   pub costs : length counters.exploration.costs.items ≡ strips.atoms
   pub exploration : IsExploration counters.exploration
-  pub layered : counters.is_layered ≡ true → IsLayered counters.task
+  pub layered : (counters.is_layered ≡ true) ↔ IsLayered counters.task
   pub layers : HaveRoom strips.atoms counters.layers
 
 -- what contracts see of an estimator

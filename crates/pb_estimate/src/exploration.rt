@@ -1,11 +1,11 @@
 //! The costs of atoms without deletes, and the queue of the atoms that were reached: what hmax
 //! is computed with.
-ghost use Rattle.std.specs.Prelude.{[], ◌∷◌, ◌≡◌, ℕ, ◌+◌, ◌-◌, ◌^◌, ◌<◌, ◌≤◌, IsTrue, IfOk, IfSome, IfNone, All, length, slice_index, slice_set, true, None, is_some};
+ghost use Rattle.std.specs.Prelude.{[], ◌∷◌, ◌≡◌, ℕ, ◌+◌, ◌-◌, ◌^◌, ◌⊎◌, ◌<◌, ◌≤◌, IsTrue, IfOk, IfSome, IfNone, All, length, slice_index, slice_set, true, None, is_some};
 ghost use Rattle.pb_packed.specs.Sizes.{most_atoms};
 ghost use Rattle.pb_task.specs.Strips.{has_atom};
 ghost use Rattle.pb_estimate.specs.declared.exploration.AtomCost.TheVariants.{Unreached, Open, Final};
 ghost use Rattle.pb_estimate.specs.Hmax.{IsAtMost};
-ghost use Rattle.pb_estimate.specs.Exploring.{known_in, cost_in, final_in, final_cost, is_final_in, AreLowered, HaveSameFinals, FinalsAreWithin, OpensAreFrom, IsExploration, IsLeastOpen, IsOneOf};
+ghost use Rattle.pb_estimate.specs.Exploring.{known_in, cost_in, final_in, final_cost, is_final_in, AreLowered, HaveSameFinals, FinalsAreWithin, OpensAreFrom, IsExploration, IsLeastOpen};
 
 use pb_packed::Packed;
 use pb_task::next_atom;
@@ -87,6 +87,31 @@ impl CostWord {
             AtomCost::Open(self.word - OPEN)
         }
     }
+
+    // Whether the cost is open, and this one. It compares words, since it is asked most often.
+    #[inline]
+    fn is_open_at(self, level: u32) -> bool
+        requires { level < 2 ^ 31 - 1 }
+        ensures { result ≡ true → self ≡ Open level }
+    {
+        self.word == OPEN + level
+    }
+
+    // The word of an open cost; for any other the greatest word. So the least of some words is
+    // that of the least open cost.
+    #[inline]
+    fn open_word(self) -> u32
+        ensures open { (cost : ℕ) → self ≡ Open cost
+            → (result ≡ 2 ^ 31 + cost) × (cost < 2 ^ 31 - 1) }
+        ensures is { (result ≡ 2 ^ 32 - 1)
+            ⊎ ((2 ^ 31 ≤ result) × (self ≡ Open (result - 2 ^ 31))) }
+    {
+        if self.word < OPEN {
+            u32::MAX
+        } else {
+            self.word
+        }
+    }
 }
 
 /// An exploration of what can hold after a state if nothing is deleted: what each atom costs so
@@ -116,30 +141,6 @@ fn is_final(cost: AtomCost) -> bool
     }
 }
 
-// Whether a cost is open, and this one.
-fn is_open_at(cost: AtomCost, level: u32) -> bool
-    ensures { result ≡ true → cost ≡ Open level }
-{
-    match cost {
-        AtomCost::Open(known) => known == level,
-        AtomCost::Unreached => false,
-        AtomCost::Final(_) => false,
-    }
-}
-
-// The one of two atoms that costs less.
-fn lesser(best: Option<(u16, u32)>, other: (u16, u32)) -> Option<(u16, u32)>
-    ensures one { IfSome result (λ least. IsOneOf best other least) }
-    ensures some { IsTrue (is_some result) }
-    ensures no_more { IfSome result (λ least. (least.1 ≤ other.1)
-        × IfSome best (λ b. least.1 ≤ b.1)) }
-{
-    match best {
-        Some((atom, cost)) if cost <= other.1 => Some((atom, cost)),
-        _ => Some(other),
-    }
-}
-
 // The cheapest of these atoms whose cost is open. No open cost is less than `level`.
 fn least(costs: &[CostWord], atoms: &[u16], level: u32) -> Option<(u16, u32)>
     requires inside { All (λ atom. atom < length costs.now) atoms.now }
@@ -151,17 +152,19 @@ fn least(costs: &[CostWord], atoms: &[u16], level: u32) -> Option<(u16, u32)>
     ensures none { IfNone result (All (λ atom. (cost : ℕ) → known_in costs.now atom ≡ Open cost
         → ⊥) atoms.now) }
 {
-    let mut best = None;
+    let mut best = u32::MAX;
+    let mut found = 0;
     for atom in atoms {
-        if let AtomCost::Open(cost) = costs[*atom as usize].read() {
-            if cost == level {
-                // No open cost is less, so the other atoms need not be looked at.
-                return Some((*atom, cost));
-            }
-            best = lesser(best, (*atom, cost));
+        let word = costs[*atom as usize].open_word();
+        if word < best {
+            best = word;
+            found = *atom;
         }
     }
-    best
+    if best == u32::MAX {
+        return None;
+    }
+    Some((found, best - OPEN))
 }
 
 impl Exploration {
@@ -281,8 +284,12 @@ impl Exploration {
     {
         let queue = self.queue.as_slice();
         let costs = self.costs.as_slice();
+        if level >= OPEN - 1 {
+            // No word says that such a cost is open.
+            return None;
+        }
         for at in self.cursor..self.reached {
-            if is_open_at(costs[queue[at] as usize].read(), level) {
+            if costs[queue[at] as usize].is_open_at(level) {
                 return Some(at);
             }
         }

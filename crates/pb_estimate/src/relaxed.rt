@@ -1,5 +1,5 @@
 //! The delete relaxation of a STRIPS task: its merged actions without what they delete.
-ghost use Rattle.std.specs.Prelude.{[], ◌∷◌, ◌≡◌, ℕ, ◌<◌, ◌≤◌, ◌++◌, All, Contains, IfOk, List, OnOk, length, replicate, true, false, slice_index, slice_index_or, slice_set, if◌then◌else◌, ◌==◌};
+ghost use Rattle.std.specs.Prelude.{[], ◌∷◌, ◌≡◌, ℕ, ◌<◌, ◌≤◌, ◌↔◌, ◌++◌, All, Contains, IfOk, List, OnOk, length, replicate, true, false, slice_index, slice_index_or, slice_set, if◌then◌else◌, ◌==◌};
 ghost use Rattle.pb_packed.specs.Sizes.{most_atoms};
 ghost use Rattle.pb_task.specs.Strips.{has_atom, IsStrips};
 ghost use Rattle.pb_estimate.specs.declared.merging.MergedAction.{MergedAction};
@@ -312,7 +312,7 @@ pub fn relaxed_task(alloc: Global, strips: &StripsParts) -> Result<RelaxedTask, 
 /// Whether each action costs 1.
 pub fn cost_one(task: &RelaxedTask) -> bool
     requires many { length task.now.needs.items ≡ length task.now.actions }
-    ensures { result ≡ true → CostOne task.now.actions }
+    ensures { (result ≡ true) ↔ CostOne task.now.actions }
 {
     for action in 0..task.needs.len() {
         if task.actions.cost(action) != 1 {

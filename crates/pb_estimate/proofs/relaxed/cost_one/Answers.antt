@@ -1,4 +1,4 @@
-use Rattle.std.proofs.Common.{◌≡◌, ◌≢◌, ◌+◌, ◌<◌, ℕ, [], ap, arith, ◌∙◌, ◌⊎◌, inl, inr}
+use Rattle.std.proofs.Common.{◌≡◌, ◌≢◌, ◌+◌, ◌<◌, ℕ, [], refl, ap, arith, ◌∙◌, ◌⊎◌, inl, inr}
 use Rattle.std.proofs.lemmas.Bool.{cases_eq}
 use Rattle.std.proofs.lemmas.List.{get_or_default}
 use Rattle.pb_estimate.specs.Relaxed.{RelaxedAction, relaxed_at}
@@ -11,4 +11,4 @@ loop-action-preserved c = record { all = λ k less. go k less (cases_eq k c.loop
   go k less (inr apart) = c.loop-action.invariant.all k (omega (arith, less, apart))
 
 pub returns : goal.returns
-returns c = λ e k d less. ap (λ (a : RelaxedAction). a.cost) (get_or_default c.args.task.now.actions k d (record { adds = []; cost = 1 }) less) ∙ c.loop-action.invariant.all k (omega (arith, less, c.loop-action-test.false, c.requires))
+returns c = (λ e k d less. ap (λ (a : RelaxedAction). a.cost) (get_or_default c.args.task.now.actions k d (record { adds = []; cost = 1 }) less) ∙ c.loop-action.invariant.all k (omega (arith, less, c.loop-action-test.false, c.requires)), λ all. refl)
