@@ -15,6 +15,7 @@ mod Reached
 mod Counts
 mod NextAtoms
 mod Lowered
+mod Entries
 mod Least
 mod Queue
 mod Released

@@ -1,9 +1,10 @@
 -- An exploration of what can hold after a state if nothing is deleted: costs of atoms that fall
 -- until they are final, and a queue of the atoms that were reached.
-use Rattle.std.specs.Prelude.{◌≡◌, ℕ, zero, suc, ◌+◌, ◌<◌, ◌≤◌, ◌↔◌, ◌⊎◌, Bool, true, not, ◌&&◌, List, length, Contains, Option, None, Some, is_some, slice_index, slice_index_or, if◌then◌else◌}
+use Rattle.std.specs.Prelude.{◌≡◌, ℕ, zero, suc, ◌+◌, ◌*◌, ◌%◌, ◌<◌, ◌≤◌, ◌↔◌, ◌⊎◌, Bool, true, false, not, ◌&&◌, List, length, Contains, Option, None, Some, is_some, slice_index, slice_index_or, if◌then◌else◌}
 use Rattle.pb_packed.specs.Sizes.{most_atoms}
 use Rattle.pb_estimate.specs.declared.exploration.AtomCost.{AtomCost}
 use Rattle.pb_estimate.specs.declared.exploration.AtomCost.TheVariants.{Unreached, Open, Final}
+use Rattle.pb_estimate.specs.declared.buckets.Buckets.{Buckets}
 use Rattle.pb_estimate.specs.declared.exploration.Exploration.{Exploration}
 use Rattle.pb_estimate.specs.Hmax.{IsAtMost}
 
@@ -64,10 +65,36 @@ FinalsAreWithin cost costs = (atom c : ℕ) → final_in costs atom ≡ Some c �
 abbrev pub OpensAreFrom : (cost : ℕ) → (costs : List AtomCost) → Type 0
 OpensAreFrom cost costs = (atom c : ℕ) → known_in costs atom ≡ Open c → cost ≤ c
 
+-- ---- the buckets
+
+-- the atom that came as the k-th into one of 64 buckets
+abbrev pub entry : (places : List ℕ) → (bucket k : ℕ) → ℕ
+entry places bucket k = slice_index places (k * 64 + bucket)
+
+-- no atom from one place of a bucket to another has an open cost that belongs into the bucket
+abbrev pub ArePassed : (costs : List AtomCost) → (places : List ℕ) → (bucket from to : ℕ) → Type 0
+ArePassed costs places bucket from to =
+    (k : ℕ) → from ≤ k → k < to → (cost : ℕ) → known_in costs (entry places bucket k) ≡ Open cost
+    → cost % 64 ≡ bucket → ⊥
+
+-- Each bucket has room for all atoms. Unless some were lost, each atom whose cost is open is in the
+-- bucket of its cost.
+pub record AreEntries (costs : List AtomCost) (places filled : List ℕ) (lost : Bool) : Type 0 where
+  pub rows : length places ≡ 64 * length costs
+  pub buckets : length filled ≡ 64
+  pub room : (bucket : ℕ) → bucket < 64 → slice_index filled bucket ≤ length costs
+  pub inside : (bucket k : ℕ) → bucket < 64 → k < slice_index filled bucket
+      → entry places bucket k < length costs
+  pub entered : lost ≡ false → (atom cost : ℕ) → known_in costs atom ≡ Open cost
+      → (k : ℕ) × (k < slice_index filled (cost % 64)) × (entry places (cost % 64) k ≡ atom)
+
+abbrev pub AreBuckets : (costs : List AtomCost) → Buckets → Type 0
+AreBuckets costs b = AreEntries costs b.places.items b.filled.items b.is_lost
+
 -- ---- the queue
 
 -- The queue has a place for each atom, and its first places have exactly the atoms that were
--- reached. The costs of the atoms before `first` are final.
+-- reached. The costs of the atoms before `first` are final. The buckets are of these costs.
 pub record IsExploration (e : Exploration) : Type 0 where
   pub few : length e.costs.items ≤ most_atoms
   pub places : length e.queue.items ≡ length e.costs.items
@@ -79,6 +106,7 @@ pub record IsExploration (e : Exploration) : Type 0 where
   pub first : e.first ≤ e.reached
   pub passed : (k : ℕ) → k < e.first → is_final_in e.costs.items (slice_index e.queue.items k)
       ≡ true
+  pub entered : AreBuckets e.costs.items e.buckets
 
 -- an atom whose cost is open, and no other open cost is less
 pub record IsLeastOpen (costs : List AtomCost) (atom cost : ℕ) : Type 0 where

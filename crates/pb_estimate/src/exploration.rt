@@ -1,12 +1,13 @@
 //! The costs of atoms without deletes, and the queue of the atoms that were reached: what hmax
 //! is computed with.
-ghost use Rattle.std.specs.Prelude.{[], ◌∷◌, ◌≡◌, ℕ, ◌+◌, ◌-◌, ◌^◌, ◌⊎◌, ◌<◌, ◌≤◌, IsTrue, IfOk, IfSome, IfNone, All, length, slice_index, slice_set, true, None, is_some};
+ghost use Rattle.std.specs.Prelude.{[], ◌∷◌, ◌≡◌, ℕ, ◌+◌, ◌-◌, ◌%◌, ◌^◌, ◌⊎◌, ◌<◌, ◌≤◌, IsTrue, IfOk, IfSome, IfNone, All, length, slice_index, slice_set, true, false, None, is_some};
 ghost use Rattle.pb_packed.specs.Sizes.{most_atoms};
 ghost use Rattle.pb_task.specs.Strips.{has_atom};
 ghost use Rattle.pb_estimate.specs.declared.exploration.AtomCost.TheVariants.{Unreached, Open, Final};
 ghost use Rattle.pb_estimate.specs.Hmax.{IsAtMost};
 ghost use Rattle.pb_estimate.specs.Exploring.{known_in, cost_in, final_in, final_cost, is_final_in, AreLowered, HaveSameFinals, FinalsAreWithin, OpensAreFrom, IsExploration, IsLeastOpen};
 
+use crate::buckets::Buckets;
 use pb_packed::Packed;
 use pb_task::next_atom;
 use std::alloc::{AllocError, Global};
@@ -97,6 +98,14 @@ impl CostWord {
         self.word == OPEN + level
     }
 
+    // Whether the cost is open, and has the same remainder by 64 as this one.
+    #[inline]
+    pub(crate) fn is_open_beside(self, cost: u32) -> bool
+        ensures { (known : ℕ) → self ≡ Open known → known % 64 ≡ cost % 64 → result ≡ true }
+    {
+        self.word >= OPEN && self.word % 64 == cost % 64
+    }
+
     // The word of an open cost; for any other the greatest word. So the least of some words is
     // that of the least open cost.
     #[inline]
@@ -128,6 +137,8 @@ pub struct Exploration {
     pub reached: usize,
     /// Where the next atom of the current level is looked for: a hint, on which no proof depends.
     pub cursor: usize,
+    /// The atoms by their open costs.
+    pub buckets: Buckets,
 }
 
 // Whether a cost is final.
@@ -168,8 +179,9 @@ fn least(costs: &[CostWord], atoms: &[u16], level: u32) -> Option<(u16, u32)>
 }
 
 impl Exploration {
-    /// An exploration of `count` atoms, with none reached.
-    pub fn of(alloc: Global, count: usize) -> Result<Exploration, AllocError>
+    /// An exploration of `count` atoms, with none reached. Buckets are of use if each action
+    /// costs less than 64.
+    pub fn of(alloc: Global, count: usize, has_buckets: bool) -> Result<Exploration, AllocError>
         requires { count ≤ most_atoms }
         ensures is { IfOk result IsExploration }
         ensures long { IfOk result (λ made. length made.costs.items ≡ count) }
@@ -180,6 +192,7 @@ impl Exploration {
             first: 0,
             reached: 0,
             cursor: 0,
+            buckets: Buckets::of(alloc, count, has_buckets)?,
         })
     }
 
@@ -194,6 +207,7 @@ impl Exploration {
         self.first = 0;
         self.reached = 0;
         self.cursor = 0;
+        self.buckets.clear();
     }
 
     /// Begins anew at a state: the atoms that hold cost nothing, and no other is reached.
@@ -229,12 +243,14 @@ impl Exploration {
     {
         match self.costs[atom as usize].read() {
             AtomCost::Unreached => {
+                self.buckets.enter(self.costs.as_slice(), atom, cost);
                 self.costs[atom as usize] = CostWord::open(cost);
                 self.queue[self.reached] = atom;
                 self.reached += 1;
             }
             AtomCost::Open(known) => {
                 if cost < known {
+                    self.buckets.enter(self.costs.as_slice(), atom, cost);
                     self.costs[atom as usize] = CostWord::open(cost);
                 }
             }
@@ -340,8 +356,8 @@ impl Exploration {
         Some((atom, cost))
     }
 
-    /// Makes the least cost that is open, with its atom, final. No open cost is less than `level`.
-    pub fn next(&mut self, level: u32) -> Option<(u16, u32)>
+    // Makes the least cost that is open final, which is looked for in the queue.
+    fn next_in_queue(&mut self, level: u32) -> Option<(u16, u32)>
         requires is { IsExploration self.old }
         requires level { OpensAreFrom level self.old.costs.items }
         ensures is { IsExploration self.new }
@@ -356,6 +372,90 @@ impl Exploration {
             // No open cost is less, so no other atom need be looked at.
             Some(at) => Some(self.take(at, level)),
             None => self.next_level(level),
+        }
+    }
+
+    // Makes the cost of an atom final, if it is this one and an atom of its bucket has it. Other
+    // atoms go out of the bucket.
+    #[inline]
+    fn take_from_bucket(&mut self, cost: u32) -> Option<u16>
+        requires is { IsExploration self.old }
+        requires small { cost < 2 ^ 31 - 1 }
+        ensures is { IsExploration self.new }
+        ensures long { length self.new.costs.items ≡ length self.old.costs.items }
+        ensures taken { IfSome result (λ atom. (atom < length self.old.costs.items)
+            × (known_in self.old.costs.items atom ≡ Open cost)
+            × (self.new.costs.items ≡ slice_set self.old.costs.items atom (Final cost))) }
+        ensures kept { IfSome result (λ atom. self.new.buckets.is_lost ≡ self.old.buckets.is_lost) }
+        ensures same { IfNone result (self.new.costs.items ≡ self.old.costs.items) }
+        ensures none { IfNone result (self.new.buckets.is_lost ≡ false → (atom c : ℕ)
+            → known_in self.old.costs.items atom ≡ Open c → c % 64 ≡ cost % 64 → ⊥) }
+    {
+        let left = self.buckets.left_in(self.costs.as_slice(), cost);
+        let bucket = (cost % 64) as usize;
+        if left == 0 {
+            self.buckets.filled[bucket] = 0;
+            return None;
+        }
+        let atom = self.buckets.places[(left - 1) as usize * 64 + bucket];
+        let known = self.costs[atom as usize];
+        if !known.is_open_at(cost) {
+            // Open costs are farther from one another than there are buckets.
+            self.buckets.is_lost = true;
+            return None;
+        }
+        self.costs[atom as usize] = known.as_final();
+        self.buckets.filled[bucket] = left - 1;
+        Some(atom)
+    }
+
+    // Makes the least cost that is open final, which is looked for in the buckets. None if there is
+    // none, or atoms were lost.
+    fn next_in_buckets(&mut self, level: u32) -> Option<(u16, u32)>
+        requires is { IsExploration self.old }
+        requires level { OpensAreFrom level self.old.costs.items }
+        requires small { level ≤ 2 ^ 30 + 2 ^ 20 }
+        requires all { self.old.buckets.is_lost ≡ false }
+        ensures is { IsExploration self.new }
+        ensures long { length self.new.costs.items ≡ length self.old.costs.items }
+        ensures least { IfSome result (λ found. IsLeastOpen self.old.costs.items found.0 found.1) }
+        ensures made { IfSome result (λ found. self.new.costs.items
+            ≡ slice_set self.old.costs.items found.0 (Final found.1)) }
+        ensures same { IfNone result (self.new.costs.items ≡ self.old.costs.items) }
+        ensures none { IfNone result (self.new.buckets.is_lost ≡ false → (atom cost : ℕ)
+            → known_in self.old.costs.items atom ≡ Open cost → ⊥) }
+    {
+        for step in 0..64 {
+            let cost = level + step;
+            if let Some(atom) = self.take_from_bucket(cost) {
+                return Some((atom, cost));
+            }
+            if self.buckets.is_lost {
+                return None;
+            }
+        }
+        None
+    }
+
+    /// Makes the least cost that is open, with its atom, final. No open cost is less than `level`.
+    pub fn next(&mut self, level: u32) -> Option<(u16, u32)>
+        requires is { IsExploration self.old }
+        requires level { OpensAreFrom level self.old.costs.items }
+        ensures is { IsExploration self.new }
+        ensures long { length self.new.costs.items ≡ length self.old.costs.items }
+        ensures least { IfSome result (λ found. IsLeastOpen self.old.costs.items found.0 found.1) }
+        ensures made { IfSome result (λ found. self.new.costs.items
+            ≡ slice_set self.old.costs.items found.0 (Final found.1)) }
+        ensures none { IfNone result ((atom cost : ℕ) → known_in self.old.costs.items atom
+            ≡ Open cost → ⊥) }
+    {
+        if self.buckets.is_lost || level > 1 << 30 {
+            return self.next_in_queue(level);
+        }
+        match self.next_in_buckets(level) {
+            Some(found) => Some(found),
+            None if self.buckets.is_lost => self.next_in_queue(level),
+            None => None,
         }
     }
 }

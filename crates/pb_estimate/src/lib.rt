@@ -12,6 +12,7 @@
 
 mod action_index;
 mod atom_sets;
+mod buckets;
 mod choice;
 mod distance;
 mod estimator;
@@ -28,6 +29,7 @@ mod strips;
 mod tiles;
 
 pub use action_index::ActionIndex;
+pub use buckets::Buckets;
 pub use choice::{Choice, ChoiceCase};
 pub use estimator::{Estimator, PlainTables};
 pub use exploration::{AtomCost, CostWord, Exploration};

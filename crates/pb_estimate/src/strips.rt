@@ -1,11 +1,13 @@
 //! The plain estimate of a STRIPS task: hmax, computed with a counter for each action.
-ghost use Rattle.std.specs.Prelude.{◌⊎◌, ◌≡◌, ℕ, ◌+◌, ◌-◌, ◌<◌, ◌≤◌, ◌^◌, All, Contains, IfOk, length, slice_index, slice_set, None};
+ghost use Rattle.std.specs.Prelude.{◌⊎◌, ◌↔◌, ◌≡◌, ℕ, ◌+◌, ◌-◌, ◌<◌, ◌≤◌, ◌^◌, All, Contains, IfOk, length, slice_index, slice_set, None, true};
 ghost use Rattle.pb_task.specs.Strips.{IsStrips};
 ghost use Rattle.pb_estimate.specs.Hmax.{IsAtMost, goal_cost, hmax};
 ghost use Rattle.pb_estimate.specs.Exploring.{cost_in, final_in, AreNoLess, HaveSameFinals, FinalsAreWithin, IsExploration};
+ghost use Rattle.pb_estimate.specs.Layers.{IsLayered};
 ghost use Rattle.pb_estimate.specs.Relaxed.{relaxed_at};
 ghost use Rattle.pb_estimate.specs.Tables.{AddsAt, AddsAtMost, IsAddedBy, IsRelaxation, IsWanted, IsRelaxed, AreCounters};
 
+use crate::buckets::Buckets;
 use crate::exploration::Exploration;
 use crate::layers;
 use crate::layers::Layers;
@@ -30,6 +32,14 @@ pub struct Counters {
     pub layers: Layers,
 }
 
+// Whether layers give the costs: whether each action costs 1 and needs an atom.
+fn is_layered(task: &RelaxedTask) -> bool
+    requires many { length task.now.needs.items ≡ length task.now.actions }
+    ensures { (result ≡ true) ↔ IsLayered task.now }
+{
+    cost_one(task) && task.free.as_slice().is_empty()
+}
+
 /// The counters of a task. All the memory that estimates need is taken here.
 pub fn counters_of(alloc: Global, strips: &StripsParts) -> Result<Counters, AllocError>
     requires { IsStrips strips.now }
@@ -37,8 +47,9 @@ pub fn counters_of(alloc: Global, strips: &StripsParts) -> Result<Counters, Allo
 {
     let task = relaxed_task(alloc, strips)?;
     let counts = task.needs.clone()?;
-    let exploration = Exploration::of(alloc, strips.atoms as usize)?;
-    let is_layered = cost_one(&task) && task.free.as_slice().is_empty();
+    let has_buckets = Buckets::suit(&task);
+    let exploration = Exploration::of(alloc, strips.atoms as usize, has_buckets)?;
+    let is_layered = is_layered(&task);
     let layers = Layers::of(alloc, strips.atoms as usize)?;
     Ok(Counters {
         task,

@@ -1,10 +1,10 @@
-use Rattle.std.proofs.Common.{◌≡◌, ◌+◌, ◌<◌, ◌≤◌, length, set, refl, arith, subst, sym, ap, ◌∙◌}
+use Rattle.std.proofs.Common.{◌≡◌, ◌+◌, ◌<◌, ◌≤◌, List, length, set, refl, arith, subst, sym, ap, ◌∙◌}
 use Rattle.std.proofs.lemmas.List.{get_or_read}
 use Rattle.pb_packed.specs.Sizes.{most_atoms}
 use Rattle.pb_estimate.specs.declared.exploration.AtomCost.{AtomCost}
 use Rattle.pb_estimate.specs.declared.exploration.AtomCost.TheVariants.{Unreached, Open, Final}
 use Rattle.pb_estimate.specs.Hmax.{IsAtMost}
-use Rattle.pb_estimate.specs.Exploring.{known_in, known_cost, final_cost}
+use Rattle.pb_estimate.specs.Exploring.{known_in, known_cost, final_cost, AreEntries}
 use Rattle.pb_estimate.proofs.Lowered.{room, same_length, pushed, lowered_none, IsQueue}
 use Rattle.pb_estimate.proofs.exploration.Exploration.lower.Goals as goal
 
@@ -26,7 +26,17 @@ returns-in-Unreached-clause-is c =
     let un : known_in c.args.self.now.costs.items c.args.atom ≡ Unreached = sym (get_or_read c.args.self.now.costs.items c.args.atom c.index.result.now c.requires.inside c.index.ensures Unreached) ∙ sym c.read.ensures ∙ c.in-Unreached.is in
     let q = subst (λ (known : AtomCost). IsQueue (set c.args.self.now.costs.items c.args.atom known) (set c.args.self.now.queue.items c.args.self.now.reached c.args.atom) c.args.self.now.first (c.args.self.now.reached + 1)) (sym c.open.ensures)
     (pushed c.args.self.now.costs.items c.args.self.now.queue.items c.args.self.now.first c.args.self.now.reached c.args.atom c.args.cost c.requires.inside c.requires.is.places c.requires.is.reached c.requires.is.inside c.requires.is.all c.requires.is.first c.requires.is.passed un) in
-    record { few = subst (λ n. n ≤ most_atoms) (sym (same_length c.args.self.now.costs.items c.args.atom c.open.result)) c.requires.is.few; places = q.0; reached = q.1; inside = q.2; all = q.3; first = q.4; passed = q.5 }
+    record {
+      few = subst (λ n. n ≤ most_atoms) (sym (same_length c.args.self.now.costs.items c.args.atom c.open.result)) c.requires.is.few;
+      places = q.0;
+      reached = q.1;
+      inside = q.2;
+      all = q.3;
+      first = q.4;
+      passed = q.5;
+      entered = subst (λ (known : AtomCost). AreEntries (set c.args.self.now.costs.items c.args.atom known) c.enter.new.self.places.items c.enter.new.self.filled.items c.enter.new.self.is_lost) (sym c.open.ensures)
+          (subst (λ (costs : List AtomCost). AreEntries (set costs c.args.atom (Open c.args.cost)) c.enter.new.self.places.items c.enter.new.self.filled.items c.enter.new.self.is_lost) c.as_slice.ensures.value c.enter.ensures);
+    }
 
 pub returns-in-Final-clause-lowered : goal.returns-in-Final-clause-lowered
 returns-in-Final-clause-lowered c =

@@ -6,6 +6,7 @@ use Rattle.pb_estimate.specs.declared.exploration.AtomCost.TheVariants.{Unreache
 use Rattle.pb_estimate.specs.Exploring.{known_cost, final_cost, known_in}
 use Rattle.pb_estimate.proofs.Least.{IsNoMore, HasNone}
 use Rattle.pb_estimate.proofs.Lowered.{same_length, changed}
+use Rattle.pb_estimate.proofs.Entries.{closed}
 use Rattle.pb_estimate.proofs.Queue.{part, part_inside, open_in_part}
 use Rattle.pb_estimate.proofs.exploration.Exploration.next_level.Goals as goal
 
@@ -44,6 +45,8 @@ returns-clause-is c =
       all = q.3;
       first = q.4;
       passed = q.5;
+      entered = closed c.args.self.now.costs.items c.args.self.now.buckets.places.items c.args.self.now.buckets.filled.items c.args.self.now.buckets.is_lost c.requires.is.entered c.in_ok-atom.atom c.as_final.result less
+          (λ cost e. let wrong : ◌≡◌ {A = AtomCost} (Final c.in_ok-atom.cost) (Open cost) = sym final ∙ e in cc);
     }
 
 pub returns-clause-least : goal.returns-clause-least
