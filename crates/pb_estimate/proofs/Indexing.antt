@@ -1,16 +1,15 @@
--- Lists of actions by the atoms that they need, and the successors by those of them that are looked at.
-use Rattle.std.proofs.Common.{◌≡◌, ◌≢◌, ℕ, zero, suc, ◌+◌, ◌<◌, ◌≤◌, Bool, true, false, Option, None, Some, List, [], ◌∷◌, ◌++◌, length, get_or, set, replicate, All, Contains, refl, sym, subst, ap, arith, ◌∙◌, ◌⊎◌, inl, inr}
+-- Lists of actions by the atoms that they need: an action that isn't looked at isn't applicable.
+use Rattle.std.proofs.Common.{◌≡◌, ◌≢◌, ℕ, ◌+◌, ◌<◌, ◌≤◌, Bool, true, false, Option, None, Some, List, [], ◌∷◌, ◌++◌, length, get_or, set, replicate, All, Contains, refl, sym, subst, ap, arith, ◌∙◌, ◌⊎◌, inl, inr}
 use Rattle.std.proofs.lemmas.Bool.{cases_eq, cases_lt}
-use Rattle.std.proofs.lemmas.List.{get_or-set_same, get_or-set_other, length-set, length-replicate, append-nil}
+use Rattle.std.proofs.lemmas.List.{get_or-set_same, get_or-set_other, length-set, length-replicate}
 use Rattle.std.proofs.lemmas.List.Elements.{All-nil, All-push, All-contains, Contains-append_left, Contains-push}
 use Rattle.std.proofs.lemmas.Option.{get_or_from_slice_get}
-use Rattle.pb_model.specs.Space.{Space, steps_below, successor_list}
-use Rattle.pb_model.specs.declared.row.Succ.{Succ}
 use Rattle.pb_task.specs.declared.parts.StripsParts.{StripsParts}
 use Rattle.pb_task.specs.declared.parts.GroundAction.{GroundAction}
 use Rattle.pb_task.specs.Strips.{has_atom, action_at, strips_step, Acts}
 use Rattle.pb_task.proofs.Callers.{strips_act}
-use Rattle.pb_estimate.specs.Indexed.{is_marked, IsListed, AreListed}
+use Rattle.pb_task.specs.Marks.{is_marked}
+use Rattle.pb_estimate.specs.Indexed.{IsListed, AreListed}
 use Rattle.pb_estimate.proofs.Relaxing.{none_at}
 
 -- ---- lists
@@ -114,27 +113,3 @@ module _ (strips : StripsParts) (lists : List (List ℕ)) (are : AreListed strip
         let has : has_atom state is.atom ≡ true = acts.needed is.atom missing.0 needs in
         let wrong : false ≡ true = sym missing.1 ∙ has in
         absurd (let end : ⊥ = cc in end)
-
--- ---- successors
-
--- where no action from a place to the next is applicable, the list stays
-pub steps_past : (space : Space) (state at next : ℕ) → at ≤ next → ((action : ℕ) → at ≤ action → action < next → space.step state action ≡ None)
-    → steps_below space state at ≡ steps_below space state next
-steps_past space state at zero le none = let e : at ≡ 0 = omega arith in ap (steps_below space state) e
-steps_past space state at (suc last) le none = go (cases_lt last at) (steps_past space state at last) where
-  go : (last < at) ⊎ (at ≤ last) → (at ≤ last → ((action : ℕ) → at ≤ action → action < last → space.step state action ≡ None) → steps_below space state at ≡ steps_below space state last)
-      → steps_below space state at ≡ steps_below space state (suc last)
-  go (inl less) rest = let e : at ≡ suc last = omega arith in ap (steps_below space state) e
-  go (inr before) rest =
-      rest before (λ action above less. none action above (omega (arith, less)))
-      ∙ sym (append-nil (steps_below space state last))
-      ∙ ap (λ step. steps_below space state last ++ successor_list last step) (sym (none last before (omega arith)))
-
--- an action and those to the next
-pub steps_more : (space : Space) (state action next : ℕ) (before after : List Succ) (step : Option (ℕ × ℕ)) → before ≡ steps_below space state action
-    → step ≡ space.step state action → after ≡ before ++ successor_list action step → action + 1 ≤ next
-    → ((a : ℕ) → action + 1 ≤ a → a < next → space.step state a ≡ None) → after ≡ steps_below space state next
-steps_more space state action next before after step is here added le none =
-    let one : suc action ≡ action + 1 = omega arith in
-    added ∙ ap (λ b. b ++ successor_list action step) is ∙ ap (λ s. steps_below space state action ++ successor_list action s) here
-    ∙ ap (steps_below space state) one ∙ steps_past space state (action + 1) next le none

@@ -1,17 +1,12 @@
 -- The actions of a STRIPS task, each listed under an atom that it needs. The candidates in a state
 -- are those listed under its atoms, and those that need none (M. Helmert, "The Fast Downward
 -- planning system", 2006).
-use Rattle.std.specs.Prelude.{◌≡◌, ℕ, ◌+◌, ◌*◌, ◌/◌, ◌%◌, ◌<◌, ◌≤◌, Bool, true, ⊤, Option, None, Some, List, [], length, All, Contains, slice_index_or, ◌==◌}
-use Rattle.std.specs.Int.{bit_at}
+use Rattle.std.specs.Prelude.{◌≡◌, ℕ, ◌+◌, ◌*◌, ◌<◌, ◌≤◌, true, ⊤, Option, None, Some, List, [], length, All, Contains, slice_index_or}
 use Rattle.pb_task.specs.declared.parts.StripsParts.{StripsParts}
 use Rattle.pb_task.specs.declared.parts.TaskParts.{TaskParts}
 use Rattle.pb_task.specs.declared.parts.TaskParts.TheVariants.{Grid, Tiles, Strips}
 use Rattle.pb_task.specs.Strips.{action_at, has_atom}
 use Rattle.pb_estimate.specs.declared.action_index.ActionIndex.{ActionIndex}
-
--- whether an action is marked: 64 actions have a word
-abbrev pub is_marked : (marks : List ℕ) → (action : ℕ) → Bool
-is_marked marks action = bit_at (slice_index_or marks (action / 64) 0) (action % 64) == 1
 
 -- An action is listed under an atom that it needs, or in the list behind those of the atoms.
 pub record IsListed (strips : StripsParts) (lists : List (List ℕ)) (action : ℕ) : Type 0 where

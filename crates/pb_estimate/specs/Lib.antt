@@ -2,6 +2,7 @@ pub use Rattle.pb_packed.specs.Sizes
 pub use Rattle.pb_task.specs.Parts
 pub use Rattle.pb_task.specs.Strips
 pub use Rattle.pb_task.specs.Tiles
+pub use Rattle.pb_task.specs.Marks
 pub use Rattle.pb_pattern.specs.Patterns
 pub use Rattle.pb_pattern.specs.Tables as PatternTables
 pub use Rattle.pb_tables.specs.Tables as CostTables

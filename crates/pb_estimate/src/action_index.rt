@@ -1,15 +1,16 @@
 //! The successors of a state of a STRIPS task with many actions. An action is looked at only if the
 //! state has the atom that it is listed under, or if it needs none.
-ghost use Rattle.std.specs.Prelude.{◌≡◌, ℕ, ◌+◌, ◌*◌, ◌<◌, ◌≤◌, ◌++◌, All, IfOk, IsTrue, None, length, true, false, [], slice_index, slice_index_or, vec_capacity, vec_len};
+ghost use Rattle.std.specs.Prelude.{◌≡◌, ℕ, ◌+◌, ◌*◌, ◌<◌, ◌≤◌, All, IfOk, IsTrue, length, true, [], slice_index, slice_index_or, vec_capacity};
 ghost use Rattle.pb_packed.specs.Sizes.{most_atoms};
-ghost use Rattle.pb_model.specs.Space.{steps, successor_list};
+ghost use Rattle.pb_model.specs.Space.{steps};
 ghost use Rattle.pb_task.specs.Parts.{space_of, max_degree_of};
 ghost use Rattle.pb_task.specs.Strips.{has_atom, IsStrips};
 ghost use Rattle.pb_task.specs.declared.parts.TaskParts.TheVariants.{Strips};
-ghost use Rattle.pb_estimate.specs.Indexed.{is_marked, AreListed, IsIndex};
+ghost use Rattle.pb_task.specs.Marks.{is_marked};
+ghost use Rattle.pb_estimate.specs.Indexed.{AreListed, IsIndex};
 
 use crate::flat_lists::FlatLists;
-use crate::marks::{mark_each, next_marked};
+use crate::marks::mark_each;
 use crate::relaxed::Users;
 use pb_model::Succ;
 use pb_packed::Packed;
@@ -108,50 +109,6 @@ fn mark_candidates(lists: &FlatLists, marks: &mut [u64], atoms: u32, state: &Pac
     mark_each(marks, lists.at(atoms as usize));
 }
 
-// Adds the successor by an action, if it is applicable, to a list that has room for it. `pb_task`
-// keeps its own call for this to itself.
-#[inline]
-fn push_step(out: &mut Vec<Succ>, action: u32, step: Option<(Packed, u64)>)
-    requires { vec_len out.old < vec_capacity out.old }
-    ensures items { out.new.items ≡ out.old.items ++ successor_list action step }
-    ensures len { vec_len out.new ≤ vec_len out.old + 1 }
-    ensures room { vec_capacity out.old ≤ vec_capacity out.new }
-{
-    if let Some((state, cost)) = step {
-        let successor = Succ {
-            action,
-            state,
-            cost,
-        };
-        match out.push(successor) {
-            Ok(()) => {}
-            // The list has room by the contract.
-            Err(_) => unreachable!(),
-        }
-    }
-}
-
-// Replaces the list by the successors by the marked actions, in order of the actions. No other is
-// applicable.
-fn steps_by_marked(marks: &[u64], task: &Task, from: &Packed, out: &mut Vec<Succ>)
-    requires few { (space_of task.now).actions ≤ 65536 }
-    requires marks { (space_of task.now).actions ≤ 64 * length marks.now }
-    requires others { (action : ℕ) → action < (space_of task.now).actions
-        → is_marked marks.now action ≡ false → (space_of task.now).step from.now action ≡ None }
-    requires state { IsTrue ((space_of task.now).is_state from.now) }
-    requires room { max_degree_of task.now ≤ vec_capacity out.old }
-    ensures successors { out.new.items ≡ steps (space_of task.now) from.now }
-    ensures room { vec_capacity out.old ≤ vec_capacity out.new }
-{
-    out.clear();
-    let count = task.actions();
-    let mut action = next_marked(marks, 0, count);
-    while action < count {
-        push_step(out, action, task.apply(from, action));
-        action = next_marked(marks, action + 1, count);
-    }
-}
-
 // Replaces the list by all successors of a state, in order of the actions.
 fn steps_by_lists(
     lists: &FlatLists,
@@ -171,7 +128,7 @@ fn steps_by_lists(
     ensures room { vec_capacity out.old ≤ vec_capacity out.new }
 {
     mark_candidates(lists, marks, strips.atoms, from);
-    steps_by_marked(marks, task, from, out);
+    task.successors_among(from, marks, out);
 }
 
 impl ActionIndex {

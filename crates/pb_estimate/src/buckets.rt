@@ -1,10 +1,10 @@
 //! The atoms that were reached, by the remainders of their costs: where hmax looks for the next
 //! level.
-ghost use Rattle.std.specs.Prelude.{[], ◌∷◌, ◌≡◌, ℕ, ◌+◌, ◌-◌, ◌*◌, ◌%◌, ◌^◌, ◌<◌, ◌≤◌, ◌↔◌, All, IfOk, List, length, slice_index, slice_set, true, false};
+ghost use Rattle.std.specs.Prelude.{◌≡◌, ℕ, ◌+◌, ◌-◌, ◌*◌, ◌%◌, ◌<◌, ◌≤◌, ◌↔◌, All, IfOk, List, length, slice_index, slice_set, true, false};
 ghost use Rattle.pb_packed.specs.Sizes.{most_atoms};
 ghost use Rattle.pb_estimate.specs.declared.exploration.AtomCost.{AtomCost};
 ghost use Rattle.pb_estimate.specs.declared.exploration.AtomCost.TheVariants.{Unreached, Open};
-ghost use Rattle.pb_estimate.specs.Exploring.{entry, known_in, ArePassed, AreBuckets};
+ghost use Rattle.pb_estimate.specs.Exploring.{known_in, ArePassed, AreBuckets};
 
 use crate::exploration::CostWord;
 use crate::relaxed::RelaxedTask;

@@ -1,6 +1,6 @@
 //! The costs of atoms without deletes, and the queue of the atoms that were reached: what hmax
 //! is computed with.
-ghost use Rattle.std.specs.Prelude.{[], ◌∷◌, ◌≡◌, ℕ, ◌+◌, ◌-◌, ◌%◌, ◌^◌, ◌⊎◌, ◌<◌, ◌≤◌, IsTrue, IfOk, IfSome, IfNone, All, length, slice_index, slice_set, true, false, None, is_some};
+ghost use Rattle.std.specs.Prelude.{[], ◌∷◌, ◌≡◌, ℕ, ◌+◌, ◌-◌, ◌%◌, ◌^◌, ◌⊎◌, ◌<◌, ◌≤◌, IfOk, IfSome, IfNone, All, length, slice_index, slice_set, true, false, None, is_some};
 ghost use Rattle.pb_packed.specs.Sizes.{most_atoms};
 ghost use Rattle.pb_task.specs.Strips.{has_atom};
 ghost use Rattle.pb_estimate.specs.declared.exploration.AtomCost.TheVariants.{Unreached, Open, Final};

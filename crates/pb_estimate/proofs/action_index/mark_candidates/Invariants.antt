@@ -1,6 +1,6 @@
 use Rattle.std.proofs.Common.{◌≡◌, ℕ, ◌-◌, ◌<◌, ◌≤◌, true, [], get_or, All}
 use Rattle.pb_task.specs.Strips.{has_atom}
-use Rattle.pb_estimate.specs.Indexed.{is_marked}
+use Rattle.pb_task.specs.Marks.{is_marked}
 use Rattle.pb_estimate.proofs.action_index.mark_candidates.Given as goal
 
 abbrev pub invariant-loop-atom : goal.invariant-loop-atom

@@ -1,7 +1,7 @@
 use Rattle.std.proofs.Common.{◌≡◌, ℕ, true, get_or, take, List, subst, arith, All}
 use Rattle.std.proofs.lemmas.List.{take_all}
 use Rattle.std.proofs.lemmas.List.Elements.{All-more, All-weaker}
-use Rattle.pb_estimate.specs.Indexed.{is_marked}
+use Rattle.pb_task.specs.Marks.{is_marked}
 use Rattle.pb_estimate.proofs.Marked.{marked_too}
 use Rattle.pb_estimate.proofs.marks.mark_each.Goals as goal
 

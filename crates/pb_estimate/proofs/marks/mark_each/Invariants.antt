@@ -1,5 +1,5 @@
 use Rattle.std.proofs.Common.{◌≡◌, ℕ, true, take, All}
-use Rattle.pb_estimate.specs.Indexed.{is_marked}
+use Rattle.pb_task.specs.Marks.{is_marked}
 use Rattle.pb_estimate.proofs.marks.mark_each.Given as goal
 
 abbrev pub invariant-loop-action : goal.invariant-loop-action
