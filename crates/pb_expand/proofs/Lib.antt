@@ -1,4 +1,5 @@
 pub mod Callers
+mod Firsts
 mod Turned
 mod Known
 mod Listed

@@ -11,6 +11,7 @@ use Rattle.pb_machine.specs.Settings.{AreInRange}
 use Rattle.pb_machine.specs.Machine.{IsSetup, Machine, IsWorked, lent_store}
 use Rattle.pb_machine.specs.Turns.{AreLeaseTurns}
 use Rattle.pb_machine.specs.Lawful.{IsLawful}
+use Rattle.pb_lists.specs.declared.bundle.FirstRow.{FirstRow}
 use Rattle.pb_task.specs.declared.parts.TaskParts.{TaskParts}
 use Rattle.pb_task.specs.Parts.{space_of, greatest_cost}
 use Rattle.pb_estimate.specs.Choices.{Choice}
@@ -75,9 +76,19 @@ pub record HasTurnedOnce (space : Space) (guide : Guide) (known : Option ℕ →
   pub once : (before : List (Option ℕ)) → copies_of space guide turned.work.works old before
       ≡ old.incumbent ∷ before
 
+-- the first Opened row of the lease's block has this state, g and estimate
+abbrev pub IsFirst : LeaseValue → FirstRow → Type 0
+IsFirst lease first = (row : Row) × IsFirstRow lease.weight (own_rows lease) first.state row
+    × (row.g ≡ first.g) × (row.estimate ≡ first.estimate)
+
 -- the state has this row, which is the first Opened one of the lease's block, and the next turn is
 -- its expansion
 pub record IsNext (space : Space) (lease : LeaseValue) (state : ℕ) (row : Row) : Type 0 where
   pub first : IsFirstRow lease.weight (own_rows lease) state row
   pub kept : ¬ MayBeCut lease.weight lease.incumbent row.g row.estimate
   pub no_goal : IsFalse (space.is_goal state)
+
+-- the next turn is the expansion of the row of this state, g and estimate
+abbrev pub IsDue : Space → LeaseValue → FirstRow → Type 0
+IsDue space lease first = (row : Row) × IsNext space lease first.state row
+    × (row.g ≡ first.g) × (row.estimate ≡ first.estimate)

@@ -1,7 +1,6 @@
 //! What a worker does to the bundles of its lease.
 ghost use Rattle.std.specs.Prelude.{◌≡◌, ◌<◌, Some, IsTrue, IsSome, IfSome, IfNone, OnOk, OnErr};
 ghost use Rattle.pb_model.specs.Store.{HasOpened};
-ghost use Rattle.pb_model.specs.Key.{IsFirstRow};
 ghost use Rattle.pb_model.specs.declared.row.Status.TheVariants.{Closed, Cut};
 ghost use Rattle.pb_task.specs.Parts.{space_of};
 ghost use Rattle.pb_estimate.specs.Estimates.{estimate_by};
@@ -9,31 +8,25 @@ ghost use Rattle.pb_estimate.specs.Tables.{IsOfTask};
 ghost use Rattle.pb_lists.specs.Bundle.{IsOpened};
 ghost use Rattle.pb_bundles.specs.Parts.{content_in};
 ghost use Rattle.pb_lease.specs.LeaseValue.{HasWeights};
-ghost use Rattle.pb_expand.specs.Turned.{own_rows};
+ghost use Rattle.pb_expand.specs.Turned.{own_rows, IsFirst};
 ghost use Rattle.pb_lease.specs.Rows.{ChangesRows, SetsStatusAt, OffersAt, own_opened};
 
 use pb_estimate::Estimator;
 use pb_lease::Lease;
-use pb_model::{Row, Succ};
+use pb_lists::FirstRow;
+use pb_model::Succ;
 use pb_packed::Packed;
 use pb_task::Task;
 use std::alloc::AllocError;
 
-/// The first Opened row of the lease's block, and its state.
-pub fn first(lease: &Lease) -> Option<(Packed, Row)>
+/// The state of the first Opened row of the lease's block, with the row's g and estimate.
+pub fn first(lease: &Lease) -> Option<FirstRow>
     requires own { IsSome (content_in lease.now.parts lease.now.block) }
     requires weights { HasWeights lease.now }
-    ensures some { IfSome result (λ found. IsFirstRow lease.now.weight (own_rows lease.now) found.0
-        found.1) }
+    ensures some { IfSome result (λ found. IsFirst lease.now found) }
     ensures none { IfNone result (HasOpened (own_rows lease.now) → ⊥) }
 {
-    let bundle = lease.bundle(lease.block());
-    let state = bundle.first()?;
-    match bundle.row(&state) {
-        Some(row) => Some((state, row)),
-        // Each Opened state has a row.
-        None => unreachable!(),
-    }
+    lease.bundle(lease.block()).first_row()
 }
 
 /// Cuts an Opened row of the lease's block.

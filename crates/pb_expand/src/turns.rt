@@ -6,15 +6,15 @@ ghost use Rattle.pb_estimate.specs.Tables.{IsOfTask};
 ghost use Rattle.pb_abstract.specs.Graph.{IsGraphOf};
 ghost use Rattle.pb_lease.specs.LeaseValue.{leased_store, HasWeights, IsSameLease};
 ghost use Rattle.pb_lease.specs.Leased.{guide_of};
-ghost use Rattle.pb_expand.specs.Turned.{own_rows, IsAtWork, IsNext, reads_none, HasTurnedOnce};
+ghost use Rattle.pb_expand.specs.Turned.{own_rows, IsAtWork, IsDue, reads_none, HasTurnedOnce};
 
 use crate::bundles::close;
 use crate::offers::offer_all;
 use pb_abstract::AbsGraph;
 use pb_estimate::Estimator;
 use pb_lease::Lease;
-use pb_model::{Row, Succ};
-use pb_packed::Packed;
+use pb_lists::FirstRow;
+use pb_model::Succ;
 use pb_task::Task;
 use std::alloc::AllocError;
 
@@ -27,14 +27,13 @@ pub fn expand(
     abstraction: &AbsGraph,
     lease: &mut Lease,
     succs: &mut Vec<Succ>,
-    state: &Packed,
-    row: &Row,
+    row: &FirstRow,
 ) -> Result<(), AllocError>
     requires tables { IsOfTask estimator.old task.now lease.old.choice }
     requires of_task { IsGraphOf task.now abstraction.now }
     requires room { max_degree_of task.now ≤ vec_capacity succs.old }
     requires at_work { IsAtWork task.now abstraction.now lease.old.choice lease.old }
-    requires next { IsNext (space_of task.now) lease.old state.now row.now }
+    requires next { IsDue (space_of task.now) lease.old row.now }
     requires left { lease.old.used < lease.old.quota }
     ensures turned { OnOk result (HasTurnedOnce (space_of task.now)
         (guide_of task.now abstraction.now lease.old.choice)
@@ -51,6 +50,7 @@ pub fn expand(
     ensures tables { IsOfTask estimator.new task.now lease.old.choice }
     ensures room { vec_capacity succs.old ≤ vec_capacity succs.new }
 {
+    let state = &row.state;
     estimator.successors(task, state, succs);
     offer_all(task, estimator, abstraction, lease, succs, state, row.g)?;
     // Only now: a row whose successors weren't all offered must be expanded again.

@@ -4,7 +4,6 @@ ghost use Rattle.std.specs.Prelude.{◌≡◌, ◌-◌, ◌<◌, ◌≤◌, ◌�
 ghost use Rattle.pb_model.specs.Space.{Space};
 ghost use Rattle.pb_model.specs.Guide.{Guide};
 ghost use Rattle.pb_model.specs.Store.{HasOpened, lesser};
-ghost use Rattle.pb_model.specs.Key.{IsFirstRow};
 ghost use Rattle.pb_model.specs.declared.row.Row.{Row};
 ghost use Rattle.pb_task.specs.Parts.{space_of, max_degree_of};
 ghost use Rattle.pb_estimate.specs.Choices.{Choice};
@@ -13,7 +12,7 @@ ghost use Rattle.pb_abstract.specs.Graph.{AbstractGraph, IsGraphOf};
 ghost use Rattle.pb_bundles.specs.Parts.{content_in};
 ghost use Rattle.pb_lease.specs.LeaseValue.{leased_store, HasWeights, IsSameLease};
 ghost use Rattle.pb_lease.specs.Leased.{guide_of, HasScope};
-ghost use Rattle.pb_expand.specs.Turned.{own_rows, IsAtWork, IsNext};
+ghost use Rattle.pb_expand.specs.Turned.{own_rows, IsAtWork, IsFirst, IsNext, IsDue};
 ghost use Rattle.pb_lease.specs.Rows.{own_opened};
 ghost use Rattle.pb_expand.specs.Worked.{broken_by, ends_with_read};
 ghost use Rattle.pb_expand.specs.Watching.{IsOfSearch, answers_of, HasAnswers, IsLevel, IsUnder, Keeps, IsAtWatch, HasTurnedReading, HasTurnedWatched};
@@ -26,9 +25,8 @@ use crate::working::Worked;
 use pb_abstract::AbsGraph;
 use pb_estimate::Estimator;
 use pb_lease::Lease;
-use pb_lists::may_be_cut;
-use pb_model::{Row, Succ};
-use pb_packed::Packed;
+use pb_lists::{FirstRow, may_be_cut};
+use pb_model::Succ;
 use pb_task::Task;
 
 // Takes a cost that was read, if there is one: the lease's incumbent becomes the lesser of both
@@ -41,8 +39,9 @@ fn take_read(lease: &mut Lease, found: Option<u64>)
     }
 }
 
-// The first Opened row of the lease's block, and its state, after the incumbent was read and taken.
-fn next_row<W: Watch>(lease: &mut Lease, watch: &mut W) -> Option<(Packed, Row)>
+// The state of the first Opened row of the lease's block, with the row's g and estimate, after the
+// incumbent was read and taken.
+fn next_row<W: Watch>(lease: &mut Lease, watch: &mut W) -> Option<FirstRow>
     requires can { W.can watch.old }
     requires own { IsSome (content_in lease.old.parts lease.old.block) }
     requires weights { HasWeights lease.old }
@@ -59,8 +58,7 @@ fn next_row<W: Watch>(lease: &mut Lease, watch: &mut W) -> Option<(Packed, Row)>
         → IsUnder space guide (W.seen watch.old) 0 lease.old
         → HasAnswers (W.seen watch.new) (lease.new.incumbent ∷ answers_of (W.seen watch.old)) }
     ensures opened { own_opened lease.new ≡ own_opened lease.old }
-    ensures some { IfSome result (λ found. IsFirstRow lease.new.weight (own_rows lease.new) found.0
-        found.1) }
+    ensures some { IfSome result (λ found. IsFirst lease.new found) }
     ensures none { IfNone result (HasOpened (own_rows lease.new) → ⊥) }
 {
     let found = watch.read();
@@ -70,17 +68,11 @@ fn next_row<W: Watch>(lease: &mut Lease, watch: &mut W) -> Option<(Packed, Row)>
 
 // Cuts the first Opened row if it may be cut. If it is a goal's, takes it after its cost was
 // reported. Answers whether it did either.
-fn settle_row<W: Watch>(
-    task: &Task,
-    lease: &mut Lease,
-    watch: &mut W,
-    state: &Packed,
-    row: &Row,
-) -> bool
+fn settle_row<W: Watch>(task: &Task, lease: &mut Lease, watch: &mut W, row: &FirstRow) -> bool
     requires can { W.can watch.old }
     requires at { (abstraction : AbstractGraph) × (choice : Choice)
         × IsAtWatch task.now abstraction choice (W.seen watch.old) lease.old }
-    requires first { IsFirstRow lease.old.weight (own_rows lease.old) state.now row.now }
+    requires first { IsFirst lease.old row.now }
     ensures can { W.can watch.new }
     ensures stays { W.stays watch.old watch.new }
     ensures turned { (abstraction : AbstractGraph) (choice : Choice)
@@ -90,16 +82,16 @@ fn settle_row<W: Watch>(
         lease.old (W.seen watch.old) lease.new (W.seen watch.new) }
     ensures none { answers_of (W.seen watch.new) ≡ answers_of (W.seen watch.old) }
     ensures fewer { result ≡ true → own_opened lease.new < own_opened lease.old }
-    ensures next { result ≡ false → IsNext (space_of task.now) lease.new state.now row.now }
+    ensures next { result ≡ false → IsDue (space_of task.now) lease.new row.now }
 {
     if may_be_cut(lease.weight(), lease.incumbent(), row.g, row.estimate) {
-        cut(lease, state);
+        cut(lease, &row.state);
         true
-    } else if task.is_goal(state) {
+    } else if task.is_goal(&row.state) {
         // First: a cost that the lease has as its incumbent can no longer be reported.
         watch.tell(lease, row.g);
         lease.lower_incumbent(row.g);
-        cut(lease, state);
+        cut(lease, &row.state);
         true
     } else {
         false
@@ -107,8 +99,8 @@ fn settle_row<W: Watch>(
 }
 
 // Cuts and takes rows of the lease's block until the first Opened one is to be expanded, and
-// answers that row and its state.
-fn settle<W: Watch>(task: &Task, lease: &mut Lease, watch: &mut W) -> Option<(Packed, Row)>
+// answers that one's state, g and estimate.
+fn settle<W: Watch>(task: &Task, lease: &mut Lease, watch: &mut W) -> Option<FirstRow>
     requires can { W.can watch.old }
     requires at { (abstraction : AbstractGraph) × (choice : Choice)
         × IsAtWatch task.now abstraction choice (W.seen watch.old) lease.old }
@@ -122,12 +114,12 @@ fn settle<W: Watch>(task: &Task, lease: &mut Lease, watch: &mut W) -> Option<(Pa
     ensures same { IsSameLease lease.old lease.new }
     ensures used { lease.new.used ≡ lease.old.used }
     ensures copy { IsLevel (W.seen watch.new) lease.new }
-    ensures next { IfSome result (λ found. IsNext (space_of task.now) lease.new found.0 found.1) }
+    ensures next { IfSome result (λ found. IsDue (space_of task.now) lease.new found) }
     ensures none { IfNone result (HasOpened (own_rows lease.new) → ⊥) }
 {
-    while let Some((state, row)) = next_row(lease, watch) {
-        if !settle_row(task, lease, watch, &state, &row) {
-            return Some((state, row));
+    while let Some(row) = next_row(lease, watch) {
+        if !settle_row(task, lease, watch, &row) {
+            return Some(row);
         }
     }
     None
@@ -192,12 +184,12 @@ pub fn work_watched<W: Watch>(
     ensures room { vec_capacity succs.old ≤ vec_capacity succs.new }
 {
     let quota = lease.quota();
-    while let Some((state, row)) = settle(task, lease, watch) {
+    while let Some(row) = settle(task, lease, watch) {
         // Only here: with the quota used up, rows are still cut and goals taken.
         if lease.used() == quota {
             return Worked::Spent;
         }
-        match expand(task, estimator, abstraction, lease, succs, &state, &row) {
+        match expand(task, estimator, abstraction, lease, succs, &row) {
             Ok(()) => {}
             Err(_) => return Worked::Memory,
         }

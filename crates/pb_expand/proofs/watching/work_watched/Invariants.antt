@@ -5,8 +5,8 @@ use Rattle.pb_lease.specs.Leased.{guide_of}
 use Rattle.pb_expand.specs.Watching.{IsAtWatch, HasTurnedWatched}
 use Rattle.pb_expand.proofs.watching.work_watched.Given as goal
 
-abbrev pub invariant-loop-state : goal.invariant-loop-state
-invariant-loop-state g l = record {
+abbrev pub invariant-loop-row : goal.invariant-loop-row
+invariant-loop-row g l = record {
   at : IsAtWatch l.task l.abstraction l.initial.lease.choice (g.W.Watch.seen l.watch) l.lease;
   turned : HasTurnedWatched (space_of l.task) (guide_of l.task l.abstraction l.initial.lease.choice) (l.lease.used - l.initial.lease.used) 0 false false l.initial.lease (g.W.Watch.seen l.initial.watch) l.lease (g.W.Watch.seen l.watch);
   counted : l.initial.lease.used ≤ l.lease.used;
@@ -16,5 +16,5 @@ invariant-loop-state g l = record {
   room : vec_capacity l.initial.succs ≤ vec_capacity l.succs;
 }
 
-abbrev pub decreases-loop-state : goal.decreases-loop-state
-decreases-loop-state g l = l.lease.quota - l.lease.used
+abbrev pub decreases-loop-row : goal.decreases-loop-row
+decreases-loop-row g l = l.lease.quota - l.lease.used
