@@ -3,7 +3,7 @@
 use crate::samples::{ONE_WORKER, Sample, search_sample};
 use pb_machine::{End, Settings};
 use pb_outside::Gate;
-use std::sync::atomic::{AtomicU64, Ordering};
+use std::sync::atomic::{AtomicBool, AtomicU64, Ordering};
 use std::test::Fail;
 use std::thread::yield_now;
 
@@ -120,13 +120,14 @@ fn two_leases_are_out_at_once(rt: HostRuntime) -> Result<(), Fail> {
 }
 
 // Holds each lease after the first hundred until four workers have one each, for at most 10,000,000
-// turns.
+// turns. If they never have, it holds no lease from then on.
 #[derive(Drop)]
 struct FullGate {
     leases: AtomicU64,
     // A bit for each worker that has a lease. A renewal takes it away too.
     workers: AtomicU64,
     all: AtomicU64,
+    is_given_up: AtomicBool,
 }
 
 // The bit of a worker.
@@ -144,11 +145,12 @@ impl Gate for FullGate {
             if self.workers.load(Ordering::SeqCst) == 0b1111 {
                 self.all.store(1, Ordering::SeqCst);
             }
-            if self.all.load(Ordering::SeqCst) == 1 {
+            if self.all.load(Ordering::SeqCst) == 1 || self.is_given_up.load(Ordering::SeqCst) {
                 return;
             }
             yield_now();
         }
+        self.is_given_up.store(true, Ordering::SeqCst);
     }
 
     fn giving(&self, worker: u32, _block: u32) {
@@ -163,6 +165,7 @@ fn each_of_four_workers_has_a_lease_at_once(rt: HostRuntime) -> Result<(), Fail>
         leases: AtomicU64::new(0),
         workers: AtomicU64::new(0),
         all: AtomicU64::new(0),
+        is_given_up: AtomicBool::new(false),
     };
     let settings = Settings {
         workers: 4,
@@ -209,9 +212,9 @@ fn wait_for(lease: &AtomicU64, far: u64) {
     }
 }
 
-// Reads a number a million times, which takes about a millisecond.
+// Reads a number so often that it takes some tenths of a millisecond.
 fn linger(number: &AtomicU64) {
-    for _ in 0..1_000_000 {
+    for _ in 0..300_000 {
         let _ = number.load(Ordering::SeqCst);
     }
 }
@@ -239,23 +242,31 @@ impl Gate for LateGate {
     }
 }
 
-// A lease with some hundred expansions comes back before one with 62,500 whose work began earlier.
-// So no worker waits while another expands.
+// A lease with 250 expansions comes back before one with 62,500 whose work began earlier. So no worker
+// waits while another expands. A machine with much else to do may delay the short lease that long, so
+// there are several searches.
 #[test]
 fn a_short_lease_overtakes_a_long_one(rt: HostRuntime) -> Result<(), Fail> {
-    let gate = LateGate {
-        long: AtomicU64::new(0),
-        short: AtomicU64::new(0),
-        overtook: AtomicU64::new(0),
-    };
     let settings = Settings {
         workers: 2,
         lot: 100_000,
         wish: 16,
         ..ONE_WORKER
     };
-    let seen = search_sample(&rt, rt.alloc(), Sample::Hall, settings, &gate)?;
-    assert_eq!(rt; gate.overtook.load(Ordering::SeqCst), 1);
-    assert_eq!(rt; (seen.end, seen.incumbent), (Some(End::Quiet), None));
+    let mut overtook = 0;
+    for _ in 0..3 {
+        let gate = LateGate {
+            long: AtomicU64::new(0),
+            short: AtomicU64::new(0),
+            overtook: AtomicU64::new(0),
+        };
+        let seen = search_sample(&rt, rt.alloc(), Sample::Hall, settings, &gate)?;
+        assert_eq!(rt; (seen.end, seen.incumbent), (Some(End::Quiet), None));
+        overtook = gate.overtook.load(Ordering::SeqCst);
+        if overtook == 1 {
+            break;
+        }
+    }
+    assert_eq!(rt; overtook, 1);
     Ok(())
 }

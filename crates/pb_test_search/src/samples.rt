@@ -24,7 +24,7 @@ pub(crate) enum Sample {
     // It has 3 by 3 cells. The start reaches 181,440 boards.
     BoardWithoutPlan,
     Corridor,
-    // A narrow way to the left of the start and a hall to its right. There is no plan.
+    // A narrow way from the start to the left, and one to a hall on the right. There is no plan.
     Hall,
     SpentOnce,
     SpentTwice,
@@ -33,17 +33,17 @@ pub(crate) enum Sample {
 // How many columns and rows the map with the hall has.
 const HALL: (u32, u32) = (2000, 250);
 
-// A map that is land in one row of its left third, and in all rows of the rest but for the last
-// column but one, so that no way leads to the goal in the last column. In blocks of 250 by 250 cells,
-// the first three have 250 cells of land each, and each other has all.
+// A map in blocks of 250 by 250 cells. Block 4 is all land, and blocks 0 to 3 are land in one row. The
+// others are blocked but for the goal, so no way leads to it.
 fn hall<R: Abort>(rt: &R, alloc: Global) -> Result<Task, AllocError> {
     let mut cells = vec![in alloc; Class::Blocked; 500_000]?;
     for at in 0..cells.len() {
         let (x, y) = (at % 2000, at / 2000);
-        if x != 1998 && (x >= 750 || y == 125) {
+        if x < 1250 && (x >= 1000 || y == 125) {
             cells[at] = Class::Land;
         }
     }
+    cells[125 * 2000 + 1999] = Class::Land;
     let parts = GridParts {
         width: HALL.0,
         height: HALL.1,
