@@ -30,25 +30,36 @@ pub(crate) enum Sample {
     SpentTwice,
 }
 
-// How many columns and rows the map with the hall has.
-const HALL: (u32, u32) = (2000, 250);
+// Whether a cell of the map with the hall is land.
+fn is_land(x: u32, y: u32) -> bool {
+    x < 1250 && (x >= 1000 || y == 125) || x == 1999 && y == 125
+}
 
-// A map in blocks of 250 by 250 cells. Block 4 is all land, and blocks 0 to 3 are land in one row. The
-// others are blocked but for the goal, so no way leads to it.
-fn hall<R: Abort>(rt: &R, alloc: Global) -> Result<Task, AllocError> {
-    let mut cells = vec![in alloc; Class::Blocked; 500_000]?;
-    for at in 0..cells.len() {
-        let (x, y) = (at % 2000, at / 2000);
-        if x < 1250 && (x >= 1000 || y == 125) {
-            cells[at] = Class::Land;
+// A map of 2,000 by 250 cells, in blocks of 250 by 250 cells. Block 4 is all land, and blocks 0 to 3
+// are land in one row. The others are blocked but for the goal, so no way leads to it.
+fn hall<R: Abort>(rt: &R, alloc: Global, width: u32, height: u32) -> Result<Task, AllocError> {
+    let mut cells = Vec::new(alloc);
+    for y in 0..height {
+        for x in 0..width {
+            cells.push(if is_land(x, y) {
+                Class::Land
+            } else {
+                Class::Blocked
+            })?;
         }
     }
-    cells[125 * 2000 + 1999] = Class::Land;
+    let count = cells.len();
+    if width == 0 || width > 2048 || height == 0 || height > 2048 {
+        panic!(rt; "a side of the map is out of range")
+    }
+    if count != width as usize * height as usize {
+        panic!(rt; "the map has another number of cells")
+    }
     let parts = GridParts {
-        width: HALL.0,
-        height: HALL.1,
+        width,
+        height,
         cells: Cells::of(cells),
-        swamp: Swamp::of(vec![in alloc; false; 500_000]?),
+        swamp: Swamp::none(count),
         start: (740, 125),
         goal: (1999, 125),
     };
@@ -71,7 +82,7 @@ fn task_of<R: Abort>(rt: &R, alloc: Global, sample: Sample) -> Result<Task, Allo
             goal: Board::of(vec![in alloc; 0, 1, 2, 3, 4, 5, 6, 7, 8]?),
         })),
         Sample::Corridor => corridor(alloc),
-        Sample::Hall => hall(rt, alloc),
+        Sample::Hall => hall(rt, alloc, 2000, 250),
         Sample::SpentOnce => spent_once(alloc),
         Sample::SpentTwice => spent_twice(alloc),
     }
