@@ -15,7 +15,7 @@ use Rattle.pb_turn.specs.declared.table_rule.Stage.{Stage}
 use Rattle.pb_turn.specs.declared.table_rule.Stage.TheVariants.{Resting, Holding}
 use Rattle.pb_turn.specs.Obligations.{LeaveKeeps, LoadKeeps, LowerKeeps, SplitKeeps, MeetKeeps, Stands, StandsAt, StandsAlone, IsHeld}
 use Rattle.pb_turn.specs.Passes.{whole, found_by}
-use Rattle.pb_turn.specs.Table.{home_of, Knows, Known, pass_view, first_pass, spent_pass, kept_pass, given_pass, met_pass, view_of, parts_of, tries_of, misses_of, leaves_of, AddUp, AreKnown, Turned, tried, read, sunk, left}
+use Rattle.pb_turn.specs.Table.{home_of, Knows, Known, pass_view, first_pass, spent_pass, kept_pass, given_pass, met_pass, view_of, parts_of, tries_of, misses_of, leaves_of, AddUp, AreKnown, IsCalm, AreCalm, Turned, tried, read, sunk, left}
 use Rattle.pb_turn.proofs.PassLists.{put_there, each_set, each_snoc, sum_set, sum_snoc, sum_two, map_at, map_set, map_snoc}
 
 module _ {S : Type 0} where
@@ -54,6 +54,10 @@ module _ {S V : Type 0} (fact : S → ℕ → List V → Type 0) (spent : V) whe
   first_changes v zero d e = let p : 0 ≡ d.changes = ap (λ (y : D). y.changes) (some-injective (first_pass v) d e) in omega arith
   first_changes v (suc j) d e = absurd (some-ne-none d (sym e))
 
+  first_calm : (v : V) (j : ℕ) (d : D) → get_elem? (first_pass {S = S} v ∷ []) j ≡ some d → IsCalm (first_pass {S = S} v ∷ []) 0 d.calm
+  first_calm v zero d e = subst (λ (y : D). IsCalm (first_pass {S = S} v ∷ []) 0 y.calm) (some-injective (first_pass v) d e) (omega arith, λ _ _. omega arith)
+  first_calm v (suc j) d e = absurd (some-ne-none d (sym e))
+
   pub begins : (x : S) (n : ℕ) (v : V) → fact x n (v ∷ []) → Rule (opening (0 ∷ n ∷ []) (Some x ∷ []) (first_pass v))
   begins x n v h = record {
     state = x;
@@ -69,6 +73,8 @@ module _ {S V : Type 0} (fact : S → ℕ → List V → Type 0) (spent : V) whe
     no_parts = first_parts v;
     counted = omega arith;
     changed = first_changes v;
+    begun = (omega arith, λ _ _. omega arith);
+    calm = first_calm v;
     kept = h;
   }
 
@@ -85,6 +91,19 @@ module _ {S V : Type 0} (fact : S → ℕ → List V → Type 0) (spent : V) whe
         each_set (λ j y. y.changes + sum_by misses_of all ≤ sum_by tries_of all + sum_by leaves_of all) s.views id d'
         (let c = r.changed id d at in omega arith) (λ j y _ e. let c = r.changed j y e in omega arith)
 
+    -- the counts of misses stay as each pass knows them
+    module _ (turn : ℕ) (more : d.leaves ≤ d'.leaves) (same : d'.leaves ≡ d.leaves → turn ≡ 0 → (r.turn ≡ 0) × (d'.misses ≤ d.misses)) where
+      one_calm : (k : ℕ × ℕ) → IsCalm s.views r.turn k → IsCalm (set s.views id d') turn k
+      one_calm k c =
+          let m = sum_set misses_of s.views id d d' at in let l = sum_set leaves_of s.views id d d' at in let low = c.0 in
+          (omega arith, λ e z. let q : d'.leaves ≡ d.leaves = omega arith in let p = same q z in let u = c.1 (omega arith) p.0 in let fewer = p.1 in omega arith)
+
+      still_begun : IsCalm (set s.views id d') turn (0, 0)
+      still_begun = one_calm (0, 0) r.begun
+
+      still_calm : d'.calm ≡ d.calm → AreCalm (set s.views id d') turn
+      still_calm is = each_set (λ j y. IsCalm (set s.views id d') turn y.calm) s.views id d' (subst (IsCalm (set s.views id d') turn) (sym is) (one_calm d.calm (r.calm id d at))) (λ j y _ e. one_calm y.calm (r.calm j y e))
+
   -- a resting pass with all parts: the state is at home, and all others are spent
   module _ (s : St) (r : Rule s) (id : ℕ) (d : D) (idle : d.stage ≡ Resting) (all : d.parts ≡ whole) (at : get_elem? s.views id ≡ some d) where
     others_spent : (j : ℕ) (y : D) → get_elem? s.views j ≡ some y → j ≢ id → y ≡ spent_pass spent
@@ -98,9 +117,9 @@ module _ {S V : Type 0} (fact : S → ℕ → List V → Type 0) (spent : V) whe
     pub at_home : get_elem? s.homes 0 ≡ some (some (Some r.state))
     at_home = ap (λ (l : List (maybe.Option (Option S))). get_elem? l 0) r.homes ∙ ap (λ (b : ℕ). some (home_of b r.state)) nobody_holds
 
-  missed : (s : St) (r : Rule s) (id : ℕ) (me : Known S V) → me.0.stage ≡ Resting → 0 < me.0.parts → get_elem? s.views id ≡ some me.0
-      → Rule (stepped s 0 (get_or s.words 0 0) id me.1 (pass_view me.0.stage me.0.parts (me.0.tries + 1) (me.0.misses + 1) me.0.leaves me.0.changes me.0.view) keeps)
-  missed s r id me idle some_parts at = let w : D = pass_view me.0.stage me.0.parts (me.0.tries + 1) (me.0.misses + 1) me.0.leaves me.0.changes me.0.view in record {
+  missed : (s : St) (r : Rule s) (id : ℕ) (me : Known S V) → r.turn ≢ 0 → me.0.stage ≡ Resting → 0 < me.0.parts → get_elem? s.views id ≡ some me.0
+      → Rule (stepped s 0 (get_or s.words 0 0) id me.1 (pass_view me.0.stage me.0.parts (me.0.tries + 1) (me.0.misses + 1) me.0.leaves me.0.changes me.0.calm me.0.view) keeps)
+  missed s r id me held idle some_parts at = let w : D = pass_view me.0.stage me.0.parts (me.0.tries + 1) (me.0.misses + 1) me.0.leaves me.0.changes me.0.calm me.0.view in record {
     state = r.state;
     turn = r.turn;
     holder = r.holder;
@@ -118,12 +137,14 @@ module _ {S V : Type 0} (fact : S → ℕ → List V → Type 0) (spent : V) whe
     no_parts = each_set (λ j d. d.parts ≡ 0 → d ≡ spent_pass spent) s.views id w (λ z. absurd (omega arith)) (λ j d _ e. r.no_parts j d e);
     counted = recounted s r id me.0 w at r.turn (omega arith);
     changed = still_known s r id me.0 w at (omega arith) (omega arith);
+    begun = still_begun s r id me.0 w at r.turn (omega arith) (λ _ z. absurd (held z));
+    calm = still_calm s r id me.0 w at r.turn (omega arith) (λ _ z. absurd (held z)) refl;
     kept = subst (fact r.state r.number) (sym (map_set view_of s.views id w ∙ set_again (map view_of s.views) id me.0.view (at_map view_of s.views id me.0 at))) r.kept;
   }
 
   gained : (s : St) (r : Rule s) (id : ℕ) (me : Known S V) → r.turn ≡ 0 → 0 < me.0.parts → get_elem? s.views id ≡ some me.0
-      → Rule (stepped s 0 1 id me.1 (pass_view (Holding r.state) me.0.parts (me.0.tries + 1) me.0.misses me.0.leaves me.0.changes me.0.view) (takes 0 (Some r.state)))
-  gained s r id me free some_parts at = let w : D = pass_view (Holding r.state) me.0.parts (me.0.tries + 1) me.0.misses me.0.leaves me.0.changes me.0.view in record {
+      → Rule (stepped s 0 1 id me.1 (pass_view (Holding r.state) me.0.parts (me.0.tries + 1) me.0.misses me.0.leaves me.0.changes me.0.calm me.0.view) (takes 0 (Some r.state)))
+  gained s r id me free some_parts at = let w : D = pass_view (Holding r.state) me.0.parts (me.0.tries + 1) me.0.misses me.0.leaves me.0.changes me.0.calm me.0.view in record {
     state = r.state;
     turn = 1;
     holder = id;
@@ -138,6 +159,8 @@ module _ {S V : Type 0} (fact : S → ℕ → List V → Type 0) (spent : V) whe
     no_parts = each_set (λ j d. d.parts ≡ 0 → d ≡ spent_pass spent) s.views id w (λ z. absurd (omega arith)) (λ j d _ e. r.no_parts j d e);
     counted = recounted s r id me.0 w at 1 (omega arith);
     changed = still_known s r id me.0 w at (omega arith) (omega arith);
+    begun = still_begun s r id me.0 w at 1 (omega arith) (λ _ z. absurd (omega arith));
+    calm = still_calm s r id me.0 w at 1 (omega arith) (λ _ z. absurd (omega arith)) refl;
     kept = subst (fact r.state r.number) (sym (map_set view_of s.views id w ∙ set_again (map view_of s.views) id me.0.view (at_map view_of s.views id me.0 at))) r.kept;
   }
 
@@ -153,23 +176,23 @@ module _ {S V : Type 0} (fact : S → ℕ → List V → Type 0) (spent : V) whe
       → Allows Rule slots id me 0 (λ n. either (eqb n 0) 1 n) (tried fact number (step slots 0 0 1 none) me)
   tries slots id me number same idle some_parts s r _ at _ = let n : ℕ = get_or s.words 0 0 in let found : n ≡ r.turn = ap (λ (l : List ℕ). get_or l 0 0) r.words in dite (ℕ_discrete n 0)
       (λ hit. let free : r.turn ≡ 0 = sym found ∙ hit in (
-        pass_view (Holding r.state) me.0.parts (me.0.tries + 1) me.0.misses me.0.leaves me.0.changes me.0.view,
+        pass_view (Holding r.state) me.0.parts (me.0.tries + 1) me.0.misses me.0.leaves me.0.changes me.0.calm me.0.view,
         takes 0 (Some r.state),
         ap (λ (l : List (maybe.Option (Option S))). get_elem? l 0) r.homes ∙ ap (λ (b : ℕ). some (home_of b r.state)) free,
-        subst (λ b. Rule (stepped s 0 (either b 1 n) id me.1 (pass_view (Holding r.state) me.0.parts (me.0.tries + 1) me.0.misses me.0.leaves me.0.changes me.0.view) (takes 0 (Some r.state)))) (sym (eq-eqb n 0 hit)) (gained s r id me free some_parts at),
+        subst (λ b. Rule (stepped s 0 (either b 1 n) id me.1 (pass_view (Holding r.state) me.0.parts (me.0.tries + 1) me.0.misses me.0.leaves me.0.changes me.0.calm me.0.view) (takes 0 (Some r.state)))) (sym (eq-eqb n 0 hit)) (gained s r id me free some_parts at),
         ((λ _. (r.state, (refl, subst (λ k. Stands fact k me.0.view r.state) (sym same) (stands s r id me at)))), λ no. absurd (no hit)),
       ))
       (λ miss. (
-        pass_view me.0.stage me.0.parts (me.0.tries + 1) (me.0.misses + 1) me.0.leaves me.0.changes me.0.view,
+        pass_view me.0.stage me.0.parts (me.0.tries + 1) (me.0.misses + 1) me.0.leaves me.0.changes me.0.calm me.0.view,
         keeps,
         tt,
-        subst (λ b. Rule (stepped s 0 (either b 1 n) id me.1 (pass_view me.0.stage me.0.parts (me.0.tries + 1) (me.0.misses + 1) me.0.leaves me.0.changes me.0.view) keeps)) (sym (ne_eqb n 0 miss)) (missed s r id me idle some_parts at),
+        subst (λ b. Rule (stepped s 0 (either b 1 n) id me.1 (pass_view me.0.stage me.0.parts (me.0.tries + 1) (me.0.misses + 1) me.0.leaves me.0.changes me.0.calm me.0.view) keeps)) (sym (ne_eqb n 0 miss)) (missed s r id me (λ z. miss (found ∙ z)) idle some_parts at),
         ((λ yes. absurd (miss yes)), λ _. ((let l = r.low in omega arith), (refl, not_alone s r id me idle at found miss, (r.state, subst (λ k. Stands fact k me.0.view r.state) (sym same) (stands s r id me at))))),
       ))
 
   pub leaves : (slots id : ℕ) (me : Known S V) (x y : S) (w : V) (next : Option V) → me.0.stage ≡ Holding x → me.1 ≡ (0, Some y) ∷ [] → next ≡ Some w → LeaveKeeps fact id me.0.view x y w
       → Allows Rule slots id me 0 (λ _. 0) (λ _. left next (step slots 0 0 0 none) me 0)
-  leaves slots id me x y w next holds has is asked s r _ at _ = let d' : D = pass_view Resting me.0.parts me.0.tries me.0.misses (me.0.leaves + 1) me.0.changes w in
+  leaves slots id me x y w next holds has is asked s r _ at _ = let d' : D = pass_view Resting me.0.parts me.0.tries me.0.misses (me.0.leaves + 1) me.0.changes me.0.calm w in
       let known = subst (λ (st : Stage S). Knows r.turn r.holder r.state id st) holds (r.each_pass id me.0 at) in (
         d',
         gives,
@@ -189,10 +212,19 @@ module _ {S V : Type 0} (fact : S → ℕ → List V → Type 0) (spent : V) whe
               (λ z. absurd (idle_not x (sym (ap (λ (d : D). d.stage) (r.no_parts id me.0 at z)) ∙ holds))) (λ j d _ e. r.no_parts j d e);
           counted = recounted s r id me.0 d' at 0 (let one : r.turn ≡ 1 = known.0 in omega arith);
           changed = still_known s r id me.0 d' at (omega arith) (omega arith);
+          begun = still_begun s r id me.0 d' at 0 (omega arith) (λ q z. absurd (omega arith));
+          calm = still_calm s r id me.0 d' at 0 (omega arith) (λ q z. absurd (omega arith)) refl;
           kept = subst (fact y r.number) (sym (map_set view_of s.views id d')) (asked r.number (map view_of s.views) (subst (λ (z : S). fact z r.number (map view_of s.views)) (sym known.2) r.kept) (at_map view_of s.views id me.0 at));
         },
         (refl, refl, refl, refl, is, ap rest has),
       )
+
+  -- the counts as each pass knows them, after a pass is split from another
+  longer_calm : (s : St) (r : Rule s) (id : ℕ) (d a b : D) (at : get_elem? s.views id ≡ some d) → a.misses + b.misses ≡ d.misses → a.leaves + b.leaves ≡ d.leaves
+      → (k : ℕ × ℕ) → IsCalm s.views r.turn k → IsCalm (set s.views id a ++ b ∷ []) r.turn k
+  longer_calm s r id d a b at m l k c =
+      let p = sum_set misses_of s.views id d a at in let q = sum_set leaves_of s.views id d a at in let t = sum_snoc misses_of (set s.views id a) b in let f = sum_snoc leaves_of (set s.views id a) b in let low = c.0 in
+      (omega arith, λ e z. let u = c.1 (omega arith) z in omega arith)
 
   pub splits : (id : ℕ) (d : D) (kept given : V → V) → 1 < d.parts → SplitKeeps fact id d.view (kept d.view) (given d.view) → Splits Rule id d (kept_pass kept d) (given_pass given d)
   splits id d kept given more asked s r at = let a : D = kept_pass kept d in let b : D = given_pass given d in let l : List D = set s.views id a in record {
@@ -213,13 +245,18 @@ module _ {S V : Type 0} (fact : S → ℕ → List V → Type 0) (spent : V) whe
     changed = let c = recounted s r id d a at r.turn (omega arith) in let t = sum_snoc tries_of l b in let m = sum_snoc misses_of l b in let f = sum_snoc leaves_of l b in let all : List D = l ++ b ∷ [] in
         each_snoc (λ j y. y.changes + sum_by misses_of all ≤ sum_by tries_of all + sum_by leaves_of all) l b (λ j. omega arith)
         (λ j y e. let k = still_known s r id d a at (omega arith) (omega arith) j y e in omega arith);
+    begun = longer_calm s r id d a b at (omega arith) (omega arith) (0, 0) r.begun;
+    calm = each_snoc (λ j y. IsCalm (l ++ b ∷ []) r.turn y.calm) l b (λ j. longer_calm s r id d a b at (omega arith) (omega arith) d.calm (r.calm id d at))
+        (each_set (λ j y. IsCalm (l ++ b ∷ []) r.turn y.calm) s.views id a (longer_calm s r id d a b at (omega arith) (omega arith) d.calm (r.calm id d at)) (λ j y _ e. longer_calm s r id d a b at (omega arith) (omega arith) y.calm (r.calm j y e)));
     kept = subst (fact r.state r.number) (sym (map_snoc view_of l b ∙ ap (λ (cs : List V). cs ++ b.view ∷ []) (map_set view_of s.views id a))) (asked r.state r.number (map view_of s.views) r.kept (at_map view_of s.views id d at));
   }
 
   pub joins : (id : ℕ) (d : D) (other : ℕ) (e : D) (met : V → V → V) → 0 < d.parts → e.stage ≡ Resting → MeetKeeps fact id d.view other e.view (met d.view e.view) spent
       → Joins Rule id d other e (met_pass met d e) (spent_pass spent)
   joins id d other e met some_parts idle asked s r at apart there = let b : D = met_pass met d e in let z : D = spent_pass spent in let l : List D = set s.views id b in
-      let one = λ (f : D → ℕ). sum_set f s.views id d b at in let two = λ (f : D → ℕ). sum_set f l other e z there in record {
+      let one = λ (f : D → ℕ). sum_set f s.views id d b at in let two = λ (f : D → ℕ). sum_set f l other e z there in
+      let joined_calm : (k : ℕ × ℕ) → IsCalm s.views r.turn k → IsCalm (set l other z) r.turn k = λ k c. let m = one misses_of in let f = one leaves_of in let n = two misses_of in let g = two leaves_of in let low = c.0 in
+      (omega arith, λ same free. let u = c.1 (omega arith) free in omega arith) in record {
         state = r.state;
         turn = r.turn;
         holder = r.holder;
@@ -239,6 +276,9 @@ module _ {S V : Type 0} (fact : S → ℕ → List V → Type 0) (spent : V) whe
         changed = let c = r.counted in let t = one tries_of in let m = one misses_of in let f = one leaves_of in let u = two tries_of in let n = two misses_of in let g = two leaves_of in let all : List D = set l other z in
             each_set (λ j y. y.changes + sum_by misses_of all ≤ sum_by tries_of all + sum_by leaves_of all) l other z (omega arith)
             (λ j y _ i. each_set (λ k u. u.changes + sum_by misses_of all ≤ sum_by tries_of all + sum_by leaves_of all) s.views id b (let k = r.changed id d at in omega arith) (λ k v _ q. let h = r.changed k v q in omega arith) j y i);
+        begun = joined_calm (0, 0) r.begun;
+        calm = each_set (λ j y. IsCalm (set l other z) r.turn y.calm) l other z (joined_calm (0, 0) r.begun)
+            (λ j y _ i. each_set (λ k u. IsCalm (set l other z) r.turn u.calm) s.views id b (joined_calm d.calm (r.calm id d at)) (λ k u _ q. joined_calm u.calm (r.calm k u q)) j y i);
         kept = subst (fact r.state r.number) (sym (map_set view_of l other z ∙ ap (λ (cs : List V). set cs other spent) (map_set view_of s.views id b)))
             (asked r.state r.number (map view_of s.views) r.kept (at_map view_of s.views id d at) apart
             (subst (λ (cs : List V). get_elem? cs other ≡ some e.view) (map_set view_of s.views id b) (at_map view_of l other e there)));
@@ -260,8 +300,8 @@ module _ {S V : Type 0} (fact : S → ℕ → List V → Type 0) (spent : V) whe
 
   -- a step on the number alone, after which the pass has another view
   numbered : (s : St) (r : Rule s) (n id : ℕ) (me : Known S V) (w : V) → 0 < me.0.parts → get_elem? s.views id ≡ some me.0 → fact r.state n (set (map view_of s.views) id w)
-      → Rule (stepped s 1 n id me.1 (pass_view me.0.stage me.0.parts me.0.tries me.0.misses me.0.leaves me.0.changes w) keeps)
-  numbered s r n id me w some_parts at h = let d' : D = pass_view me.0.stage me.0.parts me.0.tries me.0.misses me.0.leaves me.0.changes w in record {
+      → Rule (stepped s 1 n id me.1 (pass_view me.0.stage me.0.parts me.0.tries me.0.misses me.0.leaves me.0.changes me.0.calm w) keeps)
+  numbered s r n id me w some_parts at h = let d' : D = pass_view me.0.stage me.0.parts me.0.tries me.0.misses me.0.leaves me.0.changes me.0.calm w in record {
     state = r.state;
     turn = r.turn;
     holder = r.holder;
@@ -277,6 +317,8 @@ module _ {S V : Type 0} (fact : S → ℕ → List V → Type 0) (spent : V) whe
     no_parts = each_set (λ j d. d.parts ≡ 0 → d ≡ spent_pass spent) s.views id d' (λ z. absurd (omega arith)) (λ j d _ e. r.no_parts j d e);
     counted = recounted s r id me.0 d' at r.turn (omega arith);
     changed = still_known s r id me.0 d' at (omega arith) (omega arith);
+    begun = still_begun s r id me.0 d' at r.turn (omega arith) (λ _ z. (z, omega arith));
+    calm = still_calm s r id me.0 d' at r.turn (omega arith) (λ _ z. (z, omega arith)) refl;
     kept = subst (fact r.state n) (sym (map_set view_of s.views id d')) h;
   }
 
@@ -289,7 +331,7 @@ module _ {S V : Type 0} (fact : S → ℕ → List V → Type 0) (spent : V) whe
   reads slots id me pass loaded same some_parts asked s r _ at _ = let n : ℕ = get_or s.words 1 0 in let h = at_number s r in
       let there = at_map view_of s.views id me.0 at in let w : V = loaded (found_by me.0.stage) me.0.view n in
       let held = knows_held r.turn r.holder r.state id me.0.stage (r.each_pass id me.0 at) in (
-        pass_view me.0.stage me.0.parts me.0.tries me.0.misses me.0.leaves me.0.changes w,
+        pass_view me.0.stage me.0.parts me.0.tries me.0.misses me.0.leaves me.0.changes me.0.calm w,
         keeps,
         tt,
         numbered s r n id me w some_parts at (asked r.state n (map view_of s.views) h there held),
@@ -300,7 +342,7 @@ module _ {S V : Type 0} (fact : S → ℕ → List V → Type 0) (spent : V) whe
       → Allows Rule slots id me 1 (λ n. min n k) (sunk fact lowered pass (step slots 1 k 0 none) me)
   sinks slots id me pass k lowered same some_parts asked s r _ at _ = let n : ℕ = get_or s.words 1 0 in let h = at_number s r in
       let there = at_map view_of s.views id me.0 at in let w : V = lowered me.0.view k in (
-        pass_view me.0.stage me.0.parts me.0.tries me.0.misses me.0.leaves me.0.changes w,
+        pass_view me.0.stage me.0.parts me.0.tries me.0.misses me.0.leaves me.0.changes me.0.calm w,
         keeps,
         tt,
         numbered s r (min n k) id me w some_parts at (asked r.state n (map view_of s.views) h there),

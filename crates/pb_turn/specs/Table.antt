@@ -27,8 +27,8 @@ abbrev pub Known : Type 0 → Type 0 → Type 0
 Known S V = Me (Option S) (PassView S V)
 
 module _ {S V : Type 0} where
-  abbrev pub pass_view : Stage S → (parts tries misses leaves changes : ℕ) → V → PassView S V
-  pass_view stage parts tries misses leaves changes v =
+  abbrev pub pass_view : Stage S → (parts tries misses leaves changes : ℕ) → ℕ × ℕ → V → PassView S V
+  pass_view stage parts tries misses leaves changes calm v =
       record {
         stage = stage;
         parts = parts;
@@ -36,26 +36,28 @@ module _ {S V : Type 0} where
         misses = misses;
         leaves = leaves;
         changes = changes;
+        calm = calm;
         view = v;
       }
 
   abbrev pub first_pass : V → PassView S V
-  first_pass v = pass_view Resting whole 0 0 0 0 v
+  first_pass v = pass_view Resting whole 0 0 0 0 (0, 0) v
 
   abbrev pub spent_pass : V → PassView S V
-  spent_pass v = pass_view Resting 0 0 0 0 0 v
+  spent_pass v = pass_view Resting 0 0 0 0 0 (0, 0) v
 
   abbrev pub kept_pass : (V → V) → PassView S V → PassView S V
   kept_pass kept d =
-      pass_view d.stage (d.parts - 1) d.tries d.misses d.leaves d.changes (kept d.view)
+      pass_view d.stage (d.parts - 1) d.tries d.misses d.leaves d.changes d.calm
+      (kept d.view)
 
   abbrev pub given_pass : (V → V) → PassView S V → PassView S V
-  given_pass given d = pass_view Resting 1 0 0 0 0 (given d.view)
+  given_pass given d = pass_view Resting 1 0 0 0 0 d.calm (given d.view)
 
   abbrev pub met_pass : (V → V → V) → PassView S V → PassView S V → PassView S V
   met_pass met d e =
       pass_view d.stage (d.parts + e.parts) (d.tries + e.tries) (d.misses + e.misses)
-      (d.leaves + e.leaves) d.changes (met d.view e.view)
+      (d.leaves + e.leaves) d.changes d.calm (met d.view e.view)
 
   abbrev pub view_of : PassView S V → V
   view_of d = d.view
@@ -83,6 +85,17 @@ module _ {S V : Type 0} where
       (j : ℕ) (d : PassView S V) → get_elem? views j ≡ some d
       → d.changes + sum_by misses_of views ≤ sum_by tries_of views + sum_by leaves_of views
 
+  -- what a pass may know of the misses: the first number is of leavings, the second of misses
+  abbrev pub IsCalm : (views : List (PassView S V)) → (turn : ℕ) → ℕ × ℕ → Type 0
+  IsCalm views turn known =
+      (known.0 ≤ sum_by leaves_of views)
+      × (known.0 ≡ sum_by leaves_of views → turn ≡ 0 → sum_by misses_of views ≤ known.1)
+
+  -- No pass missed since the turn was left, as far as each pass knows.
+  abbrev pub AreCalm : (views : List (PassView S V)) → (turn : ℕ) → Type 0
+  AreCalm views turn =
+      (j : ℕ) (d : PassView S V) → get_elem? views j ≡ some d → IsCalm views turn d.calm
+
   -- `state` is the one that the last holder left: it is in the slot, or the holder has found it.
   -- By `counted` and `changed` no step takes the turn that doesn't count as a try and as no miss,
   -- whatever the step reports.
@@ -104,13 +117,15 @@ module _ {S V : Type 0} where
         → d ≡ spent_pass spent
     pub counted : AddUp s.views turn
     pub changed : AreKnown s.views
+    pub begun : IsCalm s.views turn (0, 0)
+    pub calm : AreCalm s.views turn
     pub kept : fact state number (map view_of s.views)
 
   -- the pass counts a try. It has the turn and the state x, of which the fact holds
   abbrev pub Won : (S → ℕ → List V → Type 0) → ℕ → Known S V → S → Known S V → Type 0
   Won fact pass m x m' =
       (m' ≡ (
-        pass_view (Holding x) m.0.parts (m.0.tries + 1) m.0.misses m.0.leaves m.0.changes m.0.view,
+        pass_view (Holding x) m.0.parts (m.0.tries + 1) m.0.misses m.0.leaves m.0.changes m.0.calm m.0.view,
         (0, Some x) ∷ m.1,
       ))
       × Stands fact pass m.0.view x
@@ -120,7 +135,7 @@ module _ {S V : Type 0} where
   abbrev pub Missed : (S → ℕ → List V → Type 0) → ℕ → Known S V → Known S V → Type 0
   Missed fact pass m m' =
       (m' ≡ (
-        pass_view m.0.stage m.0.parts (m.0.tries + 1) (m.0.misses + 1) m.0.leaves m.0.changes
+        pass_view m.0.stage m.0.parts (m.0.tries + 1) (m.0.misses + 1) m.0.leaves m.0.changes m.0.calm
             m.0.view,
         m.1,
       ))
@@ -138,7 +153,7 @@ module _ {S V : Type 0} where
       → Known S V → ℕ → Known S V → Type 0
   read fact loaded pass st m n m' =
       (m' ≡ (
-        pass_view m.0.stage m.0.parts m.0.tries m.0.misses m.0.leaves m.0.changes
+        pass_view m.0.stage m.0.parts m.0.tries m.0.misses m.0.leaves m.0.changes m.0.calm
             (loaded (found_by m.0.stage) m.0.view n),
         m.1,
       )) × ((x : S) × StandsAt fact pass m.0.view x n × IsHeld (found_by m.0.stage) x)
@@ -149,7 +164,7 @@ module _ {S V : Type 0} where
       → Known S V → Type 0
   sunk fact lowered pass st m n m' =
       (m' ≡ (
-        pass_view m.0.stage m.0.parts m.0.tries m.0.misses m.0.leaves m.0.changes
+        pass_view m.0.stage m.0.parts m.0.tries m.0.misses m.0.leaves m.0.changes m.0.calm
             (lowered m.0.view st.first),
         m.1,
       ))

@@ -42,6 +42,10 @@ pub struct PassView<S, V> {
     /// At least so often the turn was taken or left, by whichever pass. No step sets it, but each
     /// step has to keep the rule whatever another pass knows. So none can count backwards.
     pub changes: u64,
+    /// A count of leavings, and one of misses: if the turn was left just so often and is free, there
+    /// were no more misses. As no step sets it, but each has to keep the rule whatever another pass
+    /// knows, no miss is counted while the turn is free.
+    pub calm: (u64, u64),
     /// What the caller's rule sees.
     pub view: V,
 }
