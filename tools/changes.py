@@ -176,6 +176,10 @@ def add_image(random, lines):
         at = random.randrange(len(images))
         state, blank, values = images[at].partition(b" ")
         state = state.strip()
+        # an earlier change may have left another line there
+        if not re.fullmatch(rb"[0-9a-f]+", state):
+            images.insert(at + 1, images[at])
+            return
         other = int(state, 16) + random.choice([0, 1, 2, 4]) & (1 << 4 * len(state)) - 1
         images.insert(at + 1, b"%0*x" % (len(state), other) + (blank + values or b"\n"))
     return change_images(random, lines, change)
