@@ -63,12 +63,12 @@ impl AbsGraph {
         ensures below { result < (blocks_of self.now).count }
     {
         // `IsGraphOf` says that the projection fits the kind of task, so no other pair comes.
-        match (task.parts(), self.projection) {
+        match (task.parts(), &self.projection) {
             (TaskParts::Grid(grid), Projection::Squares { side, columns }) => squares::square(
-                grid, side, columns, state,
+                grid, *side, *columns, state,
             ),
             (TaskParts::Grid(_), _) => unreachable!(),
-            (TaskParts::Tiles(parts), projection) => tiles::block(parts, projection, state),
+            (TaskParts::Tiles(parts), projection) => tiles::block(parts, *projection, state),
             (TaskParts::Strips(_), Projection::Atoms(atoms)) => atoms.tracked_set(state),
             (TaskParts::Strips(_), _) => unreachable!(),
         }
