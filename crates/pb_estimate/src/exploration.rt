@@ -106,6 +106,16 @@ impl CostWord {
         self.word >= OPEN && self.word % 64 == cost % 64
     }
 
+    // Whether the cost is final, or open and no more than this one. It compares words.
+    #[inline]
+    fn is_no_more(self, cost: u32) -> bool
+        requires { cost < 2 ^ 31 - 1 }
+        ensures { result ≡ true → ((known : ℕ) × (self ≡ Final known))
+            ⊎ ((known : ℕ) × (self ≡ Open known) × (known ≤ cost)) }
+    {
+        self.word <= OPEN + cost
+    }
+
     // The word of an open cost; for any other the greatest word. So the least of some words is
     // that of the least open cost.
     #[inline]
@@ -231,7 +241,26 @@ impl Exploration {
     }
 
     // Lowers the cost of an atom to this one, if it isn't reached or costs more.
+    #[inline]
     fn lower(&mut self, atom: u16, cost: u32)
+        requires is { IsExploration self.old }
+        requires inside { atom < length self.old.costs.items }
+        requires small { cost ≤ 2 ^ 30 + 2 ^ 20 }
+        requires finals { FinalsAreWithin cost self.old.costs.items }
+        ensures is { IsExploration self.new }
+        ensures long { length self.new.costs.items ≡ length self.old.costs.items }
+        ensures lowered { AreLowered (atom ∷ []) cost self.old.costs.items self.new.costs.items }
+        ensures finals { HaveSameFinals self.old.costs.items self.new.costs.items }
+    {
+        // Most costs aren't lowered, and one comparison of words tells that.
+        if self.costs[atom as usize].is_no_more(cost) {
+            return;
+        }
+        self.lower_open(atom, cost);
+    }
+
+    // Does the same after a look at the cost's form.
+    fn lower_open(&mut self, atom: u16, cost: u32)
         requires is { IsExploration self.old }
         requires inside { atom < length self.old.costs.items }
         requires small { cost ≤ 2 ^ 30 + 2 ^ 20 }
