@@ -1,6 +1,6 @@
 //! The atoms that were reached, by the remainders of their costs: where hmax looks for the next
 //! level.
-ghost use Rattle.std.specs.Prelude.{◌≡◌, ℕ, ◌+◌, ◌-◌, ◌*◌, ◌%◌, ◌<◌, ◌≤◌, ◌↔◌, All, IfOk, List, length, slice_index, slice_set, true, false};
+ghost use Rattle.std.specs.Prelude.{◌≡◌, ℕ, ◌+◌, ◌-◌, ◌*◌, ◌%◌, ◌<◌, ◌≤◌, ◌↔◌, All, IfOk, List, length, slice_index, slice_set, true, false, not};
 ghost use Rattle.pb_packed.specs.Sizes.{most_atoms};
 ghost use Rattle.pb_estimate.specs.declared.exploration.AtomCost.{AtomCost};
 ghost use Rattle.pb_estimate.specs.declared.exploration.AtomCost.TheVariants.{Unreached, Open};
@@ -11,7 +11,7 @@ use crate::relaxed::RelaxedTask;
 use std::alloc::{AllocError, Global};
 
 // How many buckets there are. Open costs within so many have a bucket each.
-const BUCKETS: usize = 64;
+pub(crate) const BUCKETS: usize = 64;
 
 /// Atoms in 64 buckets, by the remainders of their open costs. An atom whose cost fell or is final
 /// may stay in a bucket of an earlier cost.
@@ -44,8 +44,9 @@ impl Buckets {
     /// Empty buckets, with room for `count` atoms each.
     pub(crate) fn of(alloc: Global, count: usize, is_useful: bool) -> Result<Buckets, AllocError>
         requires { count ≤ most_atoms }
-        ensures { IfOk result (λ made. (costs : List AtomCost) → length costs ≡ count
+        ensures are { IfOk result (λ made. (costs : List AtomCost) → length costs ≡ count
             → ((atom : ℕ) → known_in costs atom ≡ Unreached) → AreBuckets costs made) }
+        ensures used { IfOk result (λ made. made.is_lost ≡ not is_useful) }
     {
         Ok(Buckets {
             places: vec![in alloc; 0; BUCKETS * count]?,
@@ -57,9 +58,10 @@ impl Buckets {
 
     // Takes all atoms out.
     pub(crate) fn clear(&mut self)
-        ensures { (before after : List AtomCost) → AreBuckets before self.old
+        ensures are { (before after : List AtomCost) → AreBuckets before self.old
             → length after ≡ length before
             → ((atom : ℕ) → known_in after atom ≡ Unreached) → AreBuckets after self.new }
+        ensures used { self.new.is_lost ≡ not self.old.is_useful }
     {
         self.filled.fill(0);
         self.is_lost = !self.is_useful;

@@ -7,7 +7,7 @@ ghost use Rattle.pb_estimate.specs.declared.exploration.AtomCost.TheVariants.{Un
 ghost use Rattle.pb_estimate.specs.Hmax.{IsAtMost};
 ghost use Rattle.pb_estimate.specs.Exploring.{known_in, cost_in, final_in, final_cost, is_final_in, AreLowered, HaveSameFinals, FinalsAreWithin, OpensAreFrom, IsExploration, IsLeastOpen};
 
-use crate::buckets::Buckets;
+use crate::buckets::{BUCKETS, Buckets};
 use pb_packed::Packed;
 use pb_task::next_atom;
 use std::alloc::{AllocError, Global};
@@ -426,7 +426,7 @@ impl Exploration {
             self.buckets.filled[bucket] = 0;
             return None;
         }
-        let atom = self.buckets.places[(left - 1) as usize * 64 + bucket];
+        let atom = self.buckets.places[(left - 1) as usize * BUCKETS + bucket];
         let known = self.costs[atom as usize];
         if !known.is_open_at(cost) {
             // Open costs are farther from one another than there are buckets.
@@ -454,7 +454,7 @@ impl Exploration {
         ensures none { IfNone result (self.new.buckets.is_lost ≡ false → (atom cost : ℕ)
             → known_in self.old.costs.items atom ≡ Open cost → ⊥) }
     {
-        for step in 0..64 {
+        for step in 0..BUCKETS as u32 {
             let cost = level + step;
             if let Some(atom) = self.take_from_bucket(cost) {
                 return Some((atom, cost));

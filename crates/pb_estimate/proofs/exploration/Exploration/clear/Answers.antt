@@ -17,5 +17,5 @@ returns-clause-is c =
       all = λ atom is_so. absurd (not_reached c.fill.new.self.items atom (none atom) is_so);
       first = omega arith;
       passed = λ k less. absurd (omega (arith, less));
-      entered = c.clear.ensures c.args.self.now.costs.items c.fill.new.self.items c.requires.is.entered long none;
+      entered = c.clear.ensures.are c.args.self.now.costs.items c.fill.new.self.items c.requires.is.entered long none;
     }

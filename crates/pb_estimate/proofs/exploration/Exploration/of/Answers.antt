@@ -18,5 +18,5 @@ returns-clause-is c =
       all = λ atom is_so. absurd (not_reached c.in_ok-vec.field-0.items atom (none atom) is_so);
       first = omega arith;
       passed = λ k less. absurd (omega (arith, less));
-      entered = c.in_ok-of.ensures c.in_ok-vec.field-0.items long none;
+      entered = c.in_ok-of.ensures.are c.in_ok-vec.field-0.items long none;
     }
