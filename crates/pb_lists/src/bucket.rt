@@ -95,16 +95,23 @@ impl Bucket {
         }
     }
 
-    // The estimate and the place of the first entry. It makes no state.
+    // The estimate and the place of the first entry. It makes no state unless entries of one word
+    // and wide ones stand side by side.
     #[inline]
     pub(crate) fn first(&self) -> Option<(u64, u64)>
         ensures first { result ≡ option_map estimate_and_place (top_of self.now) }
         ensures top { IsTop (has_entry self.now) (top_of self.now) }
     {
         match &self.wide {
-            Some(_) => match self.top() {
-                Some(top) => Some((top.0, top.2)),
-                None => None,
+            Some(wide) => match self.words.first() {
+                Some(_) => match self.top() {
+                    Some(top) => Some((top.0, top.2)),
+                    None => None,
+                },
+                None => {
+                    self.show_top();
+                    wide.first()
+                }
             },
             None => match self.words.first() {
                 Some(first) => Some((first.estimate(), first.place())),

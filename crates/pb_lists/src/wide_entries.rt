@@ -1,6 +1,6 @@
 //! The entries of states of more than one word, and of rows whose estimate or place is great.
-ghost use Rattle.std.specs.Prelude.{◌≡◌, ◌⊎◌, ◌||◌, ◌+◌, ◌≤◌, ◌<◌, ◌^◌, true, false, None, Some, IsSome, OnOk, OnErr};
-ghost use Rattle.pb_lists.specs.Heaped.{Entry, entry_cmp, is_same, is_second_first, top_of_two, IsTop};
+ghost use Rattle.std.specs.Prelude.{◌≡◌, ◌⊎◌, ◌||◌, ◌+◌, ◌≤◌, ◌<◌, ◌^◌, true, false, None, Some, IsSome, OnOk, OnErr, option_map};
+ghost use Rattle.pb_lists.specs.Heaped.{Entry, entry_cmp, estimate_and_place, first_of, is_same, is_second_first, top_of_two, IsTop};
 ghost use Rattle.pb_lists.specs.Buckets.{has_wide, top_of_wide};
 
 use crate::heap::Heap;
@@ -48,7 +48,29 @@ impl WideEntries {
         ensures first { result ≡ top_of_wide self.now }
         ensures top { IsTop (has_wide self.now) (top_of_wide self.now) }
     {
-        first_of_two(self.few.top(), self.many.top())
+        self.show_top();
+        match self.many.first() {
+            Some(_) => first_of_two(self.few.top(), self.many.top()),
+            None => self.few.top(),
+        }
+    }
+
+    // The estimate and the place of the first entry. It makes no state unless both parts have
+    // entries.
+    #[inline(never)]
+    pub(crate) fn first(&self) -> Option<(u64, u64)>
+        ensures first { result ≡ option_map estimate_and_place (top_of_wide self.now) }
+    {
+        if let Some(_) = self.many.first() {
+            return match self.top() {
+                Some(top) => Some((top.0, top.2)),
+                None => None,
+            };
+        }
+        match self.few.first() {
+            Some(first) => Some((first.0, first.2)),
+            None => None,
+        }
     }
 
     // Which entry comes first, for this clause alone.
@@ -58,6 +80,17 @@ impl WideEntries {
     {
         let _ = self.few.first();
         let _ = self.many.first();
+    }
+
+    // Whether the first entry is one of the states of many words.
+    fn is_many_first(&self) -> bool
+        ensures { result ≡ is_second_first (first_of self.now.few.items)
+            (first_of self.now.many.items) }
+    {
+        match self.many.first() {
+            Some(_) => is_second_first(&self.few.top(), &self.many.top()),
+            None => false,
+        }
     }
 
     // Takes the first entry out.
@@ -70,7 +103,7 @@ impl WideEntries {
         ensures fewer { IsSome (top_of_wide self.old)
             → self.new.few.len + self.new.many.len < self.old.few.len + self.old.many.len }
     {
-        if is_second_first(&self.few.top(), &self.many.top()) {
+        if self.is_many_first() {
             self.many.pop();
         } else {
             self.few.pop();
