@@ -1,5 +1,5 @@
 //! The states of the Opened rows at one sum, each with its estimate and its row's place.
-ghost use Rattle.std.specs.Prelude.{◌≡◌, ◌⊎◌, ◌||◌, ◌<◌, true, false, Some, None, IsSome, OnOk, OnErr, nat_eq};
+ghost use Rattle.std.specs.Prelude.{◌≡◌, ◌⊎◌, ◌||◌, ◌<◌, true, false, Some, None, IsSome, IfSome, OnOk, OnErr, nat_eq};
 ghost use Rattle.std.specs.Global.{Box};
 ghost use Rattle.std.specs.Option.{option_map};
 ghost use Rattle.pb_lists.specs.Heaped.{Entry, estimate_and_place, is_same, IsTop};
@@ -92,6 +92,22 @@ impl Bucket {
         match &self.wide {
             Some(wide) => first_of_two(self.words.top(), wide.top()),
             None => self.words.top(),
+        }
+    }
+
+    // The first entry, as an estimate, a word and a place, if the bucket has no wide part.
+    #[inline]
+    pub(crate) fn first_word(&self) -> Option<(u64, u64, u64)>
+        ensures first { IfSome result (λ entry. top_of self.now ≡ Some entry) }
+        ensures top { IsTop (has_entry self.now) (top_of self.now) }
+    {
+        self.show_top();
+        match &self.wide {
+            Some(_) => None,
+            None => match self.words.first() {
+                Some(first) => Some((first.estimate(), first.word(), first.place())),
+                None => None,
+            },
         }
     }
 

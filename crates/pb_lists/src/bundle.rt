@@ -158,6 +158,15 @@ impl Bundle {
         ensures none { IfNone result (HasOpened (row_of self.now) → ⊥) }
     {
         let (_, bucket) = self.opened.first_key_value()?;
+        // Most buckets have states of one word alone: then no entry with a whole state is made.
+        if let Some((_, word, place)) = bucket.first_word() {
+            let (g, estimate) = self.rows.opened_at(place)?;
+            return Some(FirstRow {
+                state: Packed::of_word(word),
+                g,
+                estimate,
+            });
+        }
         let (_, state, place) = bucket.top()?;
         let (g, estimate) = self.rows.opened_at(place)?;
         Some(FirstRow { state, g, estimate })
