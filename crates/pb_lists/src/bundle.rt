@@ -207,7 +207,7 @@ impl Bundle {
     {
         match self.place_of(&state) {
             None => {
-                self.add(&state, &opened_row(g, estimate, parent.as_ref(), action))?;
+                self.offer_new(&state, g, estimate, parent.as_ref(), action)?;
                 Ok(Offer::New)
             }
             Some(place) => self.offer_at(place, g, parent.as_ref(), action),
@@ -264,7 +264,16 @@ impl Bundle {
             (offered_row g estimate (option_copied parent.entry) action None)) }
         ensures err { OnErr result (self.new ≡ self.old) }
     {
-        self.add(state, &opened_row(g, estimate, parent, action))
+        let Some((words, row)) = self.rows.opened_small(state, g, &estimate, parent, action) else {
+            return self.add(state, &opened_row(g, estimate, parent, action));
+        };
+        // The steps of `add`, in the same order. A small table needs no wider place.
+        let key = key_of(self.num, self.den, g, &estimate);
+        self.rows.reserve()?;
+        let next = self.rows.len();
+        file(self.alloc, &mut self.opened, &key, state, next)?;
+        self.rows.insert_small(words, row);
+        Ok(())
     }
 
     /// Closes an Opened row: its state was expanded. It takes no memory.

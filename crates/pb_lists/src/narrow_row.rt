@@ -1,5 +1,6 @@
 //! Rows of a few words each, as those of most tasks are.
-ghost use Rattle.std.specs.Prelude.{◌≡◌, ◌≤◌, ◌<◌, ◌*◌, ◌^◌, Some, IfSome, IfNone};
+ghost use Rattle.std.specs.Prelude.{◌≡◌, ◌≤◌, ◌<◌, ◌*◌, ◌^◌, Some, IfSome, IfNone, option_copied};
+ghost use Rattle.pb_model.specs.declared.row.Status.TheVariants.{Opened};
 ghost use Rattle.pb_lists.specs.Fields.{opened_costs};
 ghost use Rattle.pb_lists.specs.NarrowRow.{parent_of, estimate_of, FitsWords, FitsEstimate, FitsParent, IsNarrow};
 
@@ -47,7 +48,7 @@ impl<const W: usize> NarrowRow<W> {
         ensures fits { IfSome result (λ _. IsNarrow W row.now) }
         ensures none { IfNone result (IsNarrow W row.now → ⊥) }
     {
-        let (has_parent, parent) = narrow_parent(&row.parent)?;
+        let (has_parent, parent) = narrow_parent(row.parent.as_ref())?;
         let (is_dead, estimate) = narrow_estimate(&row.estimate)?;
         let g = half_word(row.g)?;
         Some(NarrowRow {
@@ -58,6 +59,37 @@ impl<const W: usize> NarrowRow<W> {
             has_parent,
             is_dead,
             status: row.status,
+        })
+    }
+
+    // Makes the Opened row of these parts, if it fits.
+    #[inline]
+    pub(crate) fn new_opened(
+        g: u64,
+        estimate: &Estimate,
+        parent: Option<&Packed>,
+        action: u32,
+    ) -> Option<NarrowRow<W>>
+        requires { 1 ≤ W }
+        ensures { IfSome result (λ narrow. narrow ≡ record {
+          g = g;
+          estimate = estimate.now;
+          parent = option_copied parent.entry;
+          action = action;
+          status = Opened;
+        }) }
+    {
+        let (has_parent, parent) = narrow_parent(parent)?;
+        let (is_dead, estimate) = narrow_estimate(estimate)?;
+        let g = half_word(g)?;
+        Some(NarrowRow {
+            parent,
+            g,
+            estimate,
+            action,
+            has_parent,
+            is_dead,
+            status: Status::Opened,
         })
     }
 
@@ -132,12 +164,14 @@ impl<const W: usize> NarrowRow<W> {
 }
 
 // Whether there is a parent, and its words.
-fn narrow_parent<const W: usize>(parent: &Option<Packed>) -> Option<(bool, Words<W>)>
+#[inline]
+fn narrow_parent<const W: usize>(parent: Option<&Packed>) -> Option<(bool, Words<W>)>
     requires { 1 ≤ W }
-    ensures some { IfSome result (λ narrow. parent_of narrow.0 narrow.1 ≡ parent.now) }
+    ensures some { IfSome result (λ narrow. parent_of narrow.0 narrow.1
+        ≡ option_copied parent.entry) }
     ensures small { IfSome result (λ narrow. FitsWords W narrow.1) }
-    ensures fits { IfSome result (λ _. FitsParent W parent.now) }
-    ensures none { IfNone result (FitsParent W parent.now → ⊥) }
+    ensures fits { IfSome result (λ _. FitsParent W (option_copied parent.entry)) }
+    ensures none { IfNone result (FitsParent W (option_copied parent.entry) → ⊥) }
 {
     match parent {
         Some(state) => Some((true, state.as_words()?)),
@@ -146,6 +180,7 @@ fn narrow_parent<const W: usize>(parent: &Option<Packed>) -> Option<(bool, Words
 }
 
 // Whether no goal is reached, and the estimate.
+#[inline]
 fn narrow_estimate(estimate: &Estimate) -> Option<(bool, u32)>
     ensures some { IfSome result (λ narrow. estimate_of narrow.0 narrow.1 ≡ estimate.now) }
     ensures fits { IfSome result (λ _. FitsEstimate estimate.now) }
@@ -158,6 +193,7 @@ fn narrow_estimate(estimate: &Estimate) -> Option<(bool, u32)>
 }
 
 // The number in 32 bits, if it fits them.
+#[inline]
 pub(crate) fn half_word(number: u64) -> Option<u32>
     ensures some { IfSome result (λ half. half ≡ number) }
     ensures fits { IfSome result (λ _. number < 2 ^ 32) }

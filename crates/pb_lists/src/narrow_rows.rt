@@ -202,7 +202,19 @@ impl<const W: usize> NarrowRows<W> {
         let Some(narrow) = NarrowRow::<W>::of(row) else {
             unreachable!()
         };
-        match self.rows.insert(words, narrow) {
+        self.insert_words(words, narrow);
+    }
+
+    // Gives the state of these words this row, as `insert` does.
+    #[inline]
+    pub(crate) fn insert_words(&mut self, words: Words<W>, row: NarrowRow<W>)
+        requires state { FitsWords W words }
+        requires room { row_in self.old.entries words ≡ None → 0 < self.old.room }
+        ensures entries { self.new.entries
+            ≡ insert_entry nat_eq self.old.entries words.entry row.entry }
+        ensures width { self.new.width ≡ self.old.width }
+    {
+        match self.rows.insert(words, row) {
             Ok(_) => {}
             // By the clause `room` the table has a place, so it takes no memory.
             Err(_) => unreachable!(),

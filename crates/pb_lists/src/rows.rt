@@ -1,16 +1,19 @@
 //! The rows of a bundle by their states, in order of insertion, in few bytes if they fit.
-ghost use Rattle.std.specs.Prelude.{◌≡◌, ◌<◌, ℕ, None, Some, [], IsSome, IfSome, IfNone, OnOk, nat_eq, slice_get, length, if◌then◌else◌};
+ghost use Rattle.std.specs.Prelude.{◌≡◌, ◌<◌, ℕ, None, Some, [], IsSome, IfSome, IfNone, OnOk, nat_eq, option_copied, slice_get, length, if◌then◌else◌};
 ghost use Rattle.std.specs.List.{IsDistinct};
 ghost use Rattle.std.specs.Map.{keys_of};
 ghost use Rattle.indexmap.specs.IndexMap.{insert_entry};
+ghost use Rattle.pb_model.specs.declared.row.Status.TheVariants.{Opened};
 ghost use Rattle.pb_lists.specs.Bundle.{row_in};
 ghost use Rattle.pb_lists.specs.Fields.{opened_costs};
 ghost use Rattle.pb_lists.specs.ListedRows.{HasPlaceFor};
+ghost use Rattle.pb_lists.specs.NarrowRow.{FitsWords};
 
+use crate::narrow_row::NarrowRow;
 use crate::narrow_rows::{NarrowRows, is_narrow};
 use crate::wide_rows::{WideRows, widened};
 use pb_model::{Estimate, Row, Status};
-use pb_packed::Packed;
+use pb_packed::{Packed, Words};
 use std::alloc::{AllocError, Global};
 use std::marker::Model;
 
@@ -207,6 +210,66 @@ impl Rows {
         match &mut self.table {
             Table::Small(rows) => rows.insert(state, row),
             Table::Wide(rows) => rows.insert(state, row),
+        }
+    }
+
+    // Makes the Opened row of these parts and the words of its state, if the table is small and has
+    // a place for both.
+    #[inline]
+    pub(crate) fn opened_small(
+        &self,
+        state: &Packed,
+        g: u64,
+        estimate: &Estimate,
+        parent: Option<&Packed>,
+        action: u32,
+    ) -> Option<(Words<1>, NarrowRow<1>)>
+        ensures width { IfSome result (λ _. self.now.width ≡ Some 1) }
+        ensures state { IfSome result (λ small. small.0 ≡ state.now) }
+        ensures fits { IfSome result (λ small. FitsWords 1 small.0) }
+        ensures row { IfSome result (λ small. small.1 ≡ record {
+          g = g;
+          estimate = estimate.now;
+          parent = option_copied parent.entry;
+          action = action;
+          status = Opened;
+        }) }
+    {
+        match &self.table {
+            Table::Small(_) => {
+                let words = state.as_words::<1>()?;
+                let row = NarrowRow::<1>::new_opened(g, estimate, parent, action)?;
+                Some((words, row))
+            }
+            Table::Wide(_) => None,
+        }
+    }
+
+    // Gives the state of these words this row, as `insert` does, in a small table.
+    #[inline]
+    pub(crate) fn insert_small(&mut self, words: Words<1>, row: NarrowRow<1>)
+        requires width { self.old.width ≡ Some 1 }
+        requires fits { FitsWords 1 words }
+        requires room { row_in self.old.entries words ≡ None → 0 < self.old.room }
+        ensures entries { self.new.entries ≡ insert_entry nat_eq self.old.entries words row }
+        ensures updates { (other : ℕ) → row_in self.new.entries other
+            ≡ (if nat_eq words other then Some row else row_in self.old.entries other) }
+    {
+        self.put_small(words, row);
+    }
+
+    // Writes the row of the state of these words into a small table.
+    #[inline]
+    fn put_small(&mut self, words: Words<1>, row: NarrowRow<1>)
+        requires width { self.old.width ≡ Some 1 }
+        requires fits { FitsWords 1 words }
+        requires room { row_in self.old.entries words ≡ None → 0 < self.old.room }
+        ensures { self.new.entries ≡ insert_entry nat_eq self.old.entries words row }
+    {
+        match &mut self.table {
+            Table::Small(rows) => rows.insert_words(words, row),
+            // By the clause `width` the table is small.
+            Table::Wide(_) => unreachable!(),
         }
     }
 
