@@ -98,7 +98,7 @@ module _ {S V : Type 0} where
 
   -- `state` is the one that the last holder left: it is in the slot, or the holder has found it.
   -- By `counted` and `changed` no step takes the turn that doesn't count as a try and as no miss,
-  -- whatever the step reports.
+  -- whatever the step reports. By `calm` no step counts a miss while the turn is free.
   pub record Turned (fact : S → ℕ → List V → Type 0) (spent : V)
       (s : State (Option S) (PassView S V)) : Type 0 where
     pub state : S
