@@ -159,8 +159,8 @@ impl Bundle {
     {
         let (_, bucket) = self.opened.first_key_value()?;
         // Most buckets have states of one word alone: then no entry with a whole state is made.
-        if let Some((_, word, place)) = bucket.first_word() {
-            let (g, estimate) = self.rows.opened_at(place)?;
+        if let Some((_, word, at)) = bucket.first_word() {
+            let (g, estimate) = self.rows.opened_at(at)?;
             return Some(FirstRow {
                 state: Packed::of_word(word),
                 g,

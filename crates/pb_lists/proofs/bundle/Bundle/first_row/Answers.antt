@@ -11,7 +11,7 @@ returns-in_err-g-clause-none c =
     let weight = weight_of c.self.inside.num c.self.inside.den in
     let entries = c.self.inside.rows.entries in
     absurd (has_costs weight entries buckets c.self.invariant.filed c.self.invariant.tidy sum bucket c.in_ok-bucket.ensures.first c.in_ok-bucket.ensures.value c.in_ok-bucket.ensures.least
-    (c.in-Some.field-0-0, c.in-Some.word, c.in-Some.place) (sym c.in-Some.ensures.first) c.in-Some.ensures.top c.self.invariant.placed None c.in_err-g.ensures refl)
+    (c.in-Some.field-0-0, c.in-Some.word, c.in-Some.at) (sym c.in-Some.ensures.first) c.in-Some.ensures.top c.self.invariant.placed None c.in_err-g.ensures refl)
 
 pub returns-in-Some-clause-some : goal.returns-in-Some-clause-some
 returns-in-Some-clause-some c =
@@ -23,7 +23,7 @@ returns-in-Some-clause-some c =
     rw (← c.self.view_is)
     (rw (c.of_word.ensures)
     (first_costs weight entries buckets c.self.invariant.filed c.self.invariant.tidy sum bucket c.in_ok-bucket.ensures.first c.in_ok-bucket.ensures.value c.in_ok-bucket.ensures.least
-    (c.in-Some.field-0-0, c.in-Some.word, c.in-Some.place) (sym c.in-Some.ensures.first) c.in-Some.ensures.top c.self.invariant.placed (Some (c.in_ok-g.g, c.in_ok-g.estimate)) c.in_ok-g.ensures
+    (c.in-Some.field-0-0, c.in-Some.word, c.in-Some.at) (sym c.in-Some.ensures.first) c.in-Some.ensures.top c.self.invariant.placed (Some (c.in_ok-g.g, c.in_ok-g.estimate)) c.in_ok-g.ensures
     c.in_ok-g.g c.in_ok-g.estimate refl))
 
 pub returns-in_err-state-clause-none : goal.returns-in_err-state-clause-none
