@@ -259,7 +259,8 @@ impl Exploration {
         self.lower_open(atom, cost);
     }
 
-    // Does the same after a look at the cost's form.
+    // Does the same after a look at the cost's form. Not inline, so that `lower` is short.
+    #[inline(never)]
     fn lower_open(&mut self, atom: u16, cost: u32)
         requires is { IsExploration self.old }
         requires inside { atom < length self.old.costs.items }
@@ -404,6 +405,16 @@ impl Exploration {
         }
     }
 
+    // Whether the bucket of a cost is empty. Most are, between one level and the next.
+    #[inline]
+    fn is_empty_at(&self, cost: u32) -> bool
+        requires { IsExploration self.now }
+        ensures { result ≡ true → self.now.buckets.is_lost ≡ false → (atom c : ℕ)
+            → known_in self.now.costs.items atom ≡ Open c → c % 64 ≡ cost % 64 → ⊥ }
+    {
+        self.buckets.filled[(cost % 64) as usize] == 0
+    }
+
     // Makes the cost of an atom final, if it is this one and an atom of its bucket has it. Other
     // atoms go out of the bucket.
     #[inline]
@@ -456,6 +467,9 @@ impl Exploration {
     {
         for step in 0..BUCKETS as u32 {
             let cost = level + step;
+            if self.is_empty_at(cost) {
+                continue;
+            }
             if let Some(atom) = self.take_from_bucket(cost) {
                 return Some((atom, cost));
             }
