@@ -90,7 +90,10 @@ impl Bucket {
     {
         self.show_top();
         match &self.wide {
-            Some(wide) => first_of_two(self.words.top(), wide.top()),
+            Some(wide) => match self.words.first() {
+                Some(_) => first_of_two(self.words.top(), wide.top()),
+                None => wide.top(),
+            },
             None => self.words.top(),
         }
     }
@@ -142,9 +145,12 @@ impl Bucket {
         ensures { result ≡ place_if_of (top_of self.now) state.now }
     {
         match &self.wide {
-            Some(_) => match self.top() {
-                Some(top) if top.1 == *state => Some(top.2),
-                _ => None,
+            Some(wide) => match self.words.first() {
+                Some(_) => match self.top() {
+                    Some(top) if top.1 == *state => Some(top.2),
+                    _ => None,
+                },
+                None => wide.place_if_first(state),
             },
             None => match self.words.first() {
                 Some(first) if is_word(state, first.word()) => Some(first.place()),

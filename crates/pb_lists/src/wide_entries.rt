@@ -1,10 +1,10 @@
 //! The entries of states of more than one word, and of rows whose estimate or place is great.
-ghost use Rattle.std.specs.Prelude.{◌≡◌, ◌⊎◌, ◌||◌, ◌+◌, ◌≤◌, ◌<◌, ◌^◌, true, false, None, Some, IsSome, OnOk, OnErr, option_map};
+ghost use Rattle.std.specs.Prelude.{◌≡◌, ◌⊎◌, ◌||◌, ◌+◌, ◌≤◌, ◌<◌, ◌^◌, true, false, None, Some, IsSome, OnOk, OnErr, nat_eq, option_map};
 ghost use Rattle.pb_lists.specs.Heaped.{Entry, entry_cmp, estimate_and_place, first_of, is_same, is_second_first, top_of_two, IsTop};
-ghost use Rattle.pb_lists.specs.Buckets.{has_wide, top_of_wide};
+ghost use Rattle.pb_lists.specs.Buckets.{has_wide, place_if_of, top_of_wide};
 
 use crate::heap::Heap;
-use pb_packed::Packed;
+use pb_packed::{Packed, Words};
 use std::alloc::{AllocError, Global};
 use std::cmp::Ordering;
 
@@ -73,6 +73,23 @@ impl WideEntries {
         }
     }
 
+    // The place of the first entry, if that is one of this state.
+    #[inline(never)]
+    pub(crate) fn place_if_first(&self, state: &Packed) -> Option<u64>
+        ensures { result ≡ place_if_of (top_of_wide self.now) state.now }
+    {
+        if let Some(_) = self.many.first() {
+            return match self.top() {
+                Some(top) if top.1 == *state => Some(top.2),
+                _ => None,
+            };
+        }
+        match self.few.first() {
+            Some(first) if are_words(state, &first.1) => Some(first.2),
+            _ => None,
+        }
+    }
+
     // Which entry comes first, for this clause alone.
     #[inline]
     pub(crate) fn show_top(&self)
@@ -108,6 +125,18 @@ impl WideEntries {
         } else {
             self.few.pop();
         }
+    }
+}
+
+// Whether the state is these words.
+#[inline]
+fn are_words(state: &Packed, words: &Words<4>) -> bool
+    ensures { result ≡ nat_eq words.now state.now }
+{
+    match state.as_words::<4>() {
+        Some(own) => *words == own,
+        // It isn't: four words are less. But no clause here says so.
+        None => *state == Packed::from_words(words),
     }
 }
 
